@@ -1,0 +1,26 @@
+-- A `Refusal` is determined by the number and place that it means.
+use mathlib.Core.Path.{_≡_, refl, ap, sym, _∙_}
+use Rattle.refusal.specs.declared.Place.{Place}
+use Rattle.refusal.specs.declared.Place.the-variants.{Word, Byte, Row}
+use Rattle.refusal.specs.declared.Refusal.{Refusal}
+use Rattle.refusal.specs.Outcome.{Location, word, byte, row, Reason, reason}
+use Rattle.refusal.specs.Meaning.{locationOf, reasonOf}
+
+abbrev placeOf : Location → Place
+placeOf (word n) = Word n
+placeOf (byte n) = Byte n
+placeOf (row n) = Row n
+
+place-of : (p : Place) → placeOf (locationOf p) ≡ p
+place-of (Word n) = refl
+place-of (Byte n) = refl
+place-of (Row n) = refl
+
+abbrev refusalOf : Reason → Refusal
+refusalOf (reason n l) = record { place = placeOf l; number = n }
+
+refusal-of : (r : Refusal) → refusalOf (reasonOf r) ≡ r
+refusal-of r = rw (place-of (r .place))
+
+pub reason-injective : (r s : Refusal) → reasonOf r ≡ reasonOf s → r ≡ s
+reason-injective r s h = sym (refusal-of r) ∙ ap refusalOf h ∙ refusal-of s
