@@ -1,0 +1,109 @@
+-- When bytes are present and when they have room, as the calls decide it.
+use mathlib.Core.Path.{_≡_, refl, sym, ap, _∙_}
+use mathlib.Core.Bool.{Bool, true, false}
+use Prim.Native.Nat.{ℕ, _+_, _-_, _*_, _/_, _≤_, _<_}
+use native.Mathlib.Nat.{le-div-iff-mul-le, mul-comm, le-refl}
+use native.Mathlib.Omega.{arith}
+use lib.ListN.{length, take, drop}
+use lib.Dec.{leb}
+use borrow.Author.Tests.{le-leb, lt-leb, leb-true}
+use mathlib.Core.List.{List}
+use Rattle.refusal.specs.Outcome.{Outcome, accepted, refused, test, map, Fills, Reason, reason, byte}
+use Rattle.refusal.specs.Meaning.{reasonOf}
+use Rattle.refusal.specs.declared.Refusal.{Refusal}
+use Rattle.refusal.proofs.Outcome.{test-true, test-false, test-passed, fills-refused, fills-accepted}
+use Rattle.packed.specs.declared.Completion.{Completion}
+use Rattle.packed.specs.declared.Completion.the-variants.{Done, Refused}
+use Rattle.packed.specs.Packed.{present, room, unpackLittleEndian, unpackLittleEndianSeq, unpackAt, unpackSeqAt, put, putAt}
+use Rattle.packed.specs.Meaning.{completed}
+use Rattle.packed.proofs.Laws.{length-unpackSeq, unpackSeq-take}
+use Rattle.packed.proofs.Put.{put-whole}
+
+bool-iff : (x y : Bool) → (x ≡ true → y ≡ true) → (y ≡ true → x ≡ true) → x ≡ y
+bool-iff true true f g = refl
+bool-iff true false f g = sym (f refl)
+bool-iff false true f g = g refl
+bool-iff false false f g = refl
+
+-- two comparisons that say the same
+leb-iff : (a b c d : ℕ) → (a ≤ b → c ≤ d) → (c ≤ d → a ≤ b) → leb a b ≡ leb c d
+leb-iff a b c d f g = bool-iff (leb a b) (leb c d) (λ t. le-leb c d (f (leb-true a b t))) (λ t. le-leb a b (g (leb-true c d t)))
+
+-- a count compared with the numbers that have room says what the product would
+pub count-compared : (len index count width : ℕ) → 0 < width → index ≤ len → leb count ((len - index) / width) ≡ leb (index + width * count) len
+count-compared len index count width pos h =
+    leb-iff count ((len - index) / width) (index + width * count) len
+    (λ (l : count ≤ (len - index) / width). let p : count * width ≤ len - index = le-div-iff-mul-le pos .0 l in omega (arith, mul-comm count width))
+    (λ (l : index + width * count ≤ len). le-div-iff-mul-le pos .1 (omega (arith, mul-comm count width)))
+
+module _ (len index size : ℕ) where
+  pub present-index : len < index → present len index size ≡ refused (reason 7 (byte index))
+  unfolding present
+  present-index h = test-false _ _ (lt-leb index len h)
+
+  pub present-missing : index ≤ len → leb (index + size) len ≡ false → present len index size ≡ refused (reason 9 (byte index))
+  unfolding present
+  present-missing h l = test-true _ _ (le-leb index len h) ∙ test-false _ _ l
+
+  pub present-done : index ≤ len → leb (index + size) len ≡ true → present len index size ≡ accepted tt
+  unfolding present
+  present-done h l = test-true _ _ (le-leb index len h) ∙ test-true _ _ l
+
+  pub present-fits : accepted tt ≡ present len index size → index + size ≤ len
+  unfolding present
+  present-fits h =
+      let p : leb index len ≡ true = test-passed (leb index len) _ _ tt (sym h) in
+      leb-true (index + size) len (test-passed (leb (index + size) len) (reason 9 (byte index)) accepted tt (sym (test-true _ _ p) ∙ sym h))
+
+  pub room-missing : leb (index + size) len ≡ false → room len index size ≡ refused (reason 17 (byte len))
+  unfolding room
+  room-missing l = test-false _ _ l
+
+  pub room-done : leb (index + size) len ≡ true → room len index size ≡ accepted tt
+  unfolding room
+  room-done l = test-true _ _ l
+
+  pub room-fits : accepted tt ≡ room len index size → index + size ≤ len
+  unfolding room
+  room-fits h = leb-true (index + size) len (test-passed (leb (index + size) len) _ _ tt (sym h))
+
+-- what a completed or refused test comes to in the call above it
+pub done : {r : Completion} {o : Outcome Reason (Unit {0})} → r ≡ Done → completed r ≡ o → accepted tt ≡ o
+done p h = ap completed (sym p) ∙ h
+
+pub stopped : {r : Completion} {x : Refusal} {o : Outcome Reason (Unit {0})} → r ≡ Refused x → completed r ≡ o → refused (reasonOf x) ≡ o
+stopped p h = ap completed (sym p) ∙ h
+
+-- unpacking what is present, or refused
+module _ (w : ℕ) (s : List ℕ) (index : ℕ) where
+  bytes : (size : ℕ) → Outcome Reason (Unit {0}) → Outcome Reason (List ℕ)
+  bytes size o = map (λ _. take size (drop index s)) o
+
+  pub unpack-refused : {x : Reason} → refused x ≡ present (length s) index w → refused x ≡ unpackAt w s index
+  unfolding bytes
+  unpack-refused h = ap (λ (o : Outcome Reason (Unit {0})). map (unpackLittleEndian w) (bytes w o)) h
+
+  pub unpack-accepted : {n : ℕ} → accepted tt ≡ present (length s) index w → n ≡ unpackLittleEndian w (take w (drop index s)) → accepted n ≡ unpackAt w s index
+  unfolding bytes
+  unpack-accepted h e = ap accepted e ∙ ap (λ (o : Outcome Reason (Unit {0})). map (unpackLittleEndian w) (bytes w o)) h
+
+  module _ (numbers : List ℕ) where
+    pub unpackSeq-refused : {x : Reason} → refused x ≡ present (length s) index (w * length numbers) → Fills (unpackSeqAt w s index (length numbers)) (refused x) numbers numbers
+    unfolding bytes
+    unpackSeq-refused h = fills-refused (λ bs. unpackLittleEndianSeq w bs (length numbers)) numbers (ap (bytes (w * length numbers)) h)
+
+    -- a loop has unpacked all i numbers
+    pub unpackSeq-accepted : {exit : List ℕ} (i : ℕ) → i ≡ length numbers → exit ≡ put numbers 0 (unpackLittleEndianSeq w (drop index s) i) → accepted tt ≡ present (length s) index (w * length numbers) → Fills (unpackSeqAt w s index (length numbers)) (accepted tt) numbers exit
+    unfolding bytes
+    unpackSeq-accepted i e f h =
+        let l : length (unpackLittleEndianSeq w (drop index s) i) ≡ length numbers = length-unpackSeq w (drop index s) i ∙ e in
+        fills-accepted (λ bs. unpackLittleEndianSeq w bs (length numbers)) numbers (ap (bytes (w * length numbers)) h)
+        (f ∙ put-whole numbers (unpackLittleEndianSeq w (drop index s) i) l ∙ ap (unpackLittleEndianSeq w (drop index s)) e ∙ sym (unpackSeq-take w (length numbers) (w * length numbers) (drop index s) (le-refl (w * length numbers))))
+
+-- putting bytes that have room, or refused
+module _ (out : List ℕ) (index : ℕ) (bs : List ℕ) (size : ℕ) (l : length bs ≡ size) where
+  pub put-refused : {x : Reason} → refused x ≡ room (length out) index size → Fills (putAt out index bs) (refused x) out out
+  put-refused h = rw l (fills-refused (λ _. put out index bs) out h)
+
+  pub put-accepted : {exit : List ℕ} → accepted tt ≡ room (length out) index size → exit ≡ put out index bs → Fills (putAt out index bs) (accepted tt) out exit
+  put-accepted h e = rw l (fills-accepted (λ _. put out index bs) out h e)

@@ -1,0 +1,5 @@
+pub mod Laws
+pub mod Put
+pub mod Calls
+pub mod Meaning
+pub mod Source
