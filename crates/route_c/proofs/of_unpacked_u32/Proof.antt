@@ -1,0 +1,41 @@
+use mathlib.Core.Path.{ap, sym, _∙_}
+use Rattle.refusal.specs.Outcome.{map}
+use Rattle.packed.specs.declared.UnpackedU32.{UnpackedU32}
+use Rattle.packed.specs.Meaning.{unpackedU32}
+use Rattle.route_c.specs.Answer.{answerOf, one}
+use borrow.Author.Needs.{needs}
+use Rattle.route_c.proofs.of_unpacked_u32.Statement.{statement}
+use Rattle.route_c.proofs.of_unpacked_u32.Tie as tie
+
+enum-known-answer : tie.Need-enum-known-answer
+enum-known-answer c = search needs
+
+cast-accept : tie.Need-cast-accept
+cast-accept c = search needs
+
+accept-requires : tie.Need-accept-requires
+accept-requires c κs = search needs
+
+enum-known-answer-2 : tie.Need-enum-known-answer-2
+enum-known-answer-2 c = search needs
+
+refuse-requires : tie.Need-refuse-requires
+refuse-requires c κs = search needs
+
+returns : tie.Need-returns
+returns c = c .accept .ensures ∙ ap (λ (u : UnpackedU32). answerOf (map one (unpackedU32 u))) (sym (c .before .before .answer .given .1))
+
+returns-2 : tie.Need-returns-2
+returns-2 c = c .refuse .ensures ∙ ap (λ (u : UnpackedU32). answerOf (map one (unpackedU32 u))) (sym (c .before .before .answer2 .given .1))
+
+pub of-unpacked-u32-spec : {M : Type 1} → statement M
+of-unpacked-u32-spec =
+    tie.close
+    (tie.spec
+    enum-known-answer
+    cast-accept
+    accept-requires
+    enum-known-answer-2
+    refuse-requires
+    returns
+    returns-2)

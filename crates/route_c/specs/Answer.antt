@@ -1,0 +1,37 @@
+-- The words of a C answer: what an outcome means at the C interface.
+use mathlib.Core.Path.{_≡_}
+use mathlib.Core.List.{List}
+use Prim.Native.Nat.{ℕ}
+use Rattle.refusal.specs.Outcome.{Outcome, accepted, refused, map, contents, Location, word, byte, row, Reason, reason}
+use Rattle.route_c.specs.declared.RouteAnswer.{RouteAnswer}
+
+-- the values of an accepted call; 0 where it gives fewer than two
+pub data Values : Type 0 where
+  values : ℕ → ℕ → Values
+
+-- a location's kind: 1 grammar word, 2 byte, 3 row
+abbrev pub kindOf : Location → ℕ
+kindOf (word n) = 1
+kindOf (byte n) = 2
+kindOf (row n) = 3
+
+abbrev pub numberOf : Location → ℕ
+numberOf (word n) = n
+numberOf (byte n) = n
+numberOf (row n) = n
+
+-- an accepted answer has number 0, kind of place 0 and place 0; a refusal has no values
+abbrev pub answerOf : Outcome Reason Values → RouteAnswer
+answerOf (accepted (values a b)) = record { number = 0; «place_kind» = 0; place = 0; first = a; second = b }
+answerOf (refused (reason n l)) = record { number = n; «place_kind» = kindOf l; place = numberOf l; first = 0; second = 0 }
+
+abbrev pub none : {A : Type 0} → A → Values
+none a = values 0 0
+
+abbrev pub one : ℕ → Values
+one n = values n 0
+
+-- a call over a lent buffer answers and fills as the outcome o says
+pub record Answers (o : Outcome Reason (List ℕ)) (answer : RouteAnswer) (entry exit : List ℕ) : Type 0 where
+  pub answers : answer ≡ answerOf (map none o)
+  pub buffer : exit ≡ contents o entry

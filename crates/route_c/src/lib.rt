@@ -1,0 +1,150 @@
+// The C interface: each call of the library under a C name, with one struct of words for every answer.
+ghost use mathlib.Core.Path.{_≡_};
+ghost use lib.ListN.{length};
+ghost use Rattle.refusal.specs.Outcome.{refused, map};
+ghost use Rattle.refusal.specs.Meaning.{reasonOf};
+ghost use Rattle.packed.specs.Packed.{unpackAt, unpackSeqAt, putAt, packLittleEndian, packLittleEndianSeq};
+ghost use Rattle.packed.specs.Meaning.{unpackedU32, unpackedU64, completed};
+ghost use Rattle.route_c.specs.Answer.{answerOf, none, one, Answers};
+use packed::Completion;
+use packed::UnpackedU32;
+use packed::UnpackedU64;
+use refusal::Place;
+use refusal::Refusal;
+
+// The header's `route_answer`.
+#[repr(C)]
+pub struct RouteAnswer {
+    pub number: u64,
+    pub place_kind: u64,
+    pub place: u64,
+    pub first: u64,
+    pub second: u64,
+}
+
+fn accept(first: u64) -> RouteAnswer
+    ensures { λ r. ⌜ r ≡ record { number = 0; «place_kind» = 0; place = 0; first = first; second = 0 } ⌝ }
+{
+    RouteAnswer {
+        number: 0,
+        place_kind: 0,
+        place: 0,
+        first: first,
+        second: 0,
+    }
+}
+
+fn refuse(refusal: Refusal) -> RouteAnswer
+    ensures { λ r. ⌜ r ≡ answerOf (refused (reasonOf refusal)) ⌝ }
+{
+    let number = refusal.number;
+    let place = refusal.place;
+    match place {
+        Place::Word(at) => refuse_at(number, 1, at),
+        Place::Byte(at) => refuse_at(number, 2, at),
+        Place::Row(at) => refuse_at(number, 3, at),
+    }
+}
+
+fn refuse_at(number: u64, place_kind: u64, place: u64) -> RouteAnswer
+    ensures { λ r. ⌜ r ≡ record { number = number; «place_kind» = «place_kind»; place = place; first = 0; second = 0 } ⌝ }
+{
+    RouteAnswer {
+        number: number,
+        place_kind: place_kind,
+        place: place,
+        first: 0,
+        second: 0,
+    }
+}
+
+fn of_unpacked_u32(answer: UnpackedU32) -> RouteAnswer
+    ensures { λ r. ⌜ r ≡ answerOf (map one (unpackedU32 answer)) ⌝ }
+{
+    match answer {
+        UnpackedU32::Number(n) => accept(n as u64),
+        UnpackedU32::Refused(r) => refuse(r),
+    }
+}
+
+fn of_unpacked_u64(answer: UnpackedU64) -> RouteAnswer
+    ensures { λ r. ⌜ r ≡ answerOf (map one (unpackedU64 answer)) ⌝ }
+{
+    match answer {
+        UnpackedU64::Number(n) => accept(n),
+        UnpackedU64::Refused(r) => refuse(r),
+    }
+}
+
+fn of_completion(answer: Completion) -> RouteAnswer
+    ensures { λ r. ⌜ r ≡ answerOf (map none (completed answer)) ⌝ }
+{
+    match answer {
+        Completion::Done => accept(0),
+        Completion::Refused(r) => refuse(r),
+    }
+}
+
+#[no_mangle]
+pub extern "C" fn route_unpack_u32(packed: &[u8], index: usize) -> RouteAnswer
+    ensures { λ r. ⌜ r ≡ answerOf (map one (unpackAt 4 (now (packed .entry)) index)) ⌝ }
+{
+    of_unpacked_u32(packed::unpack_little_endian_uint32(packed, index))
+}
+
+#[no_mangle]
+pub extern "C" fn route_unpack_u64(packed: &[u8], index: usize) -> RouteAnswer
+    ensures { λ r. ⌜ r ≡ answerOf (map one (unpackAt 8 (now (packed .entry)) index)) ⌝ }
+{
+    of_unpacked_u64(packed::unpack_little_endian_uint64(packed, index))
+}
+
+#[no_mangle]
+pub extern "C" fn route_pack_u32(n: u32, out: &mut [u8], index: usize) -> RouteAnswer
+    ensures { λ r. ⌜ Answers (putAt (now (out .entry)) index (packLittleEndian 4 n)) r (now (out .entry)) (now (out .exit)) ⌝ }
+{
+    of_completion(packed::pack_little_endian_uint32_into_array(n, out, index))
+}
+
+#[no_mangle]
+pub extern "C" fn route_pack_u64(n: u64, out: &mut [u8], index: usize) -> RouteAnswer
+    ensures { λ r. ⌜ Answers (putAt (now (out .entry)) index (packLittleEndian 8 n)) r (now (out .entry)) (now (out .exit)) ⌝ }
+{
+    of_completion(packed::pack_little_endian_uint64_into_array(n, out, index))
+}
+
+#[no_mangle]
+pub extern "C" fn route_unpack_u32_seq(
+    packed: &[u8],
+    index: usize,
+    numbers: &mut [u32],
+) -> RouteAnswer
+    ensures { λ r. ⌜ Answers (unpackSeqAt 4 (now (packed .entry)) index (length (now (numbers .entry)))) r (now (numbers .entry)) (now (numbers .exit)) ⌝ }
+{
+    of_completion(packed::unpack_little_endian_uint32_seq(packed, index, numbers))
+}
+
+#[no_mangle]
+pub extern "C" fn route_unpack_u64_seq(
+    packed: &[u8],
+    index: usize,
+    numbers: &mut [u64],
+) -> RouteAnswer
+    ensures { λ r. ⌜ Answers (unpackSeqAt 8 (now (packed .entry)) index (length (now (numbers .entry)))) r (now (numbers .entry)) (now (numbers .exit)) ⌝ }
+{
+    of_completion(packed::unpack_little_endian_uint64_seq(packed, index, numbers))
+}
+
+#[no_mangle]
+pub extern "C" fn route_pack_u32_seq(numbers: &[u32], out: &mut [u8], index: usize) -> RouteAnswer
+    ensures { λ r. ⌜ Answers (putAt (now (out .entry)) index (packLittleEndianSeq 4 (now (numbers .entry)))) r (now (out .entry)) (now (out .exit)) ⌝ }
+{
+    of_completion(packed::pack_little_endian_uint32_seq_into_array(numbers, out, index))
+}
+
+#[no_mangle]
+pub extern "C" fn route_pack_u64_seq(numbers: &[u64], out: &mut [u8], index: usize) -> RouteAnswer
+    ensures { λ r. ⌜ Answers (putAt (now (out .entry)) index (packLittleEndianSeq 8 (now (numbers .entry)))) r (now (out .entry)) (now (out .exit)) ⌝ }
+{
+    of_completion(packed::pack_little_endian_uint64_seq_into_array(numbers, out, index))
+}
