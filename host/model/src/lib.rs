@@ -1,0 +1,12 @@
+//! A model of the route-record library, written from the definitions of its Dafny source and from
+//! the table of refusals. It shares nothing with the proved code. A function here only reads the
+//! buffers it is given, and gives back what they hold after the call.
+
+#![forbid(unsafe_code)]
+#![deny(missing_docs)]
+
+mod packed;
+mod refusal;
+
+pub use packed::{pack, pack_seq, unpack, unpack_seq};
+pub use refusal::{Place, Refusal};

@@ -1,0 +1,96 @@
+//! The C interface (`host/c/route_record.h`) behind wrappers that take slices. All `unsafe` of this
+//! crate is here.
+
+/// `route_answer` of the header.
+#[repr(C)]
+#[derive(Debug)]
+pub struct Answer {
+    pub number: u64,
+    pub place_kind: u64,
+    pub place: u64,
+    pub first: u64,
+    pub second: u64,
+}
+
+extern "C" {
+    fn route_unpack_u32(packed: *const u8, packed_len: usize, index: usize) -> Answer;
+    fn route_unpack_u64(packed: *const u8, packed_len: usize, index: usize) -> Answer;
+    fn route_pack_u32(n: u32, out: *mut u8, out_len: usize, index: usize) -> Answer;
+    fn route_pack_u64(n: u64, out: *mut u8, out_len: usize, index: usize) -> Answer;
+    fn route_unpack_u32_seq(
+        packed: *const u8,
+        packed_len: usize,
+        index: usize,
+        numbers: *mut u32,
+        numbers_len: usize,
+    ) -> Answer;
+    fn route_unpack_u64_seq(
+        packed: *const u8,
+        packed_len: usize,
+        index: usize,
+        numbers: *mut u64,
+        numbers_len: usize,
+    ) -> Answer;
+    fn route_pack_u32_seq(
+        numbers: *const u32,
+        numbers_len: usize,
+        out: *mut u8,
+        out_len: usize,
+        index: usize,
+    ) -> Answer;
+    fn route_pack_u64_seq(
+        numbers: *const u64,
+        numbers_len: usize,
+        out: *mut u8,
+        out_len: usize,
+        index: usize,
+    ) -> Answer;
+}
+
+pub fn unpack_u32(packed: &[u8], index: usize) -> Answer {
+    // SAFETY: pointer and length are those of one slice, and the call only reads it.
+    unsafe { route_unpack_u32(packed.as_ptr(), packed.len(), index) }
+}
+
+pub fn unpack_u64(packed: &[u8], index: usize) -> Answer {
+    // SAFETY: pointer and length are those of one slice, and the call only reads it.
+    unsafe { route_unpack_u64(packed.as_ptr(), packed.len(), index) }
+}
+
+pub fn pack_u32(n: u32, out: &mut [u8], index: usize) -> Answer {
+    // SAFETY: pointer and length are those of one slice, which `&mut` lends to this call alone.
+    unsafe { route_pack_u32(n, out.as_mut_ptr(), out.len(), index) }
+}
+
+pub fn pack_u64(n: u64, out: &mut [u8], index: usize) -> Answer {
+    // SAFETY: pointer and length are those of one slice, which `&mut` lends to this call alone.
+    unsafe { route_pack_u64(n, out.as_mut_ptr(), out.len(), index) }
+}
+
+pub fn unpack_u32_seq(packed: &[u8], index: usize, numbers: &mut [u32]) -> Answer {
+    let (into, count) = (numbers.as_mut_ptr(), numbers.len());
+    // SAFETY: each pointer and length are those of one slice; `packed` is only read, and `&mut`
+    // keeps `numbers`, aligned for u32, apart from it.
+    unsafe { route_unpack_u32_seq(packed.as_ptr(), packed.len(), index, into, count) }
+}
+
+pub fn unpack_u64_seq(packed: &[u8], index: usize, numbers: &mut [u64]) -> Answer {
+    let (into, count) = (numbers.as_mut_ptr(), numbers.len());
+    // SAFETY: each pointer and length are those of one slice; `packed` is only read, and `&mut`
+    // keeps `numbers`, aligned for u64, apart from it.
+    unsafe { route_unpack_u64_seq(packed.as_ptr(), packed.len(), index, into, count) }
+}
+
+pub fn pack_u32_seq(numbers: &[u32], out: &mut [u8], index: usize) -> Answer {
+    let (into, length) = (out.as_mut_ptr(), out.len());
+    // SAFETY: each pointer and length are those of one slice; `numbers`, aligned for u32, is only
+    // read, and `&mut` keeps `out` apart from it.
+    unsafe { route_pack_u32_seq(numbers.as_ptr(), numbers.len(), into, length, index) }
+}
+
+pub fn pack_u64_seq(numbers: &[u64], out: &mut [u8], index: usize) -> Answer {
+    let (into, length) = (out.as_mut_ptr(), out.len());
+    // SAFETY: each pointer and length are those of one slice; `numbers`, aligned for u64, is only
+    // read, and `&mut` keeps `out` apart from it.
+    unsafe { route_pack_u64_seq(numbers.as_ptr(), numbers.len(), into, length, index) }
+}
