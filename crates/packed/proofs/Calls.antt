@@ -9,13 +9,12 @@ use lib.Dec.{leb}
 use borrow.Author.Tests.{le-leb, lt-leb, leb-true}
 use mathlib.Core.List.{List}
 use Rattle.refusal.specs.Outcome.{Outcome, accepted, refused, test, map, Fills, Reason, reason, byte}
-use Rattle.refusal.specs.Meaning.{reasonOf}
+use Rattle.refusal.specs.Meaning.{reasonOf, outcomeOf}
+use Rattle.refusal.specs.declared.Answer.{Answer}
+use Rattle.refusal.specs.declared.Answer.the-variants.{Accepted, Refused}
 use Rattle.refusal.specs.declared.Refusal.{Refusal}
 use Rattle.refusal.proofs.Outcome.{test-true, test-false, test-passed, fills-refused, fills-accepted}
-use Rattle.packed.specs.declared.Completion.{Completion}
-use Rattle.packed.specs.declared.Completion.the-variants.{Done, Refused}
 use Rattle.packed.specs.Packed.{present, room, unpackLittleEndian, unpackLittleEndianSeq, unpackAt, unpackSeqAt, put, putAt}
-use Rattle.packed.specs.Meaning.{completed}
 use Rattle.packed.proofs.Laws.{length-unpackSeq, unpackSeq-take}
 use Rattle.packed.proofs.Put.{put-whole}
 
@@ -67,12 +66,12 @@ module _ (len index size : ℕ) where
   unfolding room
   room-fits h = leb-true (index + size) len (test-passed (leb (index + size) len) _ _ tt (sym h))
 
--- what a completed or refused test comes to in the call above it
-pub done : {r : Completion} {o : Outcome Reason (Unit {0})} → r ≡ Done → completed r ≡ o → accepted tt ≡ o
-done p h = ap completed (sym p) ∙ h
+-- what an accepted or refused test comes to in the call above it
+pub done : {r : Answer} {o : Outcome Reason (Unit {0})} → r ≡ Accepted → outcomeOf r ≡ o → accepted tt ≡ o
+done p h = ap outcomeOf (sym p) ∙ h
 
-pub stopped : {r : Completion} {x : Refusal} {o : Outcome Reason (Unit {0})} → r ≡ Refused x → completed r ≡ o → refused (reasonOf x) ≡ o
-stopped p h = ap completed (sym p) ∙ h
+pub stopped : {r : Answer} {x : Refusal} {o : Outcome Reason (Unit {0})} → r ≡ Refused x → outcomeOf r ≡ o → refused (reasonOf x) ≡ o
+stopped p h = ap outcomeOf (sym p) ∙ h
 
 -- unpacking what is present, or refused
 module _ (w : ℕ) (s : List ℕ) (index : ℕ) where

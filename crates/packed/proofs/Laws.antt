@@ -11,15 +11,7 @@ use lib.Dec.{lit<}
 use lib.Pow.{pow-pos, pow-add, shl-exact}
 use lib.Arith.{mod-mul}
 use lib.Seq.{getD-drop, getD-take, take-all, drop-drop, take-take, take-add, take-at, drop-at, length-take-le, take-append-le, drop-append-le}
-use Rattle.packed.specs.Packed.{unpackLittleEndian, unpackLittleEndianSeq, packLittleEndian, packLittleEndianSeq}
-
--- each element is a byte
-abbrev pub Bytes : List ℕ → Type 0
-Bytes bs = (j : ℕ) → getD bs j 0 < 256
-
--- each element is below a bound
-abbrev pub Below : ℕ → List ℕ → Type 0
-Below b ns = (j : ℕ) → j < length ns → getD ns j 0 < b
+use Rattle.packed.specs.Packed.{Bytes, Below, unpackLittleEndian, unpackLittleEndianSeq, packLittleEndian, packLittleEndianSeq}
 
 pub bytes-drop : (n : ℕ) (bs : List ℕ) → Bytes bs → Bytes (drop n bs)
 bytes-drop n bs h j = rw getD-drop (h (n + j))

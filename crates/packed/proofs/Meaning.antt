@@ -1,5 +1,5 @@
 -- An answer is determined by what it means, so a contract through the meaning fixes the answer.
-use mathlib.Core.Path.{_≡_, refl, ap}
+use mathlib.Core.Path.{_≡_, ap}
 use Prim.Native.Nat.{ℕ}
 use native.Mathlib.Omega.{arith}
 use Rattle.refusal.proofs.Meaning.{reason-injective}
@@ -7,9 +7,7 @@ use Rattle.packed.specs.declared.UnpackedU32.{UnpackedU32}
 use Rattle.packed.specs.declared.UnpackedU32.the-variants as U32
 use Rattle.packed.specs.declared.UnpackedU64.{UnpackedU64}
 use Rattle.packed.specs.declared.UnpackedU64.the-variants as U64
-use Rattle.packed.specs.declared.Completion.{Completion}
-use Rattle.packed.specs.declared.Completion.the-variants as C
-use Rattle.packed.specs.Meaning.{unpackedU32, unpackedU64, completed}
+use Rattle.packed.specs.Meaning.{unpackedU32, unpackedU64}
 
 pub unpackedU32-injective : (a b : UnpackedU32) → unpackedU32 a ≡ unpackedU32 b → a ≡ b
 unpackedU32-injective (U32.Number m) (U32.Number n) h = cc
@@ -22,9 +20,3 @@ unpackedU64-injective (U64.Number m) (U64.Number n) h = cc
 unpackedU64-injective (U64.Number m) (U64.Refused s) h = let z : _≡_ {A = ℕ} 0 1 = cc in absurd (omega arith)
 unpackedU64-injective (U64.Refused r) (U64.Number n) h = let z : _≡_ {A = ℕ} 0 1 = cc in absurd (omega arith)
 unpackedU64-injective (U64.Refused r) (U64.Refused s) h = ap U64.Refused (reason-injective r s (cc))
-
-pub completed-injective : (a b : Completion) → completed a ≡ completed b → a ≡ b
-completed-injective C.Done C.Done h = refl
-completed-injective C.Done (C.Refused s) h = let z : _≡_ {A = ℕ} 0 1 = cc in absurd (omega arith)
-completed-injective (C.Refused r) C.Done h = let z : _≡_ {A = ℕ} 0 1 = cc in absurd (omega arith)
-completed-injective (C.Refused r) (C.Refused s) h = ap C.Refused (reason-injective r s (cc))

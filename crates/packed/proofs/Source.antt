@@ -5,8 +5,8 @@ use Prim.Native.Nat.{ℕ, suc, _+_, _-_, _*_, _^_, _<_, _≤_}
 use native.Mathlib.Omega.{arith}
 use lib.ListN.{length, getD, take, drop, length-append}
 use lib.Seq.{getD-take, getD-drop, take-at, drop-at, length-take-le}
-use Rattle.packed.specs.Packed.{unpackLittleEndian, unpackLittleEndianSeq, packLittleEndian, packLittleEndianSeq, put}
-use Rattle.packed.proofs.Laws.{Below, length-pack, unpack-packed, length-packSeq, length-unpackSeq, getD-unpackSeq, unpackSeq-packSeq}
+use Rattle.packed.specs.Packed.{Below, unpackLittleEndian, unpackLittleEndianSeq, packLittleEndian, packLittleEndianSeq, put}
+use Rattle.packed.proofs.Laws.{length-pack, unpack-packed, length-packSeq, length-unpackSeq, getD-unpackSeq, unpackSeq-packSeq}
 
 -- unpack_LittleEndian_Uint32
 pub unpack-uint32 : (s : List ℕ) → unpackLittleEndian 4 s ≡ getD s 0 0 + getD s 1 0 * 0x1_00 + getD s 2 0 * 0x1_00_00 + getD s 3 0 * 0x1_00_00_00

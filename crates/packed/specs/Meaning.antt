@@ -6,8 +6,6 @@ use Rattle.packed.specs.declared.UnpackedU32.{UnpackedU32}
 use Rattle.packed.specs.declared.UnpackedU32.the-variants as U32
 use Rattle.packed.specs.declared.UnpackedU64.{UnpackedU64}
 use Rattle.packed.specs.declared.UnpackedU64.the-variants as U64
-use Rattle.packed.specs.declared.Completion.{Completion}
-use Rattle.packed.specs.declared.Completion.the-variants as C
 
 abbrev pub unpackedU32 : UnpackedU32 → Outcome Reason ℕ
 unpackedU32 (U32.Number n) = accepted n
@@ -16,7 +14,3 @@ unpackedU32 (U32.Refused r) = refused (reasonOf r)
 abbrev pub unpackedU64 : UnpackedU64 → Outcome Reason ℕ
 unpackedU64 (U64.Number n) = accepted n
 unpackedU64 (U64.Refused r) = refused (reasonOf r)
-
-abbrev pub completed : Completion → Outcome Reason (Unit {0})
-completed C.Done = accepted tt
-completed (C.Refused r) = refused (reasonOf r)

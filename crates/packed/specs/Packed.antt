@@ -1,9 +1,17 @@
 -- Numbers as bytes, least byte first, at any width: PackedInts' definitions (PI), and what the calls over them answer.
-use Prim.Native.Nat.{ℕ, zero, suc, _+_, _*_, _/_, _%_, _^_}
+use Prim.Native.Nat.{ℕ, zero, suc, _+_, _*_, _/_, _%_, _^_, _<_}
 use mathlib.Core.List.{List, [], _∷_, _++_}
 use lib.ListN.{length, getD, take, drop}
 use lib.Dec.{leb}
 use Rattle.refusal.specs.Outcome.{Outcome, accepted, test, map, Reason, reason, byte}
+
+-- each element is a byte: what Dafny's `byte` says
+abbrev pub Bytes : List ℕ → Type 0
+Bytes bs = (j : ℕ) → getD bs j 0 < 256
+
+-- each element is below a bound: what Dafny's `uint32` and `uint64` say at 2^32 and 2^64
+abbrev pub Below : ℕ → List ℕ → Type 0
+Below b ns = (j : ℕ) → j < length ns → getD ns j 0 < b
 
 -- the sum of byte i times 256 to the power i over w bytes, in PI's order.
 -- At w = 4 PI's `unpack_LittleEndian_Uint32`, at w = 8 its `unpack_LittleEndian_Uint64`

@@ -4,8 +4,10 @@ ghost use Prim.Native.Nat.{_+_, _*_, _<_, _≤_};
 ghost use lib.ListN.{length, take, drop};
 ghost use lib.Dec.{leb};
 ghost use Rattle.refusal.specs.Outcome.{Fills};
+ghost use Rattle.refusal.specs.Meaning.{outcomeOf};
 ghost use Rattle.packed.specs.Packed.{unpackLittleEndian, packLittleEndian, packLittleEndianSeq, present as presentOf, room as roomOf, unpackAt, unpackSeqAt, put, putAt};
-ghost use Rattle.packed.specs.Meaning.{unpackedU32, unpackedU64, completed};
+ghost use Rattle.packed.specs.Meaning.{unpackedU32, unpackedU64};
+use refusal::Answer;
 use refusal::Refusal;
 
 pub enum UnpackedU32 {
@@ -15,12 +17,6 @@ pub enum UnpackedU32 {
 
 pub enum UnpackedU64 {
     Number(u64),
-    Refused(Refusal),
-}
-
-// The answer of a call that fills a lent slice.
-pub enum Completion {
-    Done,
     Refused(Refusal),
 }
 
@@ -35,28 +31,28 @@ fn within(len: usize, index: usize, count: usize, width: usize) -> bool
     count <= (len - index) / width
 }
 
-fn present(len: usize, index: usize, count: usize, width: usize) -> Completion
+fn present(len: usize, index: usize, count: usize, width: usize) -> Answer
     requires { ⌜ 0 < width ⌝ }
-    ensures { λ r. ⌜ completed r ≡ presentOf len index (width * count) ⌝ }
+    ensures { λ r. ⌜ outcomeOf r ≡ presentOf len index (width * count) ⌝ }
 {
     if len < index {
-        return Completion::Refused(refusal::at_byte(refusal::INDEX_PAST_END, index));
+        return Answer::Refused(refusal::at_byte(refusal::INDEX_PAST_END, index));
     }
     if within(len, index, count, width) {
-        Completion::Done
+        Answer::Accepted
     } else {
-        Completion::Refused(refusal::at_byte(refusal::BYTES_MISSING, index))
+        Answer::Refused(refusal::at_byte(refusal::BYTES_MISSING, index))
     }
 }
 
-fn room(len: usize, index: usize, count: usize, width: usize) -> Completion
+fn room(len: usize, index: usize, count: usize, width: usize) -> Answer
     requires { ⌜ 0 < width ⌝ }
-    ensures { λ r. ⌜ completed r ≡ roomOf len index (width * count) ⌝ }
+    ensures { λ r. ⌜ outcomeOf r ≡ roomOf len index (width * count) ⌝ }
 {
     if within(len, index, count, width) {
-        Completion::Done
+        Answer::Accepted
     } else {
-        Completion::Refused(refusal::at_byte(refusal::OUTPUT_TOO_SHORT, len))
+        Answer::Refused(refusal::at_byte(refusal::OUTPUT_TOO_SHORT, len))
     }
 }
 
@@ -92,8 +88,8 @@ pub fn unpack_little_endian_uint32(packed: &[u8], index: usize) -> UnpackedU32
     ensures { λ r. ⌜ unpackedU32 r ≡ unpackAt 4 (now (packed .entry)) index ⌝ }
 {
     match present(packed.len(), index, 1, 4) {
-        Completion::Refused(r) => UnpackedU32::Refused(r),
-        Completion::Done => UnpackedU32::Number(unpack(packed, index, 4) as u32),
+        Answer::Refused(r) => UnpackedU32::Refused(r),
+        Answer::Accepted => UnpackedU32::Number(unpack(packed, index, 4) as u32),
     }
 }
 
@@ -101,72 +97,64 @@ pub fn unpack_little_endian_uint64(packed: &[u8], index: usize) -> UnpackedU64
     ensures { λ r. ⌜ unpackedU64 r ≡ unpackAt 8 (now (packed .entry)) index ⌝ }
 {
     match present(packed.len(), index, 1, 8) {
-        Completion::Refused(r) => UnpackedU64::Refused(r),
-        Completion::Done => UnpackedU64::Number(unpack(packed, index, 8)),
+        Answer::Refused(r) => UnpackedU64::Refused(r),
+        Answer::Accepted => UnpackedU64::Number(unpack(packed, index, 8)),
     }
 }
 
-pub fn pack_little_endian_uint32_into_array(n: u32, out: &mut [u8], index: usize) -> Completion
-    ensures { λ r. ⌜ Fills (putAt (now (out .entry)) index (packLittleEndian 4 n)) (completed r) (now (out .entry)) (now (out .exit)) ⌝ }
+pub fn pack_little_endian_uint32_into_array(n: u32, out: &mut [u8], index: usize) -> Answer
+    ensures { λ r. ⌜ Fills (putAt (now (out .entry)) index (packLittleEndian 4 n)) (outcomeOf r) (now (out .entry)) (now (out .exit)) ⌝ }
 {
     match room(out.len(), index, 1, 4) {
-        Completion::Refused(r) => Completion::Refused(r),
-        Completion::Done => {
+        Answer::Refused(r) => Answer::Refused(r),
+        Answer::Accepted => {
             pack(n as u64, out, index, 4);
-            Completion::Done
+            Answer::Accepted
         }
     }
 }
 
-pub fn pack_little_endian_uint64_into_array(n: u64, out: &mut [u8], index: usize) -> Completion
-    ensures { λ r. ⌜ Fills (putAt (now (out .entry)) index (packLittleEndian 8 n)) (completed r) (now (out .entry)) (now (out .exit)) ⌝ }
+pub fn pack_little_endian_uint64_into_array(n: u64, out: &mut [u8], index: usize) -> Answer
+    ensures { λ r. ⌜ Fills (putAt (now (out .entry)) index (packLittleEndian 8 n)) (outcomeOf r) (now (out .entry)) (now (out .exit)) ⌝ }
 {
     match room(out.len(), index, 1, 8) {
-        Completion::Refused(r) => Completion::Refused(r),
-        Completion::Done => {
+        Answer::Refused(r) => Answer::Refused(r),
+        Answer::Accepted => {
             pack(n, out, index, 8);
-            Completion::Done
+            Answer::Accepted
         }
     }
 }
 
 // As many numbers as the lent slice holds.
-pub fn unpack_little_endian_uint32_seq(
-    packed: &[u8],
-    index: usize,
-    numbers: &mut [u32],
-) -> Completion
-    ensures { λ r. ⌜ Fills (unpackSeqAt 4 (now (packed .entry)) index (length (now (numbers .entry)))) (completed r) (now (numbers .entry)) (now (numbers .exit)) ⌝ }
+pub fn unpack_little_endian_uint32_seq(packed: &[u8], index: usize, numbers: &mut [u32]) -> Answer
+    ensures { λ r. ⌜ Fills (unpackSeqAt 4 (now (packed .entry)) index (length (now (numbers .entry)))) (outcomeOf r) (now (numbers .entry)) (now (numbers .exit)) ⌝ }
 {
     match present(packed.len(), index, numbers.len(), 4) {
-        Completion::Refused(r) => Completion::Refused(r),
-        Completion::Done => {
+        Answer::Refused(r) => Answer::Refused(r),
+        Answer::Accepted => {
             let mut i: usize = 0;
             while i < numbers.len() {
                 numbers[i] = unpack(packed, index + 4 * i, 4) as u32;
                 i += 1;
             }
-            Completion::Done
+            Answer::Accepted
         }
     }
 }
 
-pub fn unpack_little_endian_uint64_seq(
-    packed: &[u8],
-    index: usize,
-    numbers: &mut [u64],
-) -> Completion
-    ensures { λ r. ⌜ Fills (unpackSeqAt 8 (now (packed .entry)) index (length (now (numbers .entry)))) (completed r) (now (numbers .entry)) (now (numbers .exit)) ⌝ }
+pub fn unpack_little_endian_uint64_seq(packed: &[u8], index: usize, numbers: &mut [u64]) -> Answer
+    ensures { λ r. ⌜ Fills (unpackSeqAt 8 (now (packed .entry)) index (length (now (numbers .entry)))) (outcomeOf r) (now (numbers .entry)) (now (numbers .exit)) ⌝ }
 {
     match present(packed.len(), index, numbers.len(), 8) {
-        Completion::Refused(r) => Completion::Refused(r),
-        Completion::Done => {
+        Answer::Refused(r) => Answer::Refused(r),
+        Answer::Accepted => {
             let mut i: usize = 0;
             while i < numbers.len() {
                 numbers[i] = unpack(packed, index + 8 * i, 8);
                 i += 1;
             }
-            Completion::Done
+            Answer::Accepted
         }
     }
 }
@@ -175,18 +163,18 @@ pub fn pack_little_endian_uint32_seq_into_array(
     numbers: &[u32],
     out: &mut [u8],
     index: usize,
-) -> Completion
-    ensures { λ r. ⌜ Fills (putAt (now (out .entry)) index (packLittleEndianSeq 4 (now (numbers .entry)))) (completed r) (now (out .entry)) (now (out .exit)) ⌝ }
+) -> Answer
+    ensures { λ r. ⌜ Fills (putAt (now (out .entry)) index (packLittleEndianSeq 4 (now (numbers .entry)))) (outcomeOf r) (now (out .entry)) (now (out .exit)) ⌝ }
 {
     match room(out.len(), index, numbers.len(), 4) {
-        Completion::Refused(r) => Completion::Refused(r),
-        Completion::Done => {
+        Answer::Refused(r) => Answer::Refused(r),
+        Answer::Accepted => {
             let mut i: usize = 0;
             while i < numbers.len() {
                 pack(numbers[i] as u64, out, index + 4 * i, 4);
                 i += 1;
             }
-            Completion::Done
+            Answer::Accepted
         }
     }
 }
@@ -195,35 +183,35 @@ pub fn pack_little_endian_uint64_seq_into_array(
     numbers: &[u64],
     out: &mut [u8],
     index: usize,
-) -> Completion
-    ensures { λ r. ⌜ Fills (putAt (now (out .entry)) index (packLittleEndianSeq 8 (now (numbers .entry)))) (completed r) (now (out .entry)) (now (out .exit)) ⌝ }
+) -> Answer
+    ensures { λ r. ⌜ Fills (putAt (now (out .entry)) index (packLittleEndianSeq 8 (now (numbers .entry)))) (outcomeOf r) (now (out .entry)) (now (out .exit)) ⌝ }
 {
     match room(out.len(), index, numbers.len(), 8) {
-        Completion::Refused(r) => Completion::Refused(r),
-        Completion::Done => {
+        Answer::Refused(r) => Answer::Refused(r),
+        Answer::Accepted => {
             let mut i: usize = 0;
             while i < numbers.len() {
                 pack(numbers[i], out, index + 8 * i, 8);
                 i += 1;
             }
-            Completion::Done
+            Answer::Accepted
         }
     }
 }
 
 // The bytes of src, which GM's `NativeArrays.CopySeqIntoArray` copies.
-pub fn copy_seq_into_array(src: &[u8], out: &mut [u8], index: usize) -> Completion
-    ensures { λ r. ⌜ Fills (putAt (now (out .entry)) index (now (src .entry))) (completed r) (now (out .entry)) (now (out .exit)) ⌝ }
+pub fn copy_seq_into_array(src: &[u8], out: &mut [u8], index: usize) -> Answer
+    ensures { λ r. ⌜ Fills (putAt (now (out .entry)) index (now (src .entry))) (outcomeOf r) (now (out .entry)) (now (out .exit)) ⌝ }
 {
     match room(out.len(), index, src.len(), 1) {
-        Completion::Refused(r) => Completion::Refused(r),
-        Completion::Done => {
+        Answer::Refused(r) => Answer::Refused(r),
+        Answer::Accepted => {
             let mut i: usize = 0;
             while i < src.len() {
                 out[index + i] = src[i];
                 i += 1;
             }
-            Completion::Done
+            Answer::Accepted
         }
     }
 }

@@ -1,10 +1,14 @@
--- A `Refusal` is determined by the number and place that it means.
+-- A `Refusal` and an `Answer` are determined by what they mean, so a contract through the meaning fixes the answer.
 use mathlib.Core.Path.{_≡_, refl, ap, sym, _∙_}
+use Prim.Native.Nat.{ℕ}
+use native.Mathlib.Omega.{arith}
 use Rattle.refusal.specs.declared.Place.{Place}
 use Rattle.refusal.specs.declared.Place.the-variants.{Word, Byte, Row}
 use Rattle.refusal.specs.declared.Refusal.{Refusal}
+use Rattle.refusal.specs.declared.Answer.{Answer}
+use Rattle.refusal.specs.declared.Answer.the-variants.{Accepted, Refused}
 use Rattle.refusal.specs.Outcome.{Location, word, byte, row, Reason, reason}
-use Rattle.refusal.specs.Meaning.{locationOf, reasonOf}
+use Rattle.refusal.specs.Meaning.{locationOf, reasonOf, outcomeOf}
 
 abbrev placeOf : Location → Place
 placeOf (word n) = Word n
@@ -24,3 +28,9 @@ refusal-of r = rw (place-of (r .place))
 
 pub reason-injective : (r s : Refusal) → reasonOf r ≡ reasonOf s → r ≡ s
 reason-injective r s h = sym (refusal-of r) ∙ ap refusalOf h ∙ refusal-of s
+
+pub outcome-injective : (a b : Answer) → outcomeOf a ≡ outcomeOf b → a ≡ b
+outcome-injective Accepted Accepted h = refl
+outcome-injective Accepted (Refused s) h = let z : _≡_ {A = ℕ} 0 1 = cc in absurd (omega arith)
+outcome-injective (Refused r) Accepted h = let z : _≡_ {A = ℕ} 0 1 = cc in absurd (omega arith)
+outcome-injective (Refused r) (Refused s) h = ap Refused (reason-injective r s (cc))

@@ -54,6 +54,12 @@ pub struct Refusal {
     pub number: u64,
 }
 
+// The answer of a call that gives no value.
+pub enum Answer {
+    Accepted,
+    Refused(Refusal),
+}
+
 pub fn at_word(number: u64, at: usize) -> Refusal
     ensures { λ r. ⌜ reasonOf r ≡ reason number (word at) ⌝ }
 {

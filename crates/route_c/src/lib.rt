@@ -2,13 +2,13 @@
 ghost use mathlib.Core.Path.{_≡_};
 ghost use lib.ListN.{length};
 ghost use Rattle.refusal.specs.Outcome.{refused, map};
-ghost use Rattle.refusal.specs.Meaning.{reasonOf};
+ghost use Rattle.refusal.specs.Meaning.{reasonOf, outcomeOf};
 ghost use Rattle.packed.specs.Packed.{unpackAt, unpackSeqAt, putAt, packLittleEndian, packLittleEndianSeq};
-ghost use Rattle.packed.specs.Meaning.{unpackedU32, unpackedU64, completed};
+ghost use Rattle.packed.specs.Meaning.{unpackedU32, unpackedU64};
 ghost use Rattle.route_c.specs.Answer.{answerOf, none, one, Answers};
-use packed::Completion;
 use packed::UnpackedU32;
 use packed::UnpackedU64;
+use refusal::Answer;
 use refusal::Place;
 use refusal::Refusal;
 
@@ -76,12 +76,12 @@ fn of_unpacked_u64(answer: UnpackedU64) -> RouteAnswer
     }
 }
 
-fn of_completion(answer: Completion) -> RouteAnswer
-    ensures { λ r. ⌜ r ≡ answerOf (map none (completed answer)) ⌝ }
+fn of_answer(answer: Answer) -> RouteAnswer
+    ensures { λ r. ⌜ r ≡ answerOf (map none (outcomeOf answer)) ⌝ }
 {
     match answer {
-        Completion::Done => accept(0),
-        Completion::Refused(r) => refuse(r),
+        Answer::Accepted => accept(0),
+        Answer::Refused(r) => refuse(r),
     }
 }
 
@@ -103,14 +103,14 @@ pub extern "C" fn route_unpack_u64(packed: &[u8], index: usize) -> RouteAnswer
 pub extern "C" fn route_pack_u32(n: u32, out: &mut [u8], index: usize) -> RouteAnswer
     ensures { λ r. ⌜ Answers (putAt (now (out .entry)) index (packLittleEndian 4 n)) r (now (out .entry)) (now (out .exit)) ⌝ }
 {
-    of_completion(packed::pack_little_endian_uint32_into_array(n, out, index))
+    of_answer(packed::pack_little_endian_uint32_into_array(n, out, index))
 }
 
 #[no_mangle]
 pub extern "C" fn route_pack_u64(n: u64, out: &mut [u8], index: usize) -> RouteAnswer
     ensures { λ r. ⌜ Answers (putAt (now (out .entry)) index (packLittleEndian 8 n)) r (now (out .entry)) (now (out .exit)) ⌝ }
 {
-    of_completion(packed::pack_little_endian_uint64_into_array(n, out, index))
+    of_answer(packed::pack_little_endian_uint64_into_array(n, out, index))
 }
 
 #[no_mangle]
@@ -121,7 +121,7 @@ pub extern "C" fn route_unpack_u32_seq(
 ) -> RouteAnswer
     ensures { λ r. ⌜ Answers (unpackSeqAt 4 (now (packed .entry)) index (length (now (numbers .entry)))) r (now (numbers .entry)) (now (numbers .exit)) ⌝ }
 {
-    of_completion(packed::unpack_little_endian_uint32_seq(packed, index, numbers))
+    of_answer(packed::unpack_little_endian_uint32_seq(packed, index, numbers))
 }
 
 #[no_mangle]
@@ -132,19 +132,19 @@ pub extern "C" fn route_unpack_u64_seq(
 ) -> RouteAnswer
     ensures { λ r. ⌜ Answers (unpackSeqAt 8 (now (packed .entry)) index (length (now (numbers .entry)))) r (now (numbers .entry)) (now (numbers .exit)) ⌝ }
 {
-    of_completion(packed::unpack_little_endian_uint64_seq(packed, index, numbers))
+    of_answer(packed::unpack_little_endian_uint64_seq(packed, index, numbers))
 }
 
 #[no_mangle]
 pub extern "C" fn route_pack_u32_seq(numbers: &[u32], out: &mut [u8], index: usize) -> RouteAnswer
     ensures { λ r. ⌜ Answers (putAt (now (out .entry)) index (packLittleEndianSeq 4 (now (numbers .entry)))) r (now (out .entry)) (now (out .exit)) ⌝ }
 {
-    of_completion(packed::pack_little_endian_uint32_seq_into_array(numbers, out, index))
+    of_answer(packed::pack_little_endian_uint32_seq_into_array(numbers, out, index))
 }
 
 #[no_mangle]
 pub extern "C" fn route_pack_u64_seq(numbers: &[u64], out: &mut [u8], index: usize) -> RouteAnswer
     ensures { λ r. ⌜ Answers (putAt (now (out .entry)) index (packLittleEndianSeq 8 (now (numbers .entry)))) r (now (out .entry)) (now (out .exit)) ⌝ }
 {
-    of_completion(packed::pack_little_endian_uint64_seq_into_array(numbers, out, index))
+    of_answer(packed::pack_little_endian_uint64_seq_into_array(numbers, out, index))
 }

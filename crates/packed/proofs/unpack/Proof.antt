@@ -5,7 +5,7 @@ use native.Mathlib.Nat.{le-refl}
 use native.Mathlib.Omega.{arith}
 use lib.ListN.{getD, take, drop}
 use Rattle.packed.specs.Packed.{unpackLittleEndian}
-use Rattle.packed.proofs.Laws.{Bytes, unpack-next, unpack-fits, unpack-take}
+use Rattle.packed.proofs.Laws.{unpack-next, unpack-fits, unpack-take}
 use borrow.Author.Needs.{needs}
 use Rattle.packed.proofs.unpack.Statement.{statement}
 use Rattle.packed.proofs.unpack.Tie as tie

@@ -7,20 +7,20 @@ pack-little-endian-uint64-into-array-requires :
     tie.Need-pack-little-endian-uint64-into-array-requires
 pack-little-endian-uint64-into-array-requires c κs = search needs
 
-of-completion-requires : tie.Need-of-completion-requires
-of-completion-requires c κs = search needs
+of-answer-requires : tie.Need-of-answer-requires
+of-answer-requires c κs = search needs
 
 same-length : tie.Need-same-length
 same-length c = search needs
 
 returns : tie.Need-returns
-returns c = answers-fills (c .of-completion .ensures) (c .before .before .before .pack-little-endian-uint64-into-array .ensures)
+returns c = answers-fills (c .of-answer .ensures) (c .before .before .before .pack-little-endian-uint64-into-array .ensures)
 
 pub route-pack-u64-spec : {M : Type 1} → statement M
 route-pack-u64-spec =
     tie.close
     (tie.spec
     pack-little-endian-uint64-into-array-requires
-    of-completion-requires
+    of-answer-requires
     same-length
     returns)

@@ -1,11 +1,11 @@
 use mathlib.Core.Path.{ap, sym, _∙_}
 use Rattle.refusal.specs.Outcome.{map}
-use Rattle.packed.specs.declared.Completion.{Completion}
-use Rattle.packed.specs.Meaning.{completed}
+use Rattle.refusal.specs.declared.Answer.{Answer}
+use Rattle.refusal.specs.Meaning.{outcomeOf}
 use Rattle.route_c.specs.Answer.{answerOf, none}
 use borrow.Author.Needs.{needs}
-use Rattle.route_c.proofs.of_completion.Statement.{statement}
-use Rattle.route_c.proofs.of_completion.Tie as tie
+use Rattle.route_c.proofs.of_answer.Statement.{statement}
+use Rattle.route_c.proofs.of_answer.Tie as tie
 
 enum-told : tie.Need-enum-told
 enum-told c = search needs
@@ -20,12 +20,12 @@ refuse-requires : tie.Need-refuse-requires
 refuse-requires c κs = search needs
 
 returns : tie.Need-returns
-returns c = c .accept .ensures ∙ ap (λ (u : Completion). answerOf (map none (completed u))) (sym (c .before .enum-told .given .1))
+returns c = c .accept .ensures ∙ ap (λ (u : Answer). answerOf (map none (outcomeOf u))) (sym (c .before .enum-told .given .1))
 
 returns-2 : tie.Need-returns-2
-returns-2 c = c .refuse .ensures ∙ ap (λ (u : Completion). answerOf (map none (completed u))) (sym (c .before .before .answer .given .1))
+returns-2 c = c .refuse .ensures ∙ ap (λ (u : Answer). answerOf (map none (outcomeOf u))) (sym (c .before .before .answer .given .1))
 
-pub of-completion-spec : {M : Type 1} → statement M
-of-completion-spec =
+pub of-answer-spec : {M : Type 1} → statement M
+of-answer-spec =
     tie.close
     (tie.spec enum-told accept-requires enum-known-answer refuse-requires returns returns-2)
