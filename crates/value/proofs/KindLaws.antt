@@ -1,0 +1,31 @@
+-- The tables of kinds agree.
+use mathlib.Core.Path.{_≡_, refl}
+use Prim.Native.Nat.{ℕ, _≤_, _<_}
+use lib.ListN.{length, List·getD-eq-default}
+use lib.Dec.{lit<}
+use Rattle.value.specs.Kinds.{Number, uint32, uint64, numberKind, Elements, bytes, uint32s, uint64s, elementWidth, elementsKind, kinds, kindOf, constant, number, array, tuple, elements, union, other}
+
+pub number-kind : (k : Number) → kindOf (numberKind k) ≡ number k
+unfolding kindOf kinds
+number-kind uint32 = refl
+number-kind uint64 = refl
+
+pub elements-kind : (k : Elements) → kindOf (elementsKind k) ≡ elements k
+unfolding kindOf kinds
+elements-kind bytes = refl
+elements-kind uint32s = refl
+elements-kind uint64s = refl
+
+pub other-kinds : (kindOf 0 ≡ constant) × (kindOf 3 ≡ array) × (kindOf 4 ≡ tuple) × (kindOf 8 ≡ union)
+unfolding kindOf kinds
+other-kinds = (refl, refl, refl, refl)
+
+pub elementWidth-positive : (k : Elements) → 0 < elementWidth k
+elementWidth-positive bytes = lit< tt
+elementWidth-positive uint32s = lit< tt
+elementWidth-positive uint64s = lit< tt
+
+-- every kind word above the table's
+pub kind-other : (word : ℕ) → length kinds ≤ word → kindOf word ≡ other
+unfolding kindOf
+kind-other word h = List·getD-eq-default kinds other h

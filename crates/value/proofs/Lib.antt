@@ -1,0 +1,6 @@
+pub mod KindLaws
+pub mod Laws
+pub mod Source
+pub mod Agreement
+pub mod Reading
+pub mod Examples

@@ -1,0 +1,53 @@
+-- The kinds, by classes, and what tells the kinds of a class apart: number and width. The only place that lists them.
+use mathlib.Core.List.{List, [], _∷_}
+use Prim.Native.Nat.{ℕ}
+use lib.ListN.{getD}
+
+-- the kinds of one number
+pub data Number : Type 0 where
+  uint32 : Number
+  uint64 : Number
+
+-- the bytes of the number
+abbrev pub width : Number → ℕ
+width uint32 = 4
+width uint64 = 8
+
+abbrev pub numberKind : Number → ℕ
+numberKind uint32 = 1
+numberKind uint64 = 2
+
+-- the kinds of numbers of one width behind their count
+pub data Elements : Type 0 where
+  bytes : Elements
+  uint32s : Elements
+  uint64s : Elements
+
+-- the bytes of each number
+abbrev pub elementWidth : Elements → ℕ
+elementWidth bytes = 1
+elementWidth uint32s = 4
+elementWidth uint64s = 8
+
+abbrev pub elementsKind : Elements → ℕ
+elementsKind bytes = 5
+elementsKind uint32s = 6
+elementsKind uint64s = 7
+
+-- the classes; `other` is every kind word that document 01 does not name
+pub data Kind : Type 0 where
+  constant : Kind
+  number : Number → Kind
+  array : Kind
+  tuple : Kind
+  elements : Elements → Kind
+  union : Kind
+  other : Kind
+
+-- kinds 0 to 8, in order
+unfoldable pub kinds : List Kind
+kinds = constant ∷ number uint32 ∷ number uint64 ∷ array ∷ tuple ∷ elements bytes ∷ elements uint32s ∷ elements uint64s ∷ union ∷ []
+
+-- a kind word by value, 0 to 8 and all above
+unfoldable pub kindOf : ℕ → Kind
+kindOf word = getD kinds word other

@@ -1,0 +1,6 @@
+pub mod Kinds
+pub mod Tree
+pub mod Bytes
+pub mod Step
+pub mod Parse
+pub mod Reading

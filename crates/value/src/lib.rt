@@ -1,0 +1,1 @@
+// The theory of values: definitions in specs/, laws in proofs/.
