@@ -1,6 +1,6 @@
 -- When bytes are present and when they have room, as the calls decide it.
-use mathlib.Core.Path.{_≡_, refl, sym, ap, _∙_}
-use mathlib.Core.Bool.{Bool, true, false}
+use mathlib.Core.Path.{_≡_, sym, ap, _∙_}
+use mathlib.Core.Bool.{true, false}
 use Prim.Native.Nat.{ℕ, _+_, _-_, _*_, _/_, _≤_, _<_}
 use native.Mathlib.Nat.{le-div-iff-mul-le, mul-comm, le-refl}
 use native.Mathlib.Omega.{arith}
@@ -9,24 +9,11 @@ use lib.Dec.{leb}
 use borrow.Author.Tests.{le-leb, lt-leb, leb-true}
 use mathlib.Core.List.{List}
 use Rattle.refusal.specs.Outcome.{Outcome, accepted, refused, test, map, Fills, Reason, reason, byte}
-use Rattle.refusal.specs.Meaning.{reasonOf, outcomeOf}
-use Rattle.refusal.specs.declared.Answer.{Answer}
-use Rattle.refusal.specs.declared.Answer.the-variants.{Accepted, Refused}
-use Rattle.refusal.specs.declared.Refusal.{Refusal}
+use Rattle.refusal.proofs.Tests.{leb-iff}
 use Rattle.refusal.proofs.Outcome.{test-true, test-false, test-passed, fills-refused, fills-accepted}
 use Rattle.packed.specs.Packed.{present, room, unpackLittleEndian, unpackLittleEndianSeq, unpackAt, unpackSeqAt, put, putAt}
 use Rattle.packed.proofs.Laws.{length-unpackSeq, unpackSeq-take}
 use Rattle.packed.proofs.Put.{put-whole}
-
-bool-iff : (x y : Bool) → (x ≡ true → y ≡ true) → (y ≡ true → x ≡ true) → x ≡ y
-bool-iff true true f g = refl
-bool-iff true false f g = sym (f refl)
-bool-iff false true f g = g refl
-bool-iff false false f g = refl
-
--- two comparisons that say the same
-leb-iff : (a b c d : ℕ) → (a ≤ b → c ≤ d) → (c ≤ d → a ≤ b) → leb a b ≡ leb c d
-leb-iff a b c d f g = bool-iff (leb a b) (leb c d) (λ t. le-leb c d (f (leb-true a b t))) (λ t. le-leb a b (g (leb-true c d t)))
 
 -- a count compared with the numbers that have room says what the product would
 pub count-compared : (len index count width : ℕ) → 0 < width → index ≤ len → leb count ((len - index) / width) ≡ leb (index + width * count) len
@@ -65,13 +52,6 @@ module _ (len index size : ℕ) where
   pub room-fits : accepted tt ≡ room len index size → index + size ≤ len
   unfolding room
   room-fits h = leb-true (index + size) len (test-passed (leb (index + size) len) _ _ tt (sym h))
-
--- what an accepted or refused test comes to in the call above it
-pub done : {r : Answer} {o : Outcome Reason (Unit {0})} → r ≡ Accepted → outcomeOf r ≡ o → accepted tt ≡ o
-done p h = ap outcomeOf (sym p) ∙ h
-
-pub stopped : {r : Answer} {x : Refusal} {o : Outcome Reason (Unit {0})} → r ≡ Refused x → outcomeOf r ≡ o → refused (reasonOf x) ≡ o
-stopped p h = ap outcomeOf (sym p) ∙ h
 
 -- unpacking what is present, or refused
 module _ (w : ℕ) (s : List ℕ) (index : ℕ) where

@@ -7,7 +7,7 @@ use Rattle.refusal.specs.declared.Place.the-variants.{Word, Byte, Row}
 use Rattle.refusal.specs.declared.Refusal.{Refusal}
 use Rattle.refusal.specs.declared.Answer.{Answer}
 use Rattle.refusal.specs.declared.Answer.the-variants.{Accepted, Refused}
-use Rattle.refusal.specs.Outcome.{Location, word, byte, row, Reason, reason}
+use Rattle.refusal.specs.Outcome.{Location, word, byte, row, Reason, reason, Outcome, accepted, refused}
 use Rattle.refusal.specs.Meaning.{locationOf, reasonOf, outcomeOf}
 
 abbrev placeOf : Location → Place
@@ -34,3 +34,10 @@ outcome-injective Accepted Accepted h = refl
 outcome-injective Accepted (Refused s) h = let z : _≡_ {A = ℕ} 0 1 = cc in absurd (omega arith)
 outcome-injective (Refused r) Accepted h = let z : _≡_ {A = ℕ} 0 1 = cc in absurd (omega arith)
 outcome-injective (Refused r) (Refused s) h = ap Refused (reason-injective r s (cc))
+
+-- what a matched answer says of the outcome that it means
+pub done : {r : Answer} {o : Outcome Reason (Unit {0})} → r ≡ Accepted → outcomeOf r ≡ o → accepted tt ≡ o
+done p h = ap outcomeOf (sym p) ∙ h
+
+pub stopped : {r : Answer} {x : Refusal} {o : Outcome Reason (Unit {0})} → r ≡ Refused x → outcomeOf r ≡ o → refused (reasonOf x) ≡ o
+stopped p h = ap outcomeOf (sym p) ∙ h

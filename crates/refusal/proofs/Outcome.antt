@@ -1,10 +1,12 @@
 -- The laws of outcomes: of `bind`, of `test`, and of a postcondition along both.
 use mathlib.Core.Path.{_≡_, refl, ap, _∙_}
 use mathlib.Core.List.{List}
+use mathlib.Core.Logic.{_↔_}
 use mathlib.Core.Bool.{Bool, true, false, not}
 use Prim.Native.Nat.{ℕ}
 use native.Mathlib.Omega.{arith}
 use lib.Dec.{T}
+use Rattle.refusal.proofs.Tests.{refutes}
 use Rattle.refusal.specs.Outcome.{Outcome, accepted, refused, bind, test, map, contents, Fills, Reason}
 
 pub bind-accepted : {E A : Type 0} (x : Outcome E A) → bind x accepted ≡ x
@@ -50,6 +52,11 @@ post-bind k (fails e q) c = fails e q
 pub post-test : {E A : Type 0} {P : A → Type 0} {Q : E → Type 0} (b : Bool) (e : E) (k : Unit {0} → Outcome E A) → (T b → Post P Q (k tt)) → (T (not b) → Q e) → Post P Q (test b e k)
 post-test true e k c n = c tt
 post-test false e k c n = fails e (n tt)
+
+-- the same where the test reflects R
+pub post-reflects : {E A : Type 0} {P : A → Type 0} {Q : E → Type 0} {R : Type 0} (b : Bool) (e : E) (k : Unit {0} → Outcome E A) → R ↔ (b ≡ true) → (R → Post P Q (k tt)) → ((R → ⊥) → Q e) → Post P Q (test b e k)
+post-reflects true e k r c n = c (r .1 refl)
+post-reflects false e k r c n = fails e (n (refutes r refl))
 
 pub post-weaken : {E A : Type 0} {P R : A → Type 0} {Q S : E → Type 0} {x : Outcome E A} → ((a : A) → P a → R a) → ((e : E) → Q e → S e) → Post P Q x → Post R S x
 post-weaken f g (holds a p) = holds a (f a p)

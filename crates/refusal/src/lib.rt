@@ -1,7 +1,7 @@
 // A refusal, document 01's: its number in the table and its place. Every answer of the library holds this struct.
 ghost use mathlib.Core.Path.{_≡_};
-ghost use Rattle.refusal.specs.Meaning.{reasonOf};
-ghost use Rattle.refusal.specs.Outcome.{reason, word, byte, row};
+ghost use Rattle.refusal.specs.Meaning.{reasonOf, outcomeOf};
+ghost use Rattle.refusal.specs.Outcome.{accepted, test, reason, word, byte, row};
 
 // Document 01's numbers, in the order of its table.
 pub const NODE_COUNT: u64 = 1;
@@ -84,5 +84,16 @@ pub fn at_row(number: u64, at: usize) -> Refusal
     Refusal {
         place: Place::Row(at as u64),
         number: number,
+    }
+}
+
+// Accepted where the test holds.
+pub fn accept_if(holds: bool, refusal: Refusal) -> Answer
+    ensures { λ r. ⌜ outcomeOf r ≡ test holds (reasonOf refusal) accepted ⌝ }
+{
+    if holds {
+        Answer::Accepted
+    } else {
+        Answer::Refused(refusal)
     }
 }

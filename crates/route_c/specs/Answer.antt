@@ -25,13 +25,13 @@ abbrev pub answerOf : Outcome Reason Values → RouteAnswer
 answerOf (accepted (values a b)) = record { number = 0; «place_kind» = 0; place = 0; first = a; second = b }
 answerOf (refused (reason n l)) = record { number = n; «place_kind» = kindOf l; place = numberOf l; first = 0; second = 0 }
 
-abbrev pub none : {A : Type 0} → A → Values
-none a = values 0 0
+abbrev pub noValue : {A : Type 0} → A → Values
+noValue a = values 0 0
 
-abbrev pub one : ℕ → Values
-one n = values n 0
+abbrev pub oneValue : ℕ → Values
+oneValue n = values n 0
 
 -- a call over a lent buffer answers and fills as the outcome o says
 pub record Answers (o : Outcome Reason (List ℕ)) (answer : RouteAnswer) (entry exit : List ℕ) : Type 0 where
-  pub answers : answer ≡ answerOf (map none o)
+  pub answers : answer ≡ answerOf (map noValue o)
   pub buffer : exit ≡ contents o entry

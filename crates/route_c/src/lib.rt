@@ -4,8 +4,9 @@ ghost use lib.ListN.{length};
 ghost use Rattle.refusal.specs.Outcome.{refused, map};
 ghost use Rattle.refusal.specs.Meaning.{reasonOf, outcomeOf};
 ghost use Rattle.packed.specs.Packed.{unpackAt, unpackSeqAt, putAt, packLittleEndian, packLittleEndianSeq};
+ghost use Rattle.grammar.specs.Check.{checkGrammar};
 ghost use Rattle.packed.specs.Meaning.{unpackedU32, unpackedU64};
-ghost use Rattle.route_c.specs.Answer.{answerOf, none, one, Answers};
+ghost use Rattle.route_c.specs.Answer.{answerOf, noValue, oneValue, Answers};
 use packed::UnpackedU32;
 use packed::UnpackedU64;
 use refusal::Answer;
@@ -59,7 +60,7 @@ fn refuse_at(number: u64, place_kind: u64, place: u64) -> RouteAnswer
 }
 
 fn of_unpacked_u32(answer: UnpackedU32) -> RouteAnswer
-    ensures { λ r. ⌜ r ≡ answerOf (map one (unpackedU32 answer)) ⌝ }
+    ensures { λ r. ⌜ r ≡ answerOf (map oneValue (unpackedU32 answer)) ⌝ }
 {
     match answer {
         UnpackedU32::Number(n) => accept(n as u64),
@@ -68,7 +69,7 @@ fn of_unpacked_u32(answer: UnpackedU32) -> RouteAnswer
 }
 
 fn of_unpacked_u64(answer: UnpackedU64) -> RouteAnswer
-    ensures { λ r. ⌜ r ≡ answerOf (map one (unpackedU64 answer)) ⌝ }
+    ensures { λ r. ⌜ r ≡ answerOf (map oneValue (unpackedU64 answer)) ⌝ }
 {
     match answer {
         UnpackedU64::Number(n) => accept(n),
@@ -77,7 +78,7 @@ fn of_unpacked_u64(answer: UnpackedU64) -> RouteAnswer
 }
 
 fn of_answer(answer: Answer) -> RouteAnswer
-    ensures { λ r. ⌜ r ≡ answerOf (map none (outcomeOf answer)) ⌝ }
+    ensures { λ r. ⌜ r ≡ answerOf (map noValue (outcomeOf answer)) ⌝ }
 {
     match answer {
         Answer::Accepted => accept(0),
@@ -87,14 +88,14 @@ fn of_answer(answer: Answer) -> RouteAnswer
 
 #[no_mangle]
 pub extern "C" fn route_unpack_u32(packed: &[u8], index: usize) -> RouteAnswer
-    ensures { λ r. ⌜ r ≡ answerOf (map one (unpackAt 4 (now (packed .entry)) index)) ⌝ }
+    ensures { λ r. ⌜ r ≡ answerOf (map oneValue (unpackAt 4 (now (packed .entry)) index)) ⌝ }
 {
     of_unpacked_u32(packed::unpack_little_endian_uint32(packed, index))
 }
 
 #[no_mangle]
 pub extern "C" fn route_unpack_u64(packed: &[u8], index: usize) -> RouteAnswer
-    ensures { λ r. ⌜ r ≡ answerOf (map one (unpackAt 8 (now (packed .entry)) index)) ⌝ }
+    ensures { λ r. ⌜ r ≡ answerOf (map oneValue (unpackAt 8 (now (packed .entry)) index)) ⌝ }
 {
     of_unpacked_u64(packed::unpack_little_endian_uint64(packed, index))
 }
@@ -147,4 +148,11 @@ pub extern "C" fn route_pack_u64_seq(numbers: &[u64], out: &mut [u8], index: usi
     ensures { λ r. ⌜ Answers (putAt (now (out .entry)) index (packLittleEndianSeq 8 (now (numbers .entry)))) r (now (out .entry)) (now (out .exit)) ⌝ }
 {
     of_answer(packed::pack_little_endian_uint64_seq_into_array(numbers, out, index))
+}
+
+#[no_mangle]
+pub extern "C" fn route_check_grammar(words: &[u32]) -> RouteAnswer
+    ensures { λ r. ⌜ r ≡ answerOf (map noValue (checkGrammar (now (words .entry)))) ⌝ }
+{
+    of_answer(grammar::check_grammar(words))
 }

@@ -1,9 +1,9 @@
 -- The tables of kinds agree.
 use mathlib.Core.Path.{_≡_, refl}
-use Prim.Native.Nat.{ℕ, _≤_, _<_}
+use Prim.Native.Nat.{ℕ, suc, _≤_, _<_}
 use lib.ListN.{length, List·getD-eq-default}
 use lib.Dec.{lit<}
-use Rattle.value.specs.Kinds.{Number, uint32, uint64, numberKind, Elements, bytes, uint32s, uint64s, elementWidth, elementsKind, kinds, kindOf, constant, number, array, tuple, elements, union, other}
+use Rattle.value.specs.Kinds.{Number, uint32, uint64, numberKind, Elements, bytes, uint32s, uint64s, elementWidth, elementsKind, kinds, lastKind, kindOf, constant, number, array, tuple, elements, union, other}
 
 pub number-kind : (k : Number) → kindOf (numberKind k) ≡ number k
 unfolding kindOf kinds
@@ -24,6 +24,11 @@ pub elementWidth-positive : (k : Elements) → 0 < elementWidth k
 elementWidth-positive bytes = lit< tt
 elementWidth-positive uint32s = lit< tt
 elementWidth-positive uint64s = lit< tt
+
+-- the table has the kind words 0 to `lastKind`
+pub kinds-length : length kinds ≡ suc lastKind
+unfolding kinds
+kinds-length = refl
 
 -- every kind word above the table's
 pub kind-other : (word : ℕ) → length kinds ≤ word → kindOf word ≡ other

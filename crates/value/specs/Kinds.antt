@@ -48,6 +48,10 @@ pub data Kind : Type 0 where
 unfoldable pub kinds : List Kind
 kinds = constant ∷ number uint32 ∷ number uint64 ∷ array ∷ tuple ∷ elements bytes ∷ elements uint32s ∷ elements uint64s ∷ union ∷ []
 
+-- the last of them
+abbrev pub lastKind : ℕ
+lastKind = 8
+
 -- a kind word by value, 0 to 8 and all above
 unfoldable pub kindOf : ℕ → Kind
 kindOf word = getD kinds word other

@@ -6,7 +6,8 @@ use lib.ListN.{length, take, length-set}
 use lib.Seq.{take-all}
 use Rattle.packed.specs.Packed.{put}
 use Rattle.packed.proofs.Put.{put-nothing, copy-next}
-use Rattle.packed.proofs.Calls.{done, stopped, room-fits, put-refused, put-accepted}
+use Rattle.refusal.proofs.Meaning.{done, stopped}
+use Rattle.packed.proofs.Calls.{room-fits, put-refused, put-accepted}
 use borrow.Author.Needs.{needs}
 use Rattle.packed.proofs.copy_seq_into_array.Statement.{statement}
 use Rattle.packed.proofs.copy_seq_into_array.Tie as tie

@@ -8,7 +8,8 @@ use lib.Seq.{take-all}
 use Rattle.packed.specs.Packed.{packLittleEndianSeq, put}
 use Rattle.packed.proofs.Laws.{length-packSeq}
 use Rattle.packed.proofs.Put.{put-nothing, packSeq-next}
-use Rattle.packed.proofs.Calls.{done, stopped, room-fits, put-refused, put-accepted}
+use Rattle.refusal.proofs.Meaning.{done, stopped}
+use Rattle.packed.proofs.Calls.{room-fits, put-refused, put-accepted}
 use borrow.Author.Needs.{needs}
 use Rattle.packed.proofs.pack_little_endian_uint32_seq_into_array.Statement.{statement}
 use Rattle.packed.proofs.pack_little_endian_uint32_seq_into_array.Tie as tie

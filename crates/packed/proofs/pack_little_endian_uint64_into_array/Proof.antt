@@ -2,7 +2,8 @@ use lib.ListN.{length}
 use native.Mathlib.Omega.{arith}
 use Rattle.packed.specs.Packed.{packLittleEndian}
 use Rattle.packed.proofs.Laws.{length-pack}
-use Rattle.packed.proofs.Calls.{done, stopped, room-fits, put-refused, put-accepted}
+use Rattle.refusal.proofs.Meaning.{done, stopped}
+use Rattle.packed.proofs.Calls.{room-fits, put-refused, put-accepted}
 use borrow.Author.Needs.{needs}
 use Rattle.packed.proofs.pack_little_endian_uint64_into_array.Statement.{statement}
 use Rattle.packed.proofs.pack_little_endian_uint64_into_array.Tie as tie

@@ -1,6 +1,7 @@
 use lib.ListN.{length}
 use native.Mathlib.Omega.{arith}
-use Rattle.packed.proofs.Calls.{done, stopped, present-fits, unpack-refused, unpack-accepted}
+use Rattle.refusal.proofs.Meaning.{done, stopped}
+use Rattle.packed.proofs.Calls.{present-fits, unpack-refused, unpack-accepted}
 use borrow.Author.Needs.{needs}
 use Rattle.packed.proofs.unpack_little_endian_uint64.Statement.{statement}
 use Rattle.packed.proofs.unpack_little_endian_uint64.Tie as tie

@@ -5,7 +5,8 @@ use native.Mathlib.Omega.{arith}
 use lib.ListN.{length, drop, length-set}
 use Rattle.packed.specs.Packed.{unpackLittleEndianSeq, put}
 use Rattle.packed.proofs.Put.{put-nothing, unpackSeq-next}
-use Rattle.packed.proofs.Calls.{done, stopped, present-fits, unpackSeq-refused, unpackSeq-accepted}
+use Rattle.refusal.proofs.Meaning.{done, stopped}
+use Rattle.packed.proofs.Calls.{present-fits, unpackSeq-refused, unpackSeq-accepted}
 use borrow.Author.Needs.{needs}
 use Rattle.packed.proofs.unpack_little_endian_uint64_seq.Statement.{statement}
 use Rattle.packed.proofs.unpack_little_endian_uint64_seq.Tie as tie

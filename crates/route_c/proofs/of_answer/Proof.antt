@@ -2,7 +2,7 @@ use mathlib.Core.Path.{ap, sym, _∙_}
 use Rattle.refusal.specs.Outcome.{map}
 use Rattle.refusal.specs.declared.Answer.{Answer}
 use Rattle.refusal.specs.Meaning.{outcomeOf}
-use Rattle.route_c.specs.Answer.{answerOf, none}
+use Rattle.route_c.specs.Answer.{answerOf, noValue}
 use borrow.Author.Needs.{needs}
 use Rattle.route_c.proofs.of_answer.Statement.{statement}
 use Rattle.route_c.proofs.of_answer.Tie as tie
@@ -20,10 +20,10 @@ refuse-requires : tie.Need-refuse-requires
 refuse-requires c κs = search needs
 
 returns : tie.Need-returns
-returns c = c .accept .ensures ∙ ap (λ (u : Answer). answerOf (map none (outcomeOf u))) (sym (c .before .enum-told .given .1))
+returns c = c .accept .ensures ∙ ap (λ (u : Answer). answerOf (map noValue (outcomeOf u))) (sym (c .before .enum-told .given .1))
 
 returns-2 : tie.Need-returns-2
-returns-2 c = c .refuse .ensures ∙ ap (λ (u : Answer). answerOf (map none (outcomeOf u))) (sym (c .before .before .answer .given .1))
+returns-2 c = c .refuse .ensures ∙ ap (λ (u : Answer). answerOf (map noValue (outcomeOf u))) (sym (c .before .before .answer .given .1))
 
 pub of-answer-spec : {M : Type 1} → statement M
 of-answer-spec =

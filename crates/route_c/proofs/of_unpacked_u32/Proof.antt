@@ -2,7 +2,7 @@ use mathlib.Core.Path.{ap, sym, _∙_}
 use Rattle.refusal.specs.Outcome.{map}
 use Rattle.packed.specs.declared.UnpackedU32.{UnpackedU32}
 use Rattle.packed.specs.Meaning.{unpackedU32}
-use Rattle.route_c.specs.Answer.{answerOf, one}
+use Rattle.route_c.specs.Answer.{answerOf, oneValue}
 use borrow.Author.Needs.{needs}
 use Rattle.route_c.proofs.of_unpacked_u32.Statement.{statement}
 use Rattle.route_c.proofs.of_unpacked_u32.Tie as tie
@@ -23,10 +23,10 @@ refuse-requires : tie.Need-refuse-requires
 refuse-requires c κs = search needs
 
 returns : tie.Need-returns
-returns c = c .accept .ensures ∙ ap (λ (u : UnpackedU32). answerOf (map one (unpackedU32 u))) (sym (c .before .before .answer .given .1))
+returns c = c .accept .ensures ∙ ap (λ (u : UnpackedU32). answerOf (map oneValue (unpackedU32 u))) (sym (c .before .before .answer .given .1))
 
 returns-2 : tie.Need-returns-2
-returns-2 c = c .refuse .ensures ∙ ap (λ (u : UnpackedU32). answerOf (map one (unpackedU32 u))) (sym (c .before .before .answer2 .given .1))
+returns-2 c = c .refuse .ensures ∙ ap (λ (u : UnpackedU32). answerOf (map oneValue (unpackedU32 u))) (sym (c .before .before .answer2 .given .1))
 
 pub of-unpacked-u32-spec : {M : Type 1} → statement M
 of-unpacked-u32-spec =

@@ -1,7 +1,7 @@
 use mathlib.Core.Path.{ap, _∙_}
 use Prim.Native.Nat.{ℕ}
 use Rattle.refusal.specs.Outcome.{Outcome, map, Reason}
-use Rattle.route_c.specs.Answer.{answerOf, one}
+use Rattle.route_c.specs.Answer.{answerOf, oneValue}
 use borrow.Author.Needs.{needs}
 use Rattle.route_c.proofs.route_unpack_u32.Statement.{statement}
 use Rattle.route_c.proofs.route_unpack_u32.Tie as tie
@@ -13,7 +13,7 @@ of-unpacked-u32-requires : tie.Need-of-unpacked-u32-requires
 of-unpacked-u32-requires c κs = search needs
 
 returns : tie.Need-returns
-returns c = c .of-unpacked-u32 .ensures ∙ ap (λ (o : Outcome Reason ℕ). answerOf (map one o)) (c .before .unpack-little-endian-uint32 .ensures)
+returns c = c .of-unpacked-u32 .ensures ∙ ap (λ (o : Outcome Reason ℕ). answerOf (map oneValue o)) (c .before .unpack-little-endian-uint32 .ensures)
 
 pub route-unpack-u32-spec : {M : Type 1} → statement M
 route-unpack-u32-spec =

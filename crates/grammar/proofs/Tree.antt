@@ -1,0 +1,80 @@
+-- The tree of a node in a table that passes: it does not hang on the depth.
+use mathlib.Core.Path.{_≡_, refl, ap}
+use mathlib.Core.List.{List}
+use Prim.Native.Nat.{ℕ, zero, suc, _+_, _*_, _^_, _≤_, _<_}
+use native.Mathlib.Decide.{decLt}
+use native.Mathlib.Omega.{arith}
+use lib.ListN.{length, getD, List·getD-eq-default}
+use Rattle.packed.specs.Packed.{Below}
+use Rattle.value.specs.Kinds.{Kind, kindOf, constant, number, array, tuple, elements, union, other}
+use Rattle.value.specs.Tree.{G, Gs, gnil, gcons, seqG, ValidGrammar, ValidGrammars}
+use Rattle.grammar.specs.Table.{nodeCount, kindWord, firstWord, countWord, childWord}
+use Rattle.grammar.specs.Rule.{Passes}
+use Rattle.grammar.specs.Tree.{onlyChild, nodeTree, childTrees, treeTo, treeOf}
+
+-- the children's trees depend only on the trees of those children
+child-trees-same : (t : List ℕ) (r s : ℕ → G) (n i : ℕ) → ((j : ℕ) → i ≤ j → j < i + n → r (childWord t j) ≡ s (childWord t j)) → childTrees t r i n ≡ childTrees t s i n
+unfolding childTrees
+child-trees-same t r s zero i h = refl
+child-trees-same t r s (suc n) i h = rw (h i (omega arith) (omega arith), child-trees-same t r s n (suc i) (λ j a b. h j (omega arith) (omega arith)))
+
+tree-depth : (t : List ℕ) → Passes t → (n m k : ℕ) → k < nodeCount t → nodeCount t ≤ n + k → nodeCount t ≤ m + k → treeTo n t k ≡ treeTo m t k
+unfolding treeTo
+tree-depth t p zero m k h a b = absurd (omega arith)
+tree-depth t p (suc n) zero k h a b = absurd (omega arith)
+tree-depth t p (suc n) (suc m) k h a b =
+    ap (nodeTree (kindOf (kindWord t k))) (child-trees-same t (treeTo n t) (treeTo m t) (countWord t k) (firstWord t k) (λ j c d.
+    let x = p .node k h .children j (c, d) in
+    tree-depth t p n m (childWord t j) (x .1) (omega (arith, x .0)) (omega (arith, x .0))))
+
+-- a node's tree by its children's; so nodes that share a child share its tree
+pub tree-node : (t : List ℕ) → Passes t → (k : ℕ) → k < nodeCount t → treeOf t k ≡ nodeTree (kindOf (kindWord t k)) (childTrees t (treeOf t) (firstWord t k) (countWord t k))
+unfolding treeOf treeTo
+tree-node t p k h = tree-depth t p (nodeCount t) (suc (nodeCount t)) k h (omega arith) (omega arith)
+
+-- ---- GM's `ValidGrammar` of every tree of a table that passes
+
+trees-length : (t : List ℕ) (r : ℕ → G) (n i : ℕ) → length (seqG (childTrees t r i n)) ≡ n
+unfolding childTrees
+trees-length t r zero i = refl
+trees-length t r (suc n) i = ap suc (trees-length t r n (suc i))
+
+trees-valid : (t : List ℕ) (r : ℕ → G) → ((k : ℕ) → ValidGrammar (r k)) → (n i : ℕ) → ValidGrammars (childTrees t r i n)
+unfolding childTrees ValidGrammar
+trees-valid t r h zero i = tt
+trees-valid t r h (suc n) i = (h (childWord t i), trees-valid t r h n (suc i))
+
+only-valid : (gs : Gs) → ValidGrammars gs → ValidGrammar (onlyChild gs)
+unfolding ValidGrammar
+only-valid gnil h = tt
+only-valid (gcons g gs) h = h .0
+
+node-valid : (k : Kind) (gs : Gs) → length (seqG gs) < 2 ^ 64 → ValidGrammars gs → ValidGrammar (nodeTree k gs)
+unfolding nodeTree ValidGrammar
+node-valid constant gs l h = tt
+node-valid (number k) gs l h = tt
+node-valid array gs l h = only-valid gs h
+node-valid tuple gs l h = (l, h)
+node-valid (elements k) gs l h = tt
+node-valid union gs l h = (l, h)
+node-valid other gs l h = tt
+
+-- past the end of a table of words stands 0
+below-everywhere : (t : List ℕ) → Below (2 ^ 32) t → (j : ℕ) → getD t j 0 < 2 ^ 32
+below-everywhere t b j = go (decLt j (length t))
+  where
+    go : Dec (j < length t) → getD t j 0 < 2 ^ 32
+    go (yes l) = b j l
+    go (no l) = rw (List·getD-eq-default t 0 {n = j} (omega arith)) (omega arith)
+
+-- every count word is below 2^32, so below 2^64
+tree-to-valid : (t : List ℕ) → Below (2 ^ 32) t → (n k : ℕ) → ValidGrammar (treeTo n t k)
+unfolding treeTo ValidGrammar
+tree-to-valid t b zero k = tt
+tree-to-valid t b (suc n) k =
+    let e = trees-length t (treeTo n t) (countWord t k) (firstWord t k) in
+    node-valid (kindOf (kindWord t k)) (childTrees t (treeTo n t) (firstWord t k) (countWord t k)) (omega (arith, e, below-everywhere t b (3 + 3 * k))) (trees-valid t (treeTo n t) (tree-to-valid t b n) (countWord t k) (firstWord t k))
+
+pub tree-valid : (t : List ℕ) → Below (2 ^ 32) t → (k : ℕ) → ValidGrammar (treeOf t k)
+unfolding treeOf
+tree-valid t b k = tree-to-valid t b (nodeCount t) k

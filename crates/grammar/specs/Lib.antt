@@ -1,0 +1,4 @@
+pub mod Table
+pub mod Check
+pub mod Rule
+pub mod Tree
