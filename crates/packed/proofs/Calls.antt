@@ -1,18 +1,19 @@
 -- When bytes are present and when they have room, as the calls decide it.
-use mathlib.Core.Path.{_≡_, sym, ap, _∙_}
+use mathlib.Core.Path.{_≡_, refl, sym, ap, _∙_}
 use mathlib.Core.Bool.{true, false}
 use Prim.Native.Nat.{ℕ, _+_, _-_, _*_, _/_, _≤_, _<_}
 use native.Mathlib.Nat.{le-div-iff-mul-le, mul-comm, le-refl}
 use native.Mathlib.Omega.{arith}
 use lib.ListN.{length, take, drop}
+use lib.Seq.{take-all}
 use lib.Dec.{leb}
 use borrow.Author.Tests.{le-leb, lt-leb, leb-true}
 use mathlib.Core.List.{List}
 use Rattle.refusal.specs.Outcome.{Outcome, accepted, refused, test, map, Fills, Reason, reason, byte}
 use Rattle.refusal.proofs.Tests.{leb-iff}
 use Rattle.refusal.proofs.Outcome.{test-true, test-false, test-passed, fills-refused, fills-accepted}
-use Rattle.packed.specs.Packed.{present, room, unpackLittleEndian, unpackLittleEndianSeq, unpackAt, unpackSeqAt, put, putAt}
-use Rattle.packed.proofs.Laws.{length-unpackSeq, unpackSeq-take}
+use Rattle.packed.specs.Packed.{present, room, unpackLittleEndian, unpackLittleEndianSeq, packLittleEndianSeq, unpackAt, unpackSeqAt, put, putAt}
+use Rattle.packed.proofs.Laws.{length-unpackSeq, unpackSeq-take, length-packSeq}
 use Rattle.packed.proofs.Put.{put-whole}
 
 -- a count compared with the numbers that have room says what the product would
@@ -27,13 +28,9 @@ module _ (len index size : ℕ) where
   unfolding present
   present-index h = test-false _ _ (lt-leb index len h)
 
-  pub present-missing : index ≤ len → leb (index + size) len ≡ false → present len index size ≡ refused (reason 9 (byte index))
+  pub present-inside : index ≤ len → present len index size ≡ test (leb (index + size) len) (reason 9 (byte index)) accepted
   unfolding present
-  present-missing h l = test-true _ _ (le-leb index len h) ∙ test-false _ _ l
-
-  pub present-done : index ≤ len → leb (index + size) len ≡ true → present len index size ≡ accepted tt
-  unfolding present
-  present-done h l = test-true _ _ (le-leb index len h) ∙ test-true _ _ l
+  present-inside h = test-true _ _ (le-leb index len h)
 
   pub present-fits : accepted tt ≡ present len index size → index + size ≤ len
   unfolding present
@@ -41,13 +38,9 @@ module _ (len index size : ℕ) where
       let p : leb index len ≡ true = test-passed (leb index len) _ _ tt (sym h) in
       leb-true (index + size) len (test-passed (leb (index + size) len) (reason 9 (byte index)) accepted tt (sym (test-true _ _ p) ∙ sym h))
 
-  pub room-missing : leb (index + size) len ≡ false → room len index size ≡ refused (reason 17 (byte len))
+  pub room-test : room len index size ≡ test (leb (index + size) len) (reason 17 (byte len)) accepted
   unfolding room
-  room-missing l = test-false _ _ l
-
-  pub room-done : leb (index + size) len ≡ true → room len index size ≡ accepted tt
-  unfolding room
-  room-done l = test-true _ _ l
+  room-test = refl
 
   pub room-fits : accepted tt ≡ room len index size → index + size ≤ len
   unfolding room
@@ -79,6 +72,14 @@ module _ (w : ℕ) (s : List ℕ) (index : ℕ) where
         fills-accepted (λ bs. unpackLittleEndianSeq w bs (length numbers)) numbers (ap (bytes (w * length numbers)) h)
         (f ∙ put-whole numbers (unpackLittleEndianSeq w (drop index s) i) l ∙ ap (unpackLittleEndianSeq w (drop index s)) e ∙ sym (unpackSeq-take w (length numbers) (w * length numbers) (drop index s) (le-refl (w * length numbers))))
 
+-- the invariant of the loop that unpacks a sequence: the bytes are there, and the slice holds the first i numbers before what it held
+abbrev pub UnpackedTo : ℕ → List ℕ → ℕ → List ℕ → List ℕ → ℕ → Type 0
+UnpackedTo w packed index entry numbers i = (i ≤ length entry) × (length numbers ≡ length entry) × (index + w * length entry ≤ length packed) × (numbers ≡ put entry 0 (unpackLittleEndianSeq w (drop index packed) i))
+
+-- of the loop that packs one: there is room, and exactly the first i numbers are put
+abbrev pub PackedTo : ℕ → List ℕ → List ℕ → ℕ → List ℕ → ℕ → Type 0
+PackedTo w numbers entry index out i = (i ≤ length numbers) × (length out ≡ length entry) × (index + w * length numbers ≤ length entry) × (out ≡ put entry index (packLittleEndianSeq w (take i numbers)))
+
 -- putting bytes that have room, or refused
 module _ (out : List ℕ) (index : ℕ) (bs : List ℕ) (size : ℕ) (l : length bs ≡ size) where
   pub put-refused : {x : Reason} → refused x ≡ room (length out) index size → Fills (putAt out index bs) (refused x) out out
@@ -86,3 +87,13 @@ module _ (out : List ℕ) (index : ℕ) (bs : List ℕ) (size : ℕ) (l : length
 
   pub put-accepted : {exit : List ℕ} → accepted tt ≡ room (length out) index size → exit ≡ put out index bs → Fills (putAt out index bs) (accepted tt) out exit
   put-accepted h e = rw l (fills-accepted (λ _. put out index bs) out h e)
+
+-- the same of a sequence, whose loop has packed all i numbers
+module _ (w : ℕ) (numbers out : List ℕ) (index : ℕ) where
+  pub packSeq-refused : {x : Reason} → refused x ≡ room (length out) index (w * length numbers) → Fills (putAt out index (packLittleEndianSeq w numbers)) (refused x) out out
+  packSeq-refused h = put-refused out index (packLittleEndianSeq w numbers) (w * length numbers) (length-packSeq w numbers) h
+
+  pub packSeq-accepted : {exit : List ℕ} (i : ℕ) → i ≡ length numbers → exit ≡ put out index (packLittleEndianSeq w (take i numbers)) → accepted tt ≡ room (length out) index (w * length numbers) → Fills (putAt out index (packLittleEndianSeq w numbers)) (accepted tt) out exit
+  packSeq-accepted i e f h =
+      put-accepted out index (packLittleEndianSeq w numbers) (w * length numbers) (length-packSeq w numbers) h
+      (f ∙ ap (λ (ns : List ℕ). put out index (packLittleEndianSeq w ns)) (take-all i numbers (omega arith)))

@@ -6,11 +6,11 @@ use Prim.Native.Nat.{ℕ, zero, suc, _+_, _-_, _*_, _/_, _%_, _^_, _<_, _≤_, s
 use native.Mathlib.Nat.{pow-suc, pow-succ', pow-le-pow-right, mul-le-mul-right, mul-left-comm, div-div-eq-div-mul, div-one, lt-of-lt-of-le, le-of-suc-le-suc, mul-suc, mul-zero, add-comm, mod-eq-of-lt, le-refl}
 use native.Mathlib.Numerals.{add-one}
 use native.Mathlib.Omega.{arith}
-use lib.ListN.{length, getD, take, drop, length-append, length-take, length-drop, take-append-drop}
+use lib.ListN.{length, getD, take, drop, length-append, length-drop}
 use lib.Dec.{lit<}
 use lib.Pow.{pow-pos, pow-add, shl-exact}
 use lib.Arith.{mod-mul}
-use lib.Seq.{getD-drop, getD-take, take-all, drop-drop, take-take, take-add, take-at, drop-at, length-take-le, take-append-le, drop-append-le}
+use lib.Seq.{getD-drop, getD-take, take-all, drop-drop, take-take, take-add, take-at, drop-at}
 use Rattle.packed.specs.Packed.{Bytes, Below, unpackLittleEndian, unpackLittleEndianSeq, packLittleEndian, packLittleEndianSeq}
 
 pub bytes-drop : (n : ℕ) (bs : List ℕ) → Bytes bs → Bytes (drop n bs)
@@ -32,7 +32,7 @@ byte-weight (suc i) =
 pow-256 : (i : ℕ) → 0 < 256 ^ i
 pow-256 i = subst (λ (n : ℕ). 0 < n) (byte-weight i) (pow-pos (8 * i))
 
--- ---- unpacking
+-- Unpacking.
 
 -- the sum of w bytes is below 256 to the power w
 pub unpack-below : (w : ℕ) (bs : List ℕ) → Bytes bs → unpackLittleEndian w bs < 256 ^ w
@@ -74,7 +74,7 @@ module _ (bs : List ℕ) (index i : ℕ) (h : Bytes bs) (l : i < 8) where
   unpack-fits = let s : i + 1 ≤ 8 = omega arith in
       lt-of-lt-of-le (unpack-below (i + 1) (drop index bs) (bytes-drop index bs h)) (pow-le-pow-right {n = 256} (lit< tt) s)
 
--- ---- packing
+-- Packing.
 
 pub length-pack : (w n : ℕ) → length (packLittleEndian w n) ≡ w
 unfolding packLittleEndian
@@ -99,7 +99,7 @@ pack-snoc (suc w) n =
 pub rest-next : (n i : ℕ) → n / 256 ^ i / 256 ≡ n / 256 ^ (i + 1)
 rest-next n i = rw (div-div-eq-div-mul, add-one, pow-suc 256 i)
 
--- ---- each undoes the other
+-- Each undoes the other.
 
 -- the packed bytes sum to the number
 pub unpack-pack : (w n : ℕ) → unpackLittleEndian w (packLittleEndian w n) ≡ n % 256 ^ w
@@ -128,7 +128,7 @@ pack-unique w n bs below h l = (
   λ (e : bs ≡ packLittleEndian w n). ap (unpackLittleEndian w) e ∙ unpack-packed w n below,
 )
 
--- ---- numbers one behind the other
+-- Numbers one behind the other.
 
 pub length-unpackSeq : (w : ℕ) (s : List ℕ) (n : ℕ) → length (unpackLittleEndianSeq w s n) ≡ n
 unfolding unpackLittleEndianSeq

@@ -1,12 +1,12 @@
 -- Bytes put into an output at an index, as a loop puts them.
-use mathlib.Core.Path.{_≡_, refl, sym, ap, _∙_}
+use mathlib.Core.Path.{_≡_, sym, ap, _∙_}
 use mathlib.Core.List.{List, [], _∷_, _++_, append-assoc, append-nil}
-use Prim.Native.Nat.{ℕ, zero, suc, _+_, _-_, _*_, _/_, _%_, _^_, _≤_, _<_}
+use Prim.Native.Nat.{ℕ, suc, _+_, _-_, _*_, _/_, _%_, _^_, _≤_, _<_}
 use native.Mathlib.Nat.{add-zero, add-assoc, mul-suc, mul-le-mul-left}
 use native.Mathlib.Numerals.{add-one}
 use native.Mathlib.Omega.{arith}
 use lib.ListN.{length, getD, set, take, drop, length-append, length-drop, take-append-drop, drop-of-length-le}
-use lib.Seq.{set-split, take-suc, take-at, drop-at, length-take-le, drop-drop, take-all}
+use lib.Seq.{set-split, take-suc, take-at, drop-at, length-take-le, drop-drop}
 use Rattle.packed.specs.Packed.{put, packLittleEndian, packLittleEndianSeq, unpackLittleEndian, unpackLittleEndianSeq}
 use Rattle.packed.proofs.Laws.{length-pack, pack-snoc, length-packSeq, packSeq-append, packSeq-one, length-unpackSeq, unpackSeq-snoc}
 

@@ -10,6 +10,7 @@ ghost use Rattle.packed.specs.Meaning.{unpackedU32, unpackedU64};
 use refusal::Answer;
 use refusal::Refusal;
 
+// The answers of the unpackers of one number.
 pub enum UnpackedU32 {
     Number(u32),
     Refused(Refusal),
@@ -38,22 +39,20 @@ fn present(len: usize, index: usize, count: usize, width: usize) -> Answer
     if len < index {
         return Answer::Refused(refusal::at_byte(refusal::INDEX_PAST_END, index));
     }
-    if within(len, index, count, width) {
-        Answer::Accepted
-    } else {
-        Answer::Refused(refusal::at_byte(refusal::BYTES_MISSING, index))
-    }
+    refusal::accept_if(
+        within(len, index, count, width),
+        refusal::at_byte(refusal::BYTES_MISSING, index),
+    )
 }
 
 fn room(len: usize, index: usize, count: usize, width: usize) -> Answer
     requires { ⌜ 0 < width ⌝ }
     ensures { λ r. ⌜ outcomeOf r ≡ roomOf len index (width * count) ⌝ }
 {
-    if within(len, index, count, width) {
-        Answer::Accepted
-    } else {
-        Answer::Refused(refusal::at_byte(refusal::OUTPUT_TOO_SHORT, len))
-    }
+    refusal::accept_if(
+        within(len, index, count, width),
+        refusal::at_byte(refusal::OUTPUT_TOO_SHORT, len),
+    )
 }
 
 // The number in the width bytes from the index on: after i bytes the sum of these i.
@@ -126,7 +125,6 @@ pub fn pack_little_endian_uint64_into_array(n: u64, out: &mut [u8], index: usize
     }
 }
 
-// As many numbers as the lent slice holds.
 pub fn unpack_little_endian_uint32_seq(packed: &[u8], index: usize, numbers: &mut [u32]) -> Answer
     ensures { λ r. ⌜ Fills (unpackSeqAt 4 (now (packed .entry)) index (length (now (numbers .entry)))) (outcomeOf r) (now (numbers .entry)) (now (numbers .exit)) ⌝ }
 {
@@ -199,7 +197,7 @@ pub fn pack_little_endian_uint64_seq_into_array(
     }
 }
 
-// The bytes of src, which GM's `NativeArrays.CopySeqIntoArray` copies.
+// Puts the bytes of src at the index: GM's `NativeArrays.CopySeqIntoArray`.
 pub fn copy_seq_into_array(src: &[u8], out: &mut [u8], index: usize) -> Answer
     ensures { λ r. ⌜ Fills (putAt (now (out .entry)) index (now (src .entry))) (outcomeOf r) (now (out .entry)) (now (out .exit)) ⌝ }
 {

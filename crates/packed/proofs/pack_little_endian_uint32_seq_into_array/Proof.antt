@@ -1,21 +1,17 @@
--- The loop's invariant: exactly the first i numbers are put.
-use mathlib.Core.Path.{_≡_, refl, sym, ap, _∙_}
-use mathlib.Core.List.{List}
-use Prim.Native.Nat.{ℕ, _+_, _-_, _*_, _≤_}
+use mathlib.Core.Path.{refl, sym, _∙_}
+use Prim.Native.Nat.{_-_, _*_}
 use native.Mathlib.Omega.{arith}
-use lib.ListN.{length, take}
-use lib.Seq.{take-all}
-use Rattle.packed.specs.Packed.{packLittleEndianSeq, put}
-use Rattle.packed.proofs.Laws.{length-packSeq}
+use lib.ListN.{length}
+use Rattle.packed.specs.Packed.{packLittleEndianSeq}
 use Rattle.packed.proofs.Put.{put-nothing, packSeq-next}
 use Rattle.refusal.proofs.Meaning.{done, stopped}
-use Rattle.packed.proofs.Calls.{room-fits, put-refused, put-accepted}
+use Rattle.packed.proofs.Calls.{PackedTo, room-fits, packSeq-refused, packSeq-accepted}
 use borrow.Author.Needs.{needs}
 use Rattle.packed.proofs.pack_little_endian_uint32_seq_into_array.Statement.{statement}
 use Rattle.packed.proofs.pack_little_endian_uint32_seq_into_array.Tie as tie
 
 abbrev Inv-loop : tie.InvT-loop
-Inv-loop numbers out₀ index i₀ out i = (i ≤ length numbers) × (length out ≡ length out₀) × (index + 4 * length numbers ≤ length out₀) × (out ≡ put out₀ index (packLittleEndianSeq 4 (take i numbers)))
+Inv-loop numbers out₀ index i₀ out i = PackedTo 4 numbers out₀ index out i
 
 abbrev μ-loop : tie.MeasureT-loop
 μ-loop numbers out₀ index i₀ out i = length numbers - i
@@ -69,7 +65,7 @@ loop-again c =
 returns : tie.Need-returns Inv-loop μ-loop
 returns c =
     let a = c .before .before .before .before .before .before .args in
-    put-refused (a .out .now) (a .index) (packLittleEndianSeq 4 (a .numbers .now)) (4 * length (a .numbers .now)) (length-packSeq 4 (a .numbers .now)) (stopped (c .before .r .given .1) (c .before .before .before .room .ensures))
+    packSeq-refused 4 (a .numbers .now) (a .out .now) (a .index) (stopped (c .before .r .given .1) (c .before .before .before .room .ensures))
 
 same-length : tie.Need-same-length Inv-loop μ-loop
 same-length c = c .before .loop .inv .1
@@ -78,8 +74,7 @@ returns-2 : tie.Need-returns-2 Inv-loop μ-loop
 returns-2 c =
     let a = c .before .before .before .before .before .before .before .args in
     let l = c .before .loop in
-    put-accepted (a .out .now) (a .index) (packLittleEndianSeq 4 (a .numbers .now)) (4 * length (a .numbers .now)) (length-packSeq 4 (a .numbers .now)) (done (c .before .before .enum-told .given .1) (c .before .before .before .before .room .ensures))
-    (l .inv .3 ∙ ap (λ (ns : List ℕ). put (a .out .now) (a .index) (packLittleEndianSeq 4 ns)) (take-all (l .i) (a .numbers .now) (omega arith)))
+    packSeq-accepted 4 (a .numbers .now) (a .out .now) (a .index) (l .i) (omega arith) (l .inv .3) (done (c .before .before .enum-told .given .1) (c .before .before .before .before .room .ensures))
 
 pub pack-little-endian-uint32-seq-into-array-spec : {M : Type 1} → statement M
 pack-little-endian-uint32-seq-into-array-spec =

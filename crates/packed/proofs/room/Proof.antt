@@ -1,7 +1,7 @@
 use mathlib.Core.Path.{sym, ap, _∙_}
 use Prim.Native.Nat.{_*_}
-use Rattle.refusal.specs.Outcome.{refused}
-use Rattle.packed.proofs.Calls.{room-missing, room-done}
+use Rattle.refusal.specs.Outcome.{Reason, accepted, test}
+use Rattle.packed.proofs.Calls.{room-test}
 use borrow.Author.Needs.{needs}
 use Rattle.packed.proofs.room.Statement.{statement}
 use Rattle.packed.proofs.room.Tie as tie
@@ -12,15 +12,15 @@ within-requires c κs = search needs
 at-byte-requires : tie.Need-at-byte-requires
 at-byte-requires c κs = search needs
 
+accept-if-requires : tie.Need-accept-if-requires
+accept-if-requires c κs = search needs
+
 returns : tie.Need-returns
 returns c =
-    let a = c .before .before .args in
-    sym (room-done (a .len) (a .index) (a .width * a .count) (sym (c .before .within .ensures) ∙ c .if1 .taken))
-
-returns-2 : tie.Need-returns-2
-returns-2 c =
     let a = c .before .before .before .args in
-    ap refused (c .at-byte .ensures) ∙ sym (room-missing (a .len) (a .index) (a .width * a .count) (sym (c .before .before .within .ensures) ∙ c .before .if1 .left))
+    c .accept-if .ensures
+    ∙ ap (λ (r : Reason). test (c .before .before .within .result) r accepted) (c .before .at-byte .ensures)
+    ∙ rw (c .before .before .within .ensures) (sym (room-test (a .len) (a .index) (a .width * a .count)))
 
 pub room-spec : {M : Type 1} → statement M
-room-spec = tie.close (tie.spec within-requires at-byte-requires returns returns-2)
+room-spec = tie.close (tie.spec within-requires at-byte-requires accept-if-requires returns)

@@ -3,7 +3,7 @@ use mathlib.Core.Path.{_≡_, refl, sym, ap, _∙_}
 use Prim.Native.Nat.{ℕ, _+_, _-_, _*_, _%_, _^_, _≤_}
 use native.Mathlib.Nat.{le-refl}
 use native.Mathlib.Omega.{arith}
-use lib.ListN.{getD, take, drop}
+use lib.ListN.{getD, drop}
 use Rattle.packed.specs.Packed.{unpackLittleEndian}
 use Rattle.packed.proofs.Laws.{unpack-next, unpack-fits, unpack-take}
 use borrow.Author.Needs.{needs}

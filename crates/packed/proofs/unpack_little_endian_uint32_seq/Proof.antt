@@ -1,19 +1,18 @@
--- The loop's invariant: the slice holds the first i numbers, and behind them what it held.
-use mathlib.Core.Path.{_≡_, refl, sym}
-use Prim.Native.Nat.{_+_, _-_, _*_, _≤_}
+use mathlib.Core.Path.{refl, sym}
+use Prim.Native.Nat.{_+_, _-_, _*_}
 use native.Mathlib.Omega.{arith}
-use lib.ListN.{length, drop, length-set}
-use Rattle.packed.specs.Packed.{unpackLittleEndianSeq, put}
+use lib.ListN.{length, length-set}
+use Rattle.packed.specs.Packed.{unpackLittleEndianSeq}
 use Rattle.packed.proofs.Laws.{unpack-at-below}
 use Rattle.packed.proofs.Put.{put-nothing, unpackSeq-next}
 use Rattle.refusal.proofs.Meaning.{done, stopped}
-use Rattle.packed.proofs.Calls.{present-fits, unpackSeq-refused, unpackSeq-accepted}
+use Rattle.packed.proofs.Calls.{UnpackedTo, present-fits, unpackSeq-refused, unpackSeq-accepted}
 use borrow.Author.Needs.{needs}
 use Rattle.packed.proofs.unpack_little_endian_uint32_seq.Statement.{statement}
 use Rattle.packed.proofs.unpack_little_endian_uint32_seq.Tie as tie
 
 abbrev Inv-loop : tie.InvT-loop
-Inv-loop packed index numbers₀ i₀ numbers i = (i ≤ length numbers₀) × (length numbers ≡ length numbers₀) × (index + 4 * length numbers₀ ≤ length packed) × (numbers ≡ put numbers₀ 0 (unpackLittleEndianSeq 4 (drop index packed) i))
+Inv-loop packed index numbers₀ i₀ numbers i = UnpackedTo 4 packed index numbers₀ numbers i
 
 abbrev μ-loop : tie.MeasureT-loop
 μ-loop packed index numbers₀ i₀ numbers i = length numbers₀ - i
