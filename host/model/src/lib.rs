@@ -5,8 +5,10 @@
 #![forbid(unsafe_code)]
 #![deny(missing_docs)]
 
+mod grammar;
 mod packed;
 mod refusal;
 
+pub use grammar::check_grammar;
 pub use packed::{pack, pack_seq, unpack, unpack_seq};
 pub use refusal::{Place, Refusal};

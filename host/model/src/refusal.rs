@@ -17,6 +17,14 @@ pub struct Refusal {
     pub place: Place,
 }
 
+/// The refusal of this number at a word of the grammar.
+pub(crate) fn at_word(number: u64, word: usize) -> Refusal {
+    Refusal {
+        number,
+        place: Place::Word(word as u64),
+    }
+}
+
 /// The refusal of this number at a byte.
 pub(crate) fn at_byte(number: u64, byte: usize) -> Refusal {
     Refusal {
