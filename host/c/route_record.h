@@ -69,6 +69,22 @@ route_answer route_pack_u32_seq(const uint32_t *numbers, size_t numbers_len, uin
 route_answer route_pack_u64_seq(const uint64_t *numbers, size_t numbers_len, uint8_t *out,
                                 size_t out_len, size_t index);
 
+/* Grammar tables: word 0 is N, the node count. Node k is the words kind, first and count, from word
+ * 1 + 3k on. Word 1 + 3N is M; M child words follow, and the table ends. Node 0 is the root. The
+ * children of a node are the child words first to first + count - 1, each a node's number. Kinds:
+ * 0 constant, 1 uint32, 2 uint64, 3 array, 4 tuple, 5 array of bytes, 6 array of uint32, 7 array of
+ * uint64, 8 tagged union. */
+
+/* Accepts the words that are a sound table; child words of no node are free. Changes nothing.
+ * Refused: 1 at word 0, when words_len is 0, or N is 0 or above 256;
+ * 2 at word 1 + 3N, when M's word is missing, M is above 1024, or words_len is not 2 + 3N + M;
+ * then, node after node, from node 0 on:
+ * 3 at word 1 + 3k, when the kind of node k is above 8;
+ * 4 at word 2 + 3k, when its kind is 3 and its count not 1, when its kind is 0, 1, 2, 5, 6 or 7 and
+ * its first or count not 0, or when first + count is above M;
+ * 5 at the word of its first child whose number is not above k or not below N. */
+route_answer route_check_grammar(const uint32_t *words, size_t words_len);
+
 #ifdef __cplusplus
 }
 #endif

@@ -42,6 +42,11 @@ static int refused(route_answer answer, uint64_t number, uint64_t byte)
     return answer_is(answer, number, 2, byte, 0);
 }
 
+static int refused_at_word(route_answer answer, uint64_t number, uint64_t word)
+{
+    return answer_is(answer, number, 1, word, 0);
+}
+
 /* The buffer whose inner LENT bytes the calls may change. MARGIN bytes at each end show a change
  * outside. */
 enum { MARGIN = 8, LENT = 40, WHOLE = MARGIN + LENT + MARGIN, FILL = 0xa5 };
@@ -232,6 +237,142 @@ static void test_pack_u64_seq(void)
           unchanged());
 }
 
+/* The answer on a copy of the table, with a check that the call leaves the copy as it was. */
+static route_answer answer_on(const uint32_t *table, size_t length)
+{
+    static uint32_t words[2048];
+    memset(words, FILL, sizeof words);
+    memcpy(words, table, length * sizeof *words);
+    const route_answer answer = route_check_grammar(words, length);
+    CHECK(memcmp(words, table, length * sizeof *words) == 0);
+    return answer;
+}
+
+/* The answer on these words. */
+#define ANSWER(...)                            \
+    answer_on((const uint32_t[]){__VA_ARGS__}, \
+              sizeof((const uint32_t[]){__VA_ARGS__}) / sizeof(uint32_t))
+
+/* The answer on the first words, as many as length says, of n nodes 0 0 0 and m child words 0. */
+static route_answer answer_on_constants(uint32_t n, uint32_t m, size_t length)
+{
+    uint32_t table[2048] = {n};
+    table[1 + 3 * n] = m;
+    return answer_on(table, length);
+}
+
+static void test_check_grammar_layout(void)
+{
+    CHECK(refused_at_word(route_check_grammar(NULL, 0), 1, 0));
+    CHECK(refused_at_word(ANSWER(0), 1, 0));
+    CHECK(refused_at_word(ANSWER(0, 0), 1, 0));
+    CHECK(refused_at_word(ANSWER(257), 1, 0));
+    CHECK(refused_at_word(ANSWER(UINT32_MAX), 1, 0));
+    /* 1 + 3N and 2 + 3N would wrap to 0 in 32 bits */
+    CHECK(refused_at_word(ANSWER(0x55555555, 0), 1, 0));
+    CHECK(refused_at_word(ANSWER(0xaaaaaaaa, 0), 1, 0));
+    CHECK(accepted(answer_on_constants(256, 0, 770)));
+    CHECK(refused_at_word(answer_on_constants(257, 0, 773), 1, 0));
+
+    /* without M's word */
+    CHECK(refused_at_word(ANSWER(1), 2, 4));
+    CHECK(refused_at_word(ANSWER(256), 2, 769));
+    CHECK(refused_at_word(ANSWER(1, 0, 0, 0), 2, 4));
+    CHECK(refused_at_word(answer_on_constants(256, 0, 769), 2, 769));
+
+    CHECK(accepted(answer_on_constants(1, 1024, 1029)));
+    CHECK(accepted(answer_on_constants(256, 1024, 1794)));
+    CHECK(refused_at_word(answer_on_constants(1, 1025, 1030), 2, 4));
+    CHECK(refused_at_word(answer_on_constants(256, 1025, 1795), 2, 769));
+    CHECK(refused_at_word(ANSWER(1, 0, 0, 0, UINT32_MAX), 2, 4));
+
+    CHECK(refused_at_word(ANSWER(1, 0, 0, 0, 1), 2, 4));
+    CHECK(refused_at_word(ANSWER(1, 0, 0, 0, 0, 0), 2, 4));
+    CHECK(refused_at_word(ANSWER(3, 4, 0, 2, 1, 0, 0, 5, 0, 0, 2, 1), 2, 10));
+    CHECK(refused_at_word(ANSWER(3, 4, 0, 2, 1, 0, 0, 5, 0, 0, 2, 1, 2, 2), 2, 10));
+    CHECK(refused_at_word(answer_on_constants(256, 1024, 1793), 2, 769));
+    CHECK(refused_at_word(answer_on_constants(256, 1024, 1795), 2, 769));
+}
+
+/* The answer on a table with this node 1 between two constants, and with the child words 2 2. */
+static route_answer answer_on_node(uint32_t kind, uint32_t first, uint32_t count)
+{
+    return ANSWER(3, 0, 0, 0, kind, first, count, 0, 0, 0, 2, 2, 2);
+}
+
+static void test_check_grammar_nodes(void)
+{
+    static const uint32_t leaves[] = {0, 1, 2, 5, 6, 7}, lists[] = {4, 8};
+
+    CHECK(refused_at_word(answer_on_node(9, 0, 0), 3, 4));
+    CHECK(refused_at_word(answer_on_node(256, 0, 0), 3, 4));
+    CHECK(refused_at_word(answer_on_node(UINT32_MAX, 0, 0), 3, 4));
+
+    for (size_t i = 0; i < sizeof leaves / sizeof *leaves; i++) {
+        CHECK(accepted(answer_on_node(leaves[i], 0, 0)));
+        CHECK(refused_at_word(answer_on_node(leaves[i], 1, 0), 4, 5));
+        CHECK(refused_at_word(answer_on_node(leaves[i], 0, 1), 4, 5));
+    }
+
+    CHECK(accepted(answer_on_node(3, 0, 1)));
+    CHECK(accepted(answer_on_node(3, 1, 1)));
+    CHECK(refused_at_word(answer_on_node(3, 2, 1), 4, 5));
+    CHECK(refused_at_word(answer_on_node(3, 0, 0), 4, 5));
+    CHECK(refused_at_word(answer_on_node(3, 0, 2), 4, 5));
+    CHECK(refused_at_word(answer_on_node(3, UINT32_MAX, 1), 4, 5));
+
+    for (size_t i = 0; i < sizeof lists / sizeof *lists; i++) {
+        CHECK(accepted(answer_on_node(lists[i], 0, 0)));
+        CHECK(accepted(answer_on_node(lists[i], 2, 0)));
+        CHECK(refused_at_word(answer_on_node(lists[i], 3, 0), 4, 5));
+        CHECK(accepted(answer_on_node(lists[i], 0, 2)));
+        CHECK(accepted(answer_on_node(lists[i], 1, 1)));
+        CHECK(refused_at_word(answer_on_node(lists[i], 1, 2), 4, 5));
+        CHECK(refused_at_word(answer_on_node(lists[i], 0, 3), 4, 5));
+        /* first + count would wrap in 32 bits */
+        CHECK(refused_at_word(answer_on_node(lists[i], 1, UINT32_MAX), 4, 5));
+        CHECK(refused_at_word(answer_on_node(lists[i], UINT32_MAX, 2), 4, 5));
+        CHECK(refused_at_word(answer_on_node(lists[i], 0x80000000, 0x80000000), 4, 5));
+    }
+}
+
+static void test_check_grammar_children(void)
+{
+    /* a tuple of a uint32 and an array of bytes; shared children; an array in a union */
+    CHECK(accepted(ANSWER(3, 4, 0, 2, 1, 0, 0, 5, 0, 0, 2, 1, 2)));
+    CHECK(accepted(ANSWER(3, 4, 0, 3, 8, 1, 2, 7, 0, 0, 3, 1, 2, 2)));
+    CHECK(accepted(ANSWER(3, 8, 0, 1, 3, 1, 1, 0, 0, 0, 2, 1, 2)));
+
+    /* the child is its node; is below it; is N; is far above */
+    CHECK(refused_at_word(ANSWER(1, 4, 0, 1, 1, 0), 5, 5));
+    CHECK(refused_at_word(ANSWER(3, 0, 0, 0, 4, 0, 1, 0, 0, 0, 1, 1), 5, 11));
+    CHECK(refused_at_word(ANSWER(3, 0, 0, 0, 4, 0, 1, 0, 0, 0, 1, 0), 5, 11));
+    CHECK(refused_at_word(ANSWER(2, 3, 0, 1, 0, 0, 0, 1, 2), 5, 8));
+    CHECK(refused_at_word(ANSWER(2, 8, 0, 1, 0, 0, 0, 1, UINT32_MAX), 5, 8));
+
+    /* the first bad one of three; unused child words before and behind the used one */
+    CHECK(refused_at_word(ANSWER(2, 4, 0, 3, 0, 0, 0, 3, 1, 0, 2), 5, 9));
+    CHECK(accepted(ANSWER(2, 4, 1, 1, 0, 0, 0, 3, 0, 1, UINT32_MAX)));
+    CHECK(accepted(ANSWER(2, 4, 1, 0, 0, 0, 0, 3, 0, 9, UINT32_MAX)));
+}
+
+static void test_check_grammar_order(void)
+{
+    /* 1 before 2; 2 before 3; 3 before 4; 4 before 5 */
+    CHECK(refused_at_word(ANSWER(0, 1, 1, 1, 9), 1, 0));
+    CHECK(refused_at_word(ANSWER(1, 9, 0, 0, 1), 2, 4));
+    CHECK(refused_at_word(ANSWER(1, 9, 1, 1, 0), 3, 1));
+    CHECK(refused_at_word(ANSWER(1, 3, 0, 2, 2, 0, 0), 4, 2));
+
+    /* 4 of node 0, then 5 of node 0, before 3 of node 1 */
+    CHECK(refused_at_word(ANSWER(2, 4, 0, 2, 9, 0, 0, 1, 1), 4, 2));
+    CHECK(refused_at_word(ANSWER(2, 4, 0, 1, 9, 0, 0, 1, 2), 5, 8));
+    CHECK(refused_at_word(ANSWER(2, 4, 0, 1, 9, 0, 0, 1, 1), 3, 4));
+
+    /* nodes 0 and 1 both have a bad child, that of node 1 in the earlier word */
+    CHECK(refused_at_word(ANSWER(2, 4, 1, 1, 4, 0, 1, 2, 1, 0), 5, 9));
+}
+
 int main(void)
 {
     /* so that a call that ends the program leaves the lines before it */
@@ -244,6 +385,10 @@ int main(void)
     test_unpack_u64_seq();
     test_pack_u32_seq();
     test_pack_u64_seq();
+    test_check_grammar_layout();
+    test_check_grammar_nodes();
+    test_check_grammar_children();
+    test_check_grammar_order();
     printf("%u passed, %u failed\n", passed, failed);
     return failed != 0 || passed == 0;
 }

@@ -1,14 +1,19 @@
 //! Comparison of the library, called through its bindings, with the model. A comparison runs one
-//! case through both, panics with the case where they differ, and says whether it was accepted.
+//! case through both, panics with the case where they differ, and gives the answer or whether the
+//! case was accepted.
 
 #![forbid(unsafe_code)]
 #![deny(missing_docs)]
 
+mod grammar;
 mod packed;
 mod random;
+mod table;
 
+pub use grammar::check_grammar;
 pub use packed::{narrow, Calls, Number, MARGIN, U32, U64};
 pub use random::Random;
+pub use table::Table;
 
 /// The refusal of the model in the bindings' type.
 fn refusal(of_model: model::Refusal) -> route_record::Refusal {

@@ -1,5 +1,7 @@
 //! Random numbers that are the same in every run: SplitMix64.
 
+use std::ops::RangeInclusive;
+
 /// A generator, started from a seed.
 pub struct Random(u64);
 
@@ -21,6 +23,21 @@ impl Random {
     /// A number below `bound`, which is above 0.
     pub fn below(&mut self, bound: usize) -> usize {
         (self.number() % bound as u64) as usize
+    }
+
+    /// A number of the range, which is not empty: each end in at least a quarter of all draws.
+    pub fn within(&mut self, range: RangeInclusive<usize>) -> usize {
+        let (low, high) = (*range.start(), *range.end());
+        match self.below(4) {
+            0 => low,
+            1 => high,
+            _ => low + self.below(high - low + 1),
+        }
+    }
+
+    /// One of the choices.
+    pub fn pick<T: Copy>(&mut self, choices: &[T]) -> T {
+        choices[self.below(choices.len())]
     }
 
     /// This many random bytes.

@@ -45,6 +45,7 @@ extern "C" {
         out_len: usize,
         index: usize,
     ) -> Answer;
+    fn route_check_grammar(words: *const u32, words_len: usize) -> Answer;
 }
 
 pub fn unpack_u32(packed: &[u8], index: usize) -> Answer {
@@ -93,4 +94,9 @@ pub fn pack_u64_seq(numbers: &[u64], out: &mut [u8], index: usize) -> Answer {
     // SAFETY: each pointer and length are those of one slice; `numbers`, aligned for u64, is only
     // read, and `&mut` keeps `out` apart from it.
     unsafe { route_pack_u64_seq(numbers.as_ptr(), numbers.len(), into, length, index) }
+}
+
+pub fn check_grammar(words: &[u32]) -> Answer {
+    // SAFETY: pointer and length are those of one slice; it is aligned for u32 and only read.
+    unsafe { route_check_grammar(words.as_ptr(), words.len()) }
 }

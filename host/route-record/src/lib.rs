@@ -18,9 +18,11 @@
 
 #[allow(unsafe_code)]
 mod ffi;
+mod grammar;
 mod packed;
 mod refusal;
 
+pub use grammar::check_grammar;
 pub use packed::{
     pack_u32, pack_u32_seq, pack_u64, pack_u64_seq, unpack_u32, unpack_u32_seq, unpack_u64,
     unpack_u64_seq,

@@ -1,0 +1,79 @@
+//! Random grammar tables: sound ones, and a fault in one word.
+
+use crate::Random;
+
+/// The kinds, those with children more often than the others.
+const KINDS: [u32; 14] = [0, 1, 2, 5, 6, 7, 3, 3, 4, 4, 4, 8, 8, 8];
+
+/// A grammar table.
+pub struct Table {
+    /// Kind, first and count of each node.
+    pub nodes: Vec<[u32; 3]>,
+    /// The child words.
+    pub children: Vec<u32>,
+}
+
+impl Table {
+    /// A random table of `n` nodes and `m` child words, sound if these counts are within their
+    /// limits. Nodes share child words; child words of no node hold anything.
+    pub fn sound(random: &mut Random, n: usize, m: usize) -> Table {
+        let mut nodes = vec![[0; 3]; n];
+        let mut children = vec![None; m];
+        // From the last node to the root: a child of a later node is also above this one.
+        for k in (0..n).rev() {
+            let most = if k + 1 < n { m } else { 0 };
+            let kind = random.pick(&KINDS);
+            let count = match kind {
+                3 => 1,
+                4 | 8 if random.below(8) == 0 => random.within(0..=most),
+                4 | 8 => random.within(0..=most.min(4)),
+                _ => 0,
+            };
+            if count > most {
+                continue; // a constant in place of an array, which cannot have its child
+            }
+            let first = match kind {
+                3 | 4 | 8 => random.within(0..=m - count),
+                _ => 0,
+            };
+            nodes[k] = [kind, first as u32, count as u32];
+            for child in &mut children[first..first + count] {
+                child.get_or_insert_with(|| random.within(k + 1..=n - 1) as u32);
+            }
+        }
+        let children = children.into_iter();
+        let children = children.map(|child| child.unwrap_or_else(|| random.number() as u32));
+        Table {
+            nodes,
+            children: children.collect(),
+        }
+    }
+
+    /// The table's words.
+    pub fn words(&self) -> Vec<u32> {
+        let (n, m) = (self.nodes.len() as u32, self.children.len() as u32);
+        [&[n], self.nodes.concat().as_slice(), &[m], &self.children].concat()
+    }
+
+    /// Changes one of the table's words to a limit or to a number next to one.
+    pub fn damage(&self, random: &mut Random, words: &mut [u32]) {
+        let (n, m) = (self.nodes.len(), self.children.len());
+        let k = random.below(n);
+        let [_, first, count] = self.nodes[k].map(|word| word as usize);
+        let at = match random.below(8) {
+            0 => 0,
+            1 => 1 + 3 * k,
+            2 => 2 + 3 * k,
+            3 => 3 + 3 * k,
+            4 => 1 + 3 * n,
+            _ if count > 0 => 2 + 3 * n + first + random.below(count),
+            _ => 1 + 3 * n + random.within(0..=m),
+        };
+        let old = words[at];
+        while words[at] == old {
+            let limits = [0, 8, 256, 1_024, 1 << 31, k as u32, n as u32, m as u32, old];
+            words[at] = random.pick(&limits);
+            words[at] = words[at].wrapping_add(random.pick(&[0, 1, u32::MAX]));
+        }
+    }
+}
