@@ -1,0 +1,175 @@
+-- The rows up to the end fall with each level; the loop's invariant: what is left of the children from row i on decides the whole.
+use mathlib.Core.Path.{_≡_, refl, ap, _∙_}
+use Prim.Native.Nat.{ℕ, _+_, _-_, _≤_, _<_}
+use native.Mathlib.Omega.{arith}
+use lib.ListN.{length}
+use lib.Dec.{eqb}
+use Rattle.refusal.specs.Outcome.{accepted, refused, test, Reason}
+use Rattle.refusal.proofs.Meaning.{done, stopped}
+use Rattle.refusal.specs.Meaning.{outcomeOf}
+use Rattle.rows.specs.Row.{rowAt}
+use Rattle.rows.specs.Walk.{checkRow, walkRow}
+use Rattle.rows.proofs.Laws.{ends, Passed, row-passed, childrenOf, row-refused, row-accepted, child-missing, child-refused, child-accepted, children-done}
+use Rattle.rows.proofs.Meaning.{children, no-children}
+use borrow.Author.Needs.{needs}
+use borrow.Fn.Kinds.{In}
+use borrow.Fn.PlainCycle.{Measures, is, falls, and}
+use Rattle.rows.proofs.check_children.Reads as check-children
+use Rattle.rows.proofs.check_children.Kinds as kinds
+use Rattle.rows.proofs.+check_children.Lts-check_children as lts
+use Rattle.refusal.proofs.accept_if.Reads as accept-if-reads
+use Rattle.refusal.proofs.at_row.Reads as at-row-reads
+use Rattle.rows.proofs.check_row.Reads as check-row-reads
+use Rattle.rows.proofs.span_at.Reads as span-at-reads
+use Rattle.rows.proofs.+check_children.{statement}
+use Rattle.rows.proofs.+check_children.Tie.{close}
+
+abbrev μ : Measures 2 kinds.ps ℕ
+μ κs a = a .1 .1 .1 .1 .0 - a .1 .1 .0
+
+abbrev here : ℕ → In 2 kinds.ps
+here t = and 2 kinds.ps (is 2 kinds.ps μ t) check-children.Pre
+
+abbrev below : ℕ → In 2 kinds.ps
+below t = and 2 kinds.ps (falls 2 kinds.ps _<_ μ t) check-children.Pre
+
+abbrev calls : ℕ → lts.Claims
+calls t = (at-row-reads.Asked, at-row-reads.Learnt, check-row-reads.Asked, check-row-reads.Learnt, span-at-reads.Asked, span-at-reads.Learnt, below t, check-children.Post, accept-if-reads.Asked, accept-if-reads.Learnt)
+
+abbrev Inv-loop : lts.InvT-loop
+Inv-loop rows store parent count end i₀ left₀ i left = (parent < i) × (i ≤ end) × (ends (childrenOf rows store parent end left i) ≡ ends (childrenOf rows store parent end count (parent + 1)))
+
+abbrev μ-loop : lts.MeasureT-loop
+μ-loop rows store parent count end i₀ left₀ i left = left
+
+add-i : (t : ℕ) → lts.Need-add-i (calls t) (here t) check-children.Post Inv-loop μ-loop
+add-i t c = search needs
+
+loop-holds : (t : ℕ) → lts.Need-loop-holds (calls t) (here t) check-children.Post Inv-loop μ-loop
+loop-holds t c = (omega arith, omega arith, refl)
+
+at-row-requires : (t : ℕ) → lts.Need-at-row-requires (calls t) (here t) check-children.Post Inv-loop μ-loop
+at-row-requires t c κs = search needs
+
+returns : (t : ℕ) → lts.Need-returns (calls t) (here t) check-children.Post Inv-loop μ-loop
+returns t c =
+    let a = c .before .before .before .before .before .before .args in
+    let l = c .before .before .before .loop in
+    ap refused (c .at-row .ensures) ∙ child-missing (a .rows .now) (a .store .now) (a .parent) (a .end) (l .left) (l .i) (c .before .before .loop-test .taken) (c .before .if1 .taken) ∙ l .inv .2
+
+check-row-requires : (t : ℕ) → lts.Need-check-row-requires (calls t) (here t) check-children.Post Inv-loop μ-loop
+check-row-requires t c κs = search needs
+
+enum-known-r : (t : ℕ) → lts.Need-enum-known-r (calls t) (here t) check-children.Post Inv-loop μ-loop
+enum-known-r t c = search needs
+
+returns-2 : (t : ℕ) → lts.Need-returns-2 (calls t) (here t) check-children.Post Inv-loop μ-loop
+returns-2 t c =
+    let a = c .before .before .before .before .before .before .before .before .before .args in
+    let l = c .before .before .before .before .before .before .loop in
+    child-refused (a .rows .now) (a .store .now) (a .parent) (a .end) (l .left) (l .i) (c .before .before .before .before .before .loop-test .taken) (c .before .before .before .before .if1 .left)
+    (row-refused (a .rows .now) (a .store .now) (a .end) (l .i) (c .before .before .before .before .if1 .left) (no-children (c .before .r .given .1) (c .before .before .before .check-row .ensures))) ∙ l .inv .2
+
+enum-known-inner : (t : ℕ) → lts.Need-enum-known-inner (calls t) (here t) check-children.Post Inv-loop μ-loop
+enum-known-inner t c = search needs
+
+span-at-requires : (t : ℕ) → lts.Need-span-at-requires (calls t) (here t) check-children.Post Inv-loop μ-loop
+span-at-requires t c κs = search needs
+
+-- a child, behind the read of its span: it passes by itself
+passed : (t : ℕ) (c : lts.After-span-at (calls t) (here t) check-children.Post Inv-loop μ-loop) →
+    let a = c .before .before .before .before .before .before .before .before .before .before .args in
+    let i = c .before .before .before .before .before .before .before .loop .i in
+    accepted (c .before .before .inner .given .0 .0) ≡ checkRow (rowAt (a .rows .now) i) (length (a .store .now)) i (a .end)
+passed t c = children (c .before .before .inner .given .1) (c .before .before .before .before .check-row .ensures)
+
+reach : (t : ℕ) (c : lts.After-span-at (calls t) (here t) check-children.Post Inv-loop μ-loop) →
+    let a = c .before .before .before .before .before .before .before .before .before .before .args in
+    let i = c .before .before .before .before .before .before .before .loop .i in
+    Passed (rowAt (a .rows .now) i) (length (a .store .now)) i (a .end) (c .before .before .inner .given .0 .0)
+reach t c = row-passed _ _ _ _ _ (passed t c)
+
+-- and it comes to what its own children come to
+walked : (t : ℕ) (c : lts.After-check-children (calls t) (here t) check-children.Post Inv-loop μ-loop) →
+    let a = c .before .before .before .before .before .before .before .before .before .before .before .args in
+    let i = c .before .before .before .before .before .before .before .before .loop .i in
+    outcomeOf (c .check-children .result) ≡ ends (walkRow (a .rows .now) (a .store .now) (a .end) i)
+walked t c =
+    let a = c .before .before .before .before .before .before .before .before .before .before .before .args in
+    let i = c .before .before .before .before .before .before .before .before .loop .i in
+    c .check-children .ensures ∙ ap (λ (n : ℕ). ends (childrenOf (a .rows .now) (a .store .now) i (i + n) (c .before .before .before .inner .given .0 .0) (i + 1))) (c .before .span-at .ensures) ∙ row-accepted (a .rows .now) (a .store .now) (a .end) i (omega arith) (passed t (c .before))
+
+add-next : (t : ℕ) → lts.Need-add-next (calls t) (here t) check-children.Post Inv-loop μ-loop
+add-next t c = omega (arith, reach t c .reach, c .span-at .ensures, c .before .before .before .before .before .before .before .before .before .before .fits .end)
+
+check-children-requires : (t : ℕ) → lts.Need-check-children-requires (calls t) (here t) check-children.Post Inv-loop μ-loop
+check-children-requires t c κs = (omega (arith, reach t c .some, reach t c .reach, c .span-at .ensures), (omega (arith, reach t c .some, c .span-at .ensures), omega (arith, reach t c .reach, c .span-at .ensures)))
+
+enum-known-r-2 : (t : ℕ) → lts.Need-enum-known-r-2 (calls t) (here t) check-children.Post Inv-loop μ-loop
+enum-known-r-2 t c = search needs
+
+returns-3 : (t : ℕ) → lts.Need-returns-3 (calls t) (here t) check-children.Post Inv-loop μ-loop
+returns-3 t c =
+    let a = c .before .before .before .before .before .before .before .before .before .before .before .before .before .before .args in
+    let l = c .before .before .before .before .before .before .before .before .before .before .before .loop in
+    child-refused (a .rows .now) (a .store .now) (a .parent) (a .end) (l .left) (l .i) (omega arith) (omega arith) (stopped (c .before .r2 .given .1) (walked t (c .before .before .before))) ∙ l .inv .2
+
+enum-told : (t : ℕ) → lts.Need-enum-told (calls t) (here t) check-children.Post Inv-loop μ-loop
+enum-told t c = search needs
+
+sub-left : (t : ℕ) → lts.Need-sub-left (calls t) (here t) check-children.Post Inv-loop μ-loop
+sub-left t c = search needs
+
+loop-less : (t : ℕ) → lts.Need-loop-less (calls t) (here t) check-children.Post Inv-loop μ-loop
+loop-less t c = search needs
+
+loop-again : (t : ℕ) → lts.Need-loop-again (calls t) (here t) check-children.Post Inv-loop μ-loop
+loop-again t c =
+    let a = c .before .before .before .before .before .before .before .before .before .before .before .before .before .args in
+    let l = c .before .before .before .before .before .before .before .before .before .before .loop in
+    let p = reach t (c .before .before .before) in
+    let e = c .before .before .before .span-at .ensures in (
+      omega (arith, p .some),
+      omega (arith, p .reach, e),
+      ap (λ (n : ℕ). ends (childrenOf (a .rows .now) (a .store .now) (a .parent) (a .end) (l .left - 1) (l .i + n))) e
+          ∙ child-accepted (a .rows .now) (a .store .now) (a .parent) (a .end) (l .left) (l .i) (omega arith) (omega arith) (done (c .enum-told .given .1) (walked t (c .before .before))) ∙ l .inv .2,
+    )
+
+at-row-requires-2 : (t : ℕ) → lts.Need-at-row-requires-2 (calls t) (here t) check-children.Post Inv-loop μ-loop
+at-row-requires-2 t c κs = search needs
+
+accept-if-requires : (t : ℕ) → lts.Need-accept-if-requires (calls t) (here t) check-children.Post Inv-loop μ-loop
+accept-if-requires t c κs = search needs
+
+returns-4 : (t : ℕ) → lts.Need-returns-4 (calls t) (here t) check-children.Post Inv-loop μ-loop
+returns-4 t c =
+    let a = c .before .before .before .before .before .before .args in
+    let l = c .before .before .before .loop in
+    c .accept-if .ensures ∙ ap (λ (e : Reason). test (eqb (l .i) (a .end)) e accepted) (c .before .at-row2 .ensures) ∙ children-done (a .rows .now) (a .store .now) (a .parent) (a .end) (l .left) (l .i) (c .before .before .loop-test .left) ∙ l .inv .2
+
+pub +check-children-spec : {M : Type 1} → statement M
++check-children-spec = close μ λ t. lts.spec (calls t)
+    (here t)
+    check-children.Post
+    Inv-loop
+    μ-loop
+    (add-i t)
+    (loop-holds t)
+    (at-row-requires t)
+    (returns t)
+    (check-row-requires t)
+    (enum-known-r t)
+    (returns-2 t)
+    (enum-known-inner t)
+    (span-at-requires t)
+    (add-next t)
+    (check-children-requires t)
+    (enum-known-r-2 t)
+    (returns-3 t)
+    (enum-told t)
+    (sub-left t)
+    (loop-less t)
+    (loop-again t)
+    (at-row-requires-2 t)
+    (accept-if-requires t)
+    (returns-4 t)

@@ -1,0 +1,201 @@
+-- The walk's definition as the code takes it: it does not hang on the depth, and what is left of the children decides the whole.
+use mathlib.Core.Path.{_≡_, refl, ap, sym, _∙_}
+use mathlib.Core.Bool.{Bool, true, false, _&&_}
+use mathlib.Core.Logic.{_↔_}
+use mathlib.Core.List.{List}
+use Prim.Native.Nat.{ℕ, zero, suc, _+_, _-_, _*_, _≤_, _<_, zero-le}
+use native.Mathlib.Numerals.{add-one}
+use native.Mathlib.Omega.{arith}
+use lib.ListN.{length}
+use lib.Dec.{leb, ltb, eqb}
+use borrow.Author.Tests.{lt-ltb, le-ltb, ltb-true, le-leb, lt-leb, eq-eqb, ne-eqb}
+use Rattle.refusal.specs.Outcome.{Outcome, accepted, refused, bind, test, map, Reason, reason, byte, row}
+use Rattle.refusal.proofs.Outcome.{Post, holds, fails, post-reflects, post-accepted, map-map, test-true, test-false}
+use Rattle.refusal.proofs.Tests.{and-true, next-key, reflects-leb, reflects-ltb, reflects-and}
+use Rattle.value.specs.Kinds.{Kind, kinds, kindOf, other}
+use Rattle.value.proofs.KindLaws.{kind-other}
+use Rattle.value.specs.Tree.{Val, Vals, vnil, vcons}
+use Rattle.rows.specs.Row.{rowWidth, Row, rowAt}
+use Rattle.rows.specs.Walk.{keepsRule, withinStore, childCount, rowValue, checkRow, walkChildren, walkTo, walkRow, countHolds, walk}
+
+-- an outcome without its value
+abbrev pub ends : {A : Type 0} → Outcome Reason A → Outcome Reason (Unit {0})
+ends o = map (λ _. tt) o
+
+-- P of the value, if there is one
+abbrev pub Gives : {A : Type 0} → (A → Type 0) → Outcome Reason A → Type 0
+Gives P o = Post P (λ _. Unit {0}) o
+
+pub gives-map : {A B : Type 0} {P : A → Type 0} {R : B → Type 0} {x : Outcome Reason A} (f : A → B) → Gives P x → ((a : A) → P a → R (f a)) → Gives R (map f x)
+gives-map f (holds a p) c = holds (f a) (c a p)
+gives-map f (fails e q) c = fails e q
+
+-- continuations that agree where they are needed
+test-same : {A : Type 0} (b : Bool) (e : Reason) (k l : Unit {0} → Outcome Reason A) → (b ≡ true → k tt ≡ l tt) → test b e k ≡ test b e l
+test-same true e k l h = h refl
+test-same false e k l h = refl
+
+bind-same : {A B : Type 0} {P : A → Type 0} {x : Outcome Reason A} (k l : A → Outcome Reason B) → Gives P x → ((a : A) → P a → k a ≡ l a) → bind x k ≡ bind x l
+bind-same k l (holds a p) h = h a p
+bind-same k l (fails e q) h = refl
+
+-- ---- a row by itself
+
+-- what the last arm of a match on 0 to 8 knows
+abbrev pub NoneOf : ℕ → Type 0
+NoneOf k = ((((((((((Unit {0}) × (k ≡ 0 → ⊥)) × (k ≡ 1 → ⊥)) × (k ≡ 2 → ⊥)) × (k ≡ 3 → ⊥)) × (k ≡ 4 → ⊥)) × (k ≡ 5 → ⊥)) × (k ≡ 6 → ⊥)) × (k ≡ 7 → ⊥)) × (k ≡ 8 → ⊥))
+
+pub none-of : (k : ℕ) → NoneOf k → kindOf k ≡ other
+unfolding kinds
+none-of k r = kind-other k (next-key (next-key (next-key (next-key (next-key (next-key (next-key (next-key (next-key zero-le (r .0 .0 .0 .0 .0 .0 .0 .0 .1)) (r .0 .0 .0 .0 .0 .0 .0 .1)) (r .0 .0 .0 .0 .0 .0 .1)) (r .0 .0 .0 .0 .0 .1)) (r .0 .0 .0 .0 .1)) (r .0 .0 .0 .1)) (r .0 .0 .1)) (r .0 .1)) (r .1))
+
+pub row-eq : (r : Row) {k n a b : ℕ} → r .kind ≡ k → r .span ≡ n → r .word2 ≡ a → r .word3 ≡ b → r ≡ record { kind = k; span = n; word2 = a; word3 = b }
+row-eq r p q x y = rw (← p, ← q, ← x, ← y)
+
+-- what a row that passes says: a span that ends within its parent's, its kind's rule, its array in the store
+pub record Passed (r : Row) (len i end count : ℕ) : Type 0 where
+  pub some : 1 ≤ r .span
+  pub reach : i + r .span ≤ end
+  pub rule : keepsRule (kindOf (r .kind)) r ≡ true
+  pub within : withinStore (kindOf (r .kind)) r len ≡ true
+  pub children : count ≡ childCount (kindOf (r .kind)) r
+
+itself : {P : Type 0} → P ↔ P
+itself = (λ p. p, λ p. p)
+
+pub row-post : (r : Row) (len i end : ℕ) → Gives (Passed r len i end) (checkRow r len i end)
+unfolding checkRow
+row-post r len i end =
+    post-reflects _ _ _ (reflects-and (reflects-leb 1 (r .span)) (reflects-and (reflects-leb (i + r .span) end) itself))
+    (λ h. post-reflects (withinStore (kindOf (r .kind)) r len) _ _ itself
+    (λ w. holds _ (record { some = h .0; reach = h .1 .0; rule = h .1 .1; within = w; children = refl }))
+    (λ _. tt)) (λ _. tt)
+
+pub row-passed : (r : Row) (len i end count : ℕ) → accepted count ≡ checkRow r len i end → Passed r len i end count
+row-passed r len i end count h = post-accepted (rw (← h) at (row-post r len i end))
+
+-- in an arm of a match: what a kind does, by the kind word
+pub by-kind : {A : Type 0} (f : Kind → A) {m k : ℕ} {x : A} → m ≡ k → x ≡ f (kindOf k) → x ≡ f (kindOf m)
+by-kind f e h = h ∙ ap (λ (n : ℕ). f (kindOf n)) (sym e)
+
+-- in its last arm
+pub by-other : {A : Type 0} (f : Kind → A) {m : ℕ} {x : A} → NoneOf m → x ≡ f other → x ≡ f (kindOf m)
+by-other f {m} n h = h ∙ ap f (sym (none-of m n))
+
+-- in an arm of the row's match: the span reaches, and the kind's rule is decided
+pub row-arm : (r : Row) (len i end : ℕ) {kept held : Bool} {count : ℕ} → (leb 1 (r .span) && leb (i + r .span) end) ≡ true → kept ≡ keepsRule (kindOf (r .kind)) r → held ≡ withinStore (kindOf (r .kind)) r len → count ≡ childCount (kindOf (r .kind)) r → test kept (reason 13 (row i)) (λ _. test held (reason 14 (row i)) (λ _. accepted count)) ≡ checkRow r len i end
+unfolding checkRow
+row-arm r len i end p k h c =
+    let q = and-true (leb 1 (r .span)) (leb (i + r .span) end) p in
+    rw (q .0, q .1, k, h, c)
+
+-- before the match: the span does not reach
+pub row-out : (r : Row) (len i end : ℕ) → (leb 1 (r .span) && leb (i + r .span) end) ≡ false → refused (reason 13 (row i)) ≡ checkRow r len i end
+unfolding checkRow
+row-out r len i end p = go (leb 1 (r .span)) (leb (i + r .span) end) p
+  where
+    go : (a b : Bool) → (a && b) ≡ false → refused (reason 13 (row i)) ≡ test (a && (b && keepsRule (kindOf (r .kind)) r)) (reason 13 (row i)) (λ _. test (withinStore (kindOf (r .kind)) r len) (reason 14 (row i)) (λ _. accepted (childCount (kindOf (r .kind)) r)))
+    go true true h = let z : _≡_ {A = ℕ} 0 1 = cc in absurd (omega arith)
+    go true false h = refl
+    go false b h = refl
+
+-- ---- the depth
+
+module _ (t s : List ℕ) where
+  children-same : (f g : ℕ → Outcome Reason Val) (parent end count i : ℕ) → ((j : ℕ) → i ≤ j → j < end → f j ≡ g j) → walkChildren t f parent end count i ≡ walkChildren t g parent end count i
+  unfolding walkChildren
+  children-same f g parent end zero i h = refl
+  children-same f g parent end (suc count) i h =
+      test-same (ltb i end) _ _ _ (λ l. rw (h i (omega arith) (ltb-true i end l), children-same f g parent end count (i + rowAt t i .span) (λ j a b. h j (omega arith) b)))
+
+  walk-same : (d e end i : ℕ) → i < end → end ≤ i + d → end ≤ i + e → walkTo t s d end i ≡ walkTo t s e end i
+  unfolding walkTo
+  walk-same zero e end i h a b = absurd (omega arith)
+  walk-same (suc d) zero end i h a b = absurd (omega arith)
+  walk-same (suc d) (suc e) end i h a b = bind-same _ _ (row-post (rowAt t i) (length s) i end) (λ count p.
+      ap (map (rowValue (kindOf (rowAt t i .kind)) (rowAt t i) s))
+      (children-same _ _ i (i + rowAt t i .span) count (suc i) (λ j l m. walk-same d e (i + rowAt t i .span) j m (omega (arith, p .reach)) (omega (arith, p .reach)))))
+
+  -- any depth that holds the rows is deep enough
+  pub walk-depth : (d end i : ℕ) → i < end → end ≤ i + d → walkTo t s d end i ≡ walkRow t s end i
+  walk-depth d end i h a = walk-same d (end - i) end i h a (omega arith)
+
+  -- the children of row i, whose span is up to `end`
+  abbrev pub childrenOf : ℕ → ℕ → ℕ → ℕ → Outcome Reason Vals
+  childrenOf i end count j = walkChildren t (walkRow t s end) i end count j
+
+  -- a row, then its children
+  pub walk-row : (end i : ℕ) → i < end → walkRow t s end i ≡ bind (checkRow (rowAt t i) (length s) i end) (λ count. map (rowValue (kindOf (rowAt t i .kind)) (rowAt t i) s) (childrenOf i (i + rowAt t i .span) count (suc i)))
+  unfolding walkTo
+  walk-row end i h =
+      let e : end - i ≡ suc (end - suc i) = omega arith in
+      ap (λ (d : ℕ). walkTo t s d end i) e
+      ∙ bind-same _ _ (row-post (rowAt t i) (length s) i end) (λ count p.
+      ap (map (rowValue (kindOf (rowAt t i .kind)) (rowAt t i) s))
+      (children-same _ _ i (i + rowAt t i .span) count (suc i) (λ j l m. walk-depth (end - suc i) (i + rowAt t i .span) j m (omega (arith, p .reach)))))
+
+  pub row-refused : (end i : ℕ) {e : Reason} → i < end → refused e ≡ checkRow (rowAt t i) (length s) i end → refused e ≡ ends (walkRow t s end i)
+  row-refused end i h r = sym (ap ends (walk-row end i h) ∙ rw (← r))
+
+  pub row-accepted : (end i : ℕ) {count : ℕ} → i < end → accepted count ≡ checkRow (rowAt t i) (length s) i end → ends (childrenOf i (i + rowAt t i .span) count (i + 1)) ≡ ends (walkRow t s end i)
+  row-accepted end i {count} h r = sym (ap ends (walk-row end i h) ∙ rw (← r, add-one i) (map-map _ _ (childrenOf i (i + rowAt t i .span) count (suc i))))
+
+-- ---- the loop over children: what is left from row i on
+
+module _ (t s : List ℕ) (parent end left i : ℕ) (h : 0 < left) where
+  next-child : childrenOf t s parent end left i ≡ test (ltb i end) (reason 13 (row parent)) (λ _. bind (walkRow t s end i) (λ v. map (vcons v) (childrenOf t s parent end (left - 1) (i + rowAt t i .span))))
+  unfolding walkChildren
+  next-child = let e : left ≡ suc (left - 1) = omega arith in ap (λ (k : ℕ). childrenOf t s parent end k i) e
+
+  pub child-missing : end ≤ i → refused (reason 13 (row parent)) ≡ ends (childrenOf t s parent end left i)
+  child-missing l = sym (ap ends (next-child ∙ test-false _ _ (le-ltb i end l)))
+
+  module _ (l : i < end) where
+    here : childrenOf t s parent end left i ≡ bind (walkRow t s end i) (λ v. map (vcons v) (childrenOf t s parent end (left - 1) (i + rowAt t i .span)))
+    here = next-child ∙ test-true _ _ (lt-ltb i end l)
+
+    pub child-refused : {e : Reason} → refused e ≡ ends (walkRow t s end i) → refused e ≡ ends (childrenOf t s parent end left i)
+    child-refused {e} r = sym (ap ends here ∙ go (walkRow t s end i) r)
+      where
+        go : (x : Outcome Reason Val) → refused e ≡ ends x → ends (bind x (λ v. map (vcons v) (childrenOf t s parent end (left - 1) (i + rowAt t i .span)))) ≡ refused e
+        go (accepted v) q = let z : _≡_ {A = ℕ} 0 1 = cc in absurd (omega arith)
+        go (refused f) q = sym q
+
+    pub child-accepted : accepted tt ≡ ends (walkRow t s end i) → ends (childrenOf t s parent end (left - 1) (i + rowAt t i .span)) ≡ ends (childrenOf t s parent end left i)
+    child-accepted a = sym (ap ends here ∙ go (walkRow t s end i) (childrenOf t s parent end (left - 1) (i + rowAt t i .span)) a)
+      where
+        go : (x : Outcome Reason Val) (y : Outcome Reason Vals) → accepted tt ≡ ends x → ends (bind x (λ v. map (vcons v) y)) ≡ ends y
+        go (accepted v) y q = map-map _ _ y
+        go (refused f) y q = let z : _≡_ {A = ℕ} 0 1 = cc in absurd (omega arith)
+
+pub children-done : (t s : List ℕ) (parent end left i : ℕ) → left ≤ 0 → test (eqb i end) (reason 13 (row parent)) accepted ≡ ends (childrenOf t s parent end left i)
+unfolding walkChildren
+children-done t s parent end left i h = let e : left ≡ 0 = omega arith in rw e (go (eqb i end))
+  where
+    go : (b : Bool) → test b (reason 13 (row parent)) accepted ≡ ends (test b (reason 13 (row parent)) (λ _. accepted vnil))
+    go true = refl
+    go false = refl
+
+-- ---- the whole table
+
+pub reflects-rows : (t : List ℕ) (n : ℕ) → ((0 < n) × ((n ≤ 4096) × (rowWidth * n ≤ length t))) ↔ (countHolds t n ≡ true)
+reflects-rows t n = reflects-and (reflects-ltb 0 n) (reflects-and (reflects-leb n 4096) (reflects-leb (rowWidth * n) (length t)))
+
+module _ (t : List ℕ) (n : ℕ) (s : List ℕ) where
+  pub store-long : 1048576 < length s → refused (reason 6 (byte 0)) ≡ ends (walk t n s)
+  unfolding walk
+  store-long h = sym (ap ends (test-false _ _ (lt-leb (length s) 1048576 h)))
+
+  module _ (a : length s ≤ 1048576) where
+    pub rows-missing : countHolds t n ≡ false → refused (reason 12 (row 0)) ≡ ends (walk t n s)
+    unfolding walk
+    rows-missing h = sym (ap ends (test-true _ _ (le-leb (length s) 1048576 a) ∙ test-false _ _ h))
+
+    module _ (b : countHolds t n ≡ true) where
+      pub root-short : (rowAt t 0 .span ≡ n → ⊥) → refused (reason 13 (row 0)) ≡ ends (walk t n s)
+      unfolding walk
+      root-short h = sym (ap ends (test-true _ _ (le-leb (length s) 1048576 a) ∙ test-true _ _ b ∙ test-false _ _ (ne-eqb (rowAt t 0 .span) n h)))
+
+      pub root-walk : rowAt t 0 .span ≡ n → ends (walkRow t s n 0) ≡ ends (walk t n s)
+      unfolding walk
+      root-walk h = sym (ap ends (test-true _ _ (le-leb (length s) 1048576 a) ∙ test-true _ _ b ∙ test-true _ _ (eq-eqb (rowAt t 0 .span) n h)))

@@ -1,0 +1,100 @@
+-- Each way out decides one of the tests; the walk from the root decides the rest.
+use mathlib.Core.Path.{_≡_, ap, sym, _∙_}
+use mathlib.Core.Bool.{true}
+use Prim.Native.Nat.{ℕ, _+_, _*_, _≤_, _<_}
+use native.Mathlib.Omega.{arith}
+use lib.ListN.{length}
+use borrow.Author.Tests.{not-true, not-false}
+use Rattle.refusal.specs.Outcome.{refused}
+use Rattle.rows.specs.Row.{rowWidth, rowAt}
+use Rattle.rows.specs.Walk.{countHolds}
+use Rattle.rows.proofs.Laws.{ends, childrenOf, row-refused, row-accepted, reflects-rows, store-long, rows-missing, root-short, root-walk}
+use Rattle.rows.proofs.Meaning.{children, no-children}
+use borrow.Author.Needs.{needs}
+use Rattle.rows.proofs.check_rows.Statement.{statement}
+use Rattle.rows.proofs.check_rows.Tie as tie
+
+-- behind the test of the count
+counted : (c : tie.Else2) → countHolds (c .before .before .before .before .before .args .rows .now) (c .before .before .before .before .before .args .n) ≡ true
+counted c = sym (c .before .count-holds .ensures) ∙ not-false (c .before .count-holds .result) (c .if2 .left)
+
+there : (c : tie.Else2) → let a = c .before .before .before .before .before .args in (0 < a .n) × ((a .n ≤ 4096) × (rowWidth * a .n ≤ length (a .rows .now)))
+there c = reflects-rows (c .before .before .before .before .before .args .rows .now) (c .before .before .before .before .before .args .n) .1 (counted c)
+
+at-byte-requires : tie.Need-at-byte-requires
+at-byte-requires c κs = search needs
+
+returns : tie.Need-returns
+returns c =
+    let a = c .before .before .before .before .args in
+    ap refused (c .at-byte .ensures) ∙ store-long (a .rows .now) (a .n) (a .store .now) (c .before .if1 .taken)
+
+count-holds-requires : tie.Need-count-holds-requires
+count-holds-requires c κs = search needs
+
+at-row-requires : tie.Need-at-row-requires
+at-row-requires c κs = search needs
+
+returns-2 : tie.Need-returns-2
+returns-2 c =
+    let a = c .before .before .before .before .before .before .args in
+    ap refused (c .at-row .ensures) ∙ rows-missing (a .rows .now) (a .n) (a .store .now) (c .before .before .before .if1 .left) (sym (c .before .before .count-holds .ensures) ∙ not-true (c .before .before .count-holds .result) (c .before .if2 .taken))
+
+span-at-requires : tie.Need-span-at-requires
+span-at-requires c κs = omega (arith, there c)
+
+at-row-requires-2 : tie.Need-at-row-requires-2
+at-row-requires-2 c κs = search needs
+
+returns-3 : tie.Need-returns-3
+returns-3 c =
+    let a = c .before .before .before .before .before .before .before .before .args in
+    ap refused (c .at-row2 .ensures) ∙ root-short (a .rows .now) (a .n) (a .store .now) (c .before .before .before .before .before .if1 .left) (counted (c .before .before .before)) (λ e. c .before .if3 .taken (c .before .before .span-at .ensures ∙ e))
+
+check-row-requires : tie.Need-check-row-requires
+check-row-requires c κs = let h = there (c .before .before) in (omega arith, omega arith)
+
+enum-known-r : tie.Need-enum-known-r
+enum-known-r c = search needs
+
+enum-known-count : tie.Need-enum-known-count
+enum-known-count c = search needs
+
+check-children-requires : tie.Need-check-children-requires
+check-children-requires c κs = let h = there (c .before .before .before .before .before .before) in (omega arith, omega arith)
+
+returns-4 : tie.Need-returns-4
+returns-4 c =
+    let a = c .before .before .before .before .before .before .before .before .before .before .before .args in
+    let d = c .before .before .before .before .before .before in
+    row-refused (a .rows .now) (a .store .now) (a .n) 0 (there d .0) (no-children (c .before .r .given .1) (c .before .before .before .check-row .ensures))
+    ∙ root-walk (a .rows .now) (a .n) (a .store .now) (c .before .before .before .before .before .before .before .before .if1 .left) (counted d) (sym (c .before .before .before .before .before .span-at .ensures) ∙ c .before .before .before .before .if3 .left)
+
+returns-5 : tie.Need-returns-5
+returns-5 c =
+    let a = c .before .before .before .before .before .before .before .before .before .before .before .before .args in
+    let d = c .before .before .before .before .before .before .before in
+    let e : rowAt (a .rows .now) 0 .span ≡ a .n = sym (c .before .before .before .before .before .before .span-at .ensures) ∙ c .before .before .before .before .before .if3 .left in
+    let z : 0 + rowAt (a .rows .now) 0 .span ≡ a .n = omega arith in
+    c .check-children .ensures ∙ ap (λ (n : ℕ). ends (childrenOf (a .rows .now) (a .store .now) 0 n (c .before .before .count .given .0 .0) (0 + 1))) (sym z)
+    ∙ row-accepted (a .rows .now) (a .store .now) (a .n) 0 (there d .0) (children (c .before .before .count .given .1) (c .before .before .before .before .check-row .ensures))
+    ∙ root-walk (a .rows .now) (a .n) (a .store .now) (c .before .before .before .before .before .before .before .before .before .if1 .left) (counted d) e
+
+pub check-rows-spec : {M : Type 1} → statement M
+check-rows-spec =
+    tie.close
+    (tie.spec
+    at-byte-requires
+    returns
+    count-holds-requires
+    at-row-requires
+    returns-2
+    span-at-requires
+    at-row-requires-2
+    returns-3
+    check-row-requires
+    enum-known-r
+    enum-known-count
+    check-children-requires
+    returns-4
+    returns-5)

@@ -1,0 +1,7 @@
+pub mod Row
+pub mod Layout
+pub mod Walk
+pub mod Rule
+pub mod Size
+pub mod Locate
+pub mod Meaning

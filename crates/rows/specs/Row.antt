@@ -1,0 +1,27 @@
+-- The value row of document 01: which word is which.
+use Prim.Native.Nat.{ℕ, _+_, _*_}
+use mathlib.Core.List.{List, [], _∷_}
+use lib.ListN.{getD}
+
+-- the words of a row
+abbrev pub rowWidth : ℕ
+rowWidth = 4
+
+-- kind, span, word 2, word 3
+pub record Row : Type 0 where
+  pub kind : ℕ
+  pub span : ℕ
+  pub word2 : ℕ
+  pub word3 : ℕ
+
+abbrev pub rowWords : Row → List ℕ
+rowWords r = r .kind ∷ r .span ∷ r .word2 ∷ r .word3 ∷ []
+
+-- row i of a table
+abbrev pub rowAt : List ℕ → ℕ → Row
+rowAt t i = record {
+  kind = getD t (rowWidth * i) 0;
+  span = getD t (rowWidth * i + 1) 0;
+  word2 = getD t (rowWidth * i + 2) 0;
+  word3 = getD t (rowWidth * i + 3) 0;
+}

@@ -1,0 +1,302 @@
+// Value rows: the walk over a row table, the size of the value that its rows stand for, and where an array lies in the store.
+ghost use mathlib.Core.Path.{_≡_};
+ghost use mathlib.Core.Bool.{_&&_};
+ghost use Prim.Native.Nat.{ℕ, _+_, _*_, _≤_, _<_};
+ghost use lib.ListN.{length};
+ghost use lib.Dec.{leb};
+ghost use Rattle.refusal.specs.Outcome.{accepted, refused, test, map, reason, row as atRow};
+ghost use Rattle.refusal.specs.Meaning.{outcomeOf};
+ghost use Rattle.value.specs.Kinds.{kindOf};
+ghost use Rattle.rows.specs.Row.{rowWidth, rowAt};
+ghost use Rattle.rows.specs.Walk.{checkRow, walkChildren, walkRow, countHolds, walk};
+ghost use Rattle.rows.specs.Size.{computeSizeOf, AtMost, mostOwnSize, sizeAt, sizeFrom};
+ghost use Rattle.rows.specs.Locate.{lookUp, elementsPart, locateArray, PartOf};
+ghost use Rattle.rows.specs.Meaning.{wanted, sizeOf, located};
+use refusal::Answer;
+use refusal::Refusal;
+
+// The words of a row.
+const ROW_WIDTH: usize = 4;
+
+const MOST_ROWS: usize = 4096;
+
+const MOST_BYTES: usize = 1048576;
+
+const TWO_TO_32: u64 = 4294967296;
+
+// What a row by itself answers: how many children it wants.
+enum Wanted {
+    Children(u64),
+    Refused(Refusal),
+}
+
+pub enum SizeOf {
+    Size(u64),
+    Refused(Refusal),
+}
+
+// A part of the store: its first byte, and how many.
+pub enum Located {
+    At(usize, usize),
+    Refused(Refusal),
+}
+
+fn kind_at(rows: &[u64], row: usize) -> u64
+    requires { ⌜ rowWidth * row + rowWidth ≤ length (now rows) ⌝ }
+    ensures { λ r. ⌜ r ≡ rowAt (now (rows .entry)) row .kind ⌝ }
+{
+    rows[ROW_WIDTH * row]
+}
+
+fn span_at(rows: &[u64], row: usize) -> u64
+    requires { ⌜ rowWidth * row + rowWidth ≤ length (now rows) ⌝ }
+    ensures { λ r. ⌜ r ≡ rowAt (now (rows .entry)) row .span ⌝ }
+{
+    rows[ROW_WIDTH * row + 1]
+}
+
+fn word2_at(rows: &[u64], row: usize) -> u64
+    requires { ⌜ rowWidth * row + rowWidth ≤ length (now rows) ⌝ }
+    ensures { λ r. ⌜ r ≡ rowAt (now (rows .entry)) row .word2 ⌝ }
+{
+    rows[ROW_WIDTH * row + 2]
+}
+
+fn word3_at(rows: &[u64], row: usize) -> u64
+    requires { ⌜ rowWidth * row + rowWidth ≤ length (now rows) ⌝ }
+    ensures { λ r. ⌜ r ≡ rowAt (now (rows .entry)) row .word3 ⌝ }
+{
+    rows[ROW_WIDTH * row + 3]
+}
+
+fn both(a: bool, b: bool) -> bool
+    ensures { λ r. ⌜ r ≡ (a && b) ⌝ }
+{
+    if a { b } else { false }
+}
+
+// Whether a span is at least 1 and ends at the parent's end at the latest. No sum wraps.
+fn span_holds(span: u64, row: usize, end: usize) -> bool
+    requires { ⌜ row ≤ end ⌝ }
+    ensures { λ r. ⌜ r ≡ (leb 1 span && leb (row + span) end) ⌝ }
+{
+    if span < 1 {
+        return false;
+    }
+    span <= (end - row) as u64
+}
+
+// Whether count elements of width bytes from the place on end within len bytes. The count is compared and never multiplied.
+fn within(len: u64, place: u64, count: u64, width: u64) -> bool
+    requires { ⌜ 0 < width ⌝ }
+    ensures { λ r. ⌜ r ≡ leb (place + width * count) len ⌝ }
+{
+    if len < place {
+        return false;
+    }
+    count <= (len - place) / width
+}
+
+// 13 where the kind's rule is not kept, then 14 where the elements are not held, else the children that the row wants.
+fn check_rule(kept: bool, held: bool, count: u64, row: usize) -> Wanted
+    ensures { λ r. ⌜ wanted r ≡ test kept (reason 13 (atRow row)) (λ _. test held (reason 14 (atRow row)) (λ _. accepted count)) ⌝ }
+{
+    if !kept {
+        Wanted::Refused(refusal::at_row(refusal::ROW_MALFORMED, row))
+    } else if !held {
+        Wanted::Refused(refusal::at_row(refusal::ARRAY_OUTSIDE_STORE, row))
+    } else {
+        Wanted::Children(count)
+    }
+}
+
+// A row by itself, which may reach to the end: 13, then 14.
+fn check_row(rows: &[u64], store: &[u8], row: usize, end: usize) -> Wanted
+    requires { ⌜ (row < end) × (rowWidth * end ≤ length (now rows)) ⌝ }
+    ensures { λ r. ⌜ wanted r ≡ checkRow (rowAt (now (rows .entry)) row) (length (now (store .entry))) row end ⌝ }
+{
+    let kind = kind_at(rows, row);
+    let span = span_at(rows, row);
+    let word2 = word2_at(rows, row);
+    let word3 = word3_at(rows, row);
+    let len = store.len() as u64;
+    let leaf = span == 1;
+    let unused = word3 == 0;
+    if !span_holds(span, row, end) {
+        return Wanted::Refused(refusal::at_row(refusal::ROW_MALFORMED, row));
+    }
+    match kind {
+        0 => check_rule(both(leaf, both(word2 == 0, unused)), true, 0, row),
+        1 => check_rule(both(leaf, both(word2 < TWO_TO_32, unused)), true, 0, row),
+        2 => check_rule(both(leaf, unused), true, 0, row),
+        3 => check_rule(unused, true, word2, row),
+        4 => check_rule(unused, true, word2, row),
+        5 => check_rule(leaf, within(len, word3, word2, 1), 0, row),
+        6 => check_rule(leaf, within(len, word3, word2, 4), 0, row),
+        7 => check_rule(leaf, within(len, word3, word2, 8), 0, row),
+        8 => check_rule(unused, true, 1, row),
+        9.. => Wanted::Refused(refusal::at_row(refusal::ROW_MALFORMED, row)),
+    }
+}
+
+// The children that a row wants, which are to fill its span. It calls itself once for each level, of which 4,096 rows have 4,096 at most.
+fn check_children(rows: &[u64], store: &[u8], parent: usize, count: u64, end: usize) -> Answer
+    requires { ⌜ (parent < end) × (rowWidth * end ≤ length (now rows)) ⌝ }
+    ensures { λ r. ⌜ outcomeOf r ≡ map (λ _. tt) (walkChildren (now (rows .entry)) (walkRow (now (rows .entry)) (now (store .entry)) end) parent end count (parent + 1)) ⌝ }
+{
+    let mut i = parent + 1;
+    let mut left = count;
+    while 0 < left {
+        if end <= i {
+            return Answer::Refused(refusal::at_row(refusal::ROW_MALFORMED, parent));
+        }
+        match check_row(rows, store, i, end) {
+            Wanted::Refused(r) => return Answer::Refused(r),
+            Wanted::Children(inner) => {
+                let next = i + span_at(rows, i) as usize;
+                if let Answer::Refused(r) = check_children(rows, store, i, inner, next) {
+                    return Answer::Refused(r);
+                }
+                i = next;
+            }
+        }
+        left -= 1;
+    }
+    refusal::accept_if(i == end, refusal::at_row(refusal::ROW_MALFORMED, parent))
+}
+
+// Whether there are rows, not too many, and their words are there.
+fn count_holds(rows: &[u64], n: usize) -> bool
+    ensures { λ r. ⌜ r ≡ countHolds (now (rows .entry)) n ⌝ }
+{
+    if n == 0 {
+        return false;
+    }
+    if MOST_ROWS < n {
+        return false;
+    }
+    ROW_WIDTH * n <= rows.len()
+}
+
+// 6, 12, then the walk from the root, which reaches to n exactly: 13 and 14. No table is assumed sound.
+pub fn check_rows(rows: &[u64], n: usize, store: &[u8]) -> Answer
+    ensures { λ r. ⌜ outcomeOf r ≡ map (λ _. tt) (walk (now (rows .entry)) n (now (store .entry))) ⌝ }
+{
+    if MOST_BYTES < store.len() {
+        return Answer::Refused(refusal::at_byte(refusal::BYTES_TOO_LONG, 0));
+    }
+    if !count_holds(rows, n) {
+        return Answer::Refused(refusal::at_row(refusal::ROW_COUNT, 0));
+    }
+    if span_at(rows, 0) != n as u64 {
+        return Answer::Refused(refusal::at_row(refusal::ROW_MALFORMED, 0));
+    }
+    match check_row(rows, store, 0, n) {
+        Wanted::Refused(r) => Answer::Refused(r),
+        Wanted::Children(count) => check_children(rows, store, 0, count, n),
+    }
+}
+
+// A row's own bytes, without its children's.
+fn own_size(rows: &[u64], row: usize) -> u64
+    requires { ⌜ (rowWidth * row + rowWidth ≤ length (now rows)) × (sizeAt (now rows) row ≤ mostOwnSize) ⌝ }
+    ensures { λ r. ⌜ r ≡ sizeAt (now (rows .entry)) row ⌝ }
+{
+    let count = word2_at(rows, row);
+    match kind_at(rows, row) {
+        0 => 0,
+        1 => 4,
+        2 => 8,
+        3 => 8,
+        4 => 0,
+        5 => 8 + count,
+        6 => 8 + 4 * count,
+        7 => 8 + 8 * count,
+        8 => 8,
+        9.. => 0,
+    }
+}
+
+// GM's `ComputeSeqSum`, over all rows: a value's bytes are its rows' own, one behind the other.
+fn compute_seq_sum(rows: &[u64], n: usize) -> u64
+    requires { ⌜ (n ≤ 4096) × (rowWidth * n ≤ length (now rows)) × ((j : ℕ) → j < n → sizeAt (now rows) j ≤ mostOwnSize) ⌝ }
+    ensures { λ r. ⌜ r ≡ sizeFrom (now (rows .entry)) 0 n ⌝ }
+{
+    let mut sum: u64 = 0;
+    let mut i: usize = 0;
+    while i < n {
+        sum += own_size(rows, i);
+        i += 1;
+    }
+    sum
+}
+
+// GM's `ComputeSizeOf`: 6, 12, 13, 14, else `SizeOfV` of the value that the rows stand for.
+pub fn compute_size_of(rows: &[u64], n: usize, store: &[u8]) -> SizeOf
+    ensures { λ r. ⌜ (sizeOf r ≡ computeSizeOf (now (rows .entry)) n (now (store .entry))) × AtMost 4293951488 (sizeOf r) ⌝ }
+{
+    match check_rows(rows, n, store) {
+        Answer::Refused(r) => SizeOf::Refused(r),
+        Answer::Accepted => SizeOf::Size(compute_seq_sum(rows, n)),
+    }
+}
+
+// A row of a table that passes; the refusal's number where there is none.
+fn find_row(rows: &[u64], n: usize, store: &[u8], row: usize, number: u64) -> Answer
+    ensures { λ r. ⌜ outcomeOf r ≡ map (λ _. tt) (lookUp number (now (rows .entry)) n (now (store .entry)) row) ⌝ }
+{
+    match check_rows(rows, n, store) {
+        Answer::Refused(r) => Answer::Refused(r),
+        Answer::Accepted => refusal::accept_if(row < n, refusal::at_row(number, row)),
+    }
+}
+
+fn no_elements(row: usize) -> Located
+    ensures { λ r. ⌜ located r ≡ refused (reason 18 (atRow row)) ⌝ }
+{
+    Located::Refused(refusal::at_row(refusal::NOT_AN_ARRAY, row))
+}
+
+// The elements of a row in the store; 18 where its kind has none.
+fn elements_at(rows: &[u64], row: usize) -> Located
+    requires { ⌜ (rowWidth * row + rowWidth ≤ length (now rows)) × (sizeAt (now rows) row ≤ mostOwnSize) ⌝ }
+    ensures { λ r. ⌜ located r ≡ elementsPart (kindOf (rowAt (now (rows .entry)) row .kind)) (rowAt (now (rows .entry)) row) (reason 18 (atRow row)) ⌝ }
+{
+    let count = word2_at(rows, row) as usize;
+    let start = word3_at(rows, row) as usize;
+    match kind_at(rows, row) {
+        0 => no_elements(row),
+        1 => no_elements(row),
+        2 => no_elements(row),
+        3 => no_elements(row),
+        4 => no_elements(row),
+        5 => Located::At(start, count),
+        6 => Located::At(start, 4 * count),
+        7 => Located::At(start, 8 * count),
+        8 => no_elements(row),
+        9.. => no_elements(row),
+    }
+}
+
+// Where the array of a row lies in the store: 6, 12, 13, 14, then 18.
+pub fn locate_array(rows: &[u64], n: usize, store: &[u8], row: usize) -> Located
+    ensures { λ r. ⌜ located r ≡ locateArray (now (rows .entry)) n (now (store .entry)) row ⌝ }
+{
+    match find_row(rows, n, store, row, refusal::NOT_AN_ARRAY) {
+        Answer::Refused(r) => Located::Refused(r),
+        Answer::Accepted => elements_at(rows, row),
+    }
+}
+
+// The bytes of an array, a part of the store; the empty part at place 0 where the locator refuses.
+pub fn array_bytes<'a>(rows: &[u64], n: usize, store: &'a [u8], row: usize) -> &'a [u8]
+    ensures { λ r. ⌜ PartOf (store .entry) (locateArray (now (rows .entry)) n (now (store .entry)) row) r ⌝ }
+{
+    match locate_array(rows, n, store, row) {
+        Located::Refused(_) => &store[0..0],
+        Located::At(start, size) => {
+            let end = start + size;
+            &store[start..end]
+        }
+    }
+}
