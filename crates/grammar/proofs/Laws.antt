@@ -9,7 +9,7 @@ use native.Mathlib.Numerals.{add-one}
 use native.Mathlib.Decide.{decLe}
 use native.Mathlib.Omega.{arith}
 use lib.ListN.{length, getD}
-use lib.Dec.{leb, ltb, eqb}
+use lib.Dec.{leb, ltb}
 use Rattle.refusal.specs.Outcome.{Outcome, accepted, refused, bind, test, Reason, reason, word}
 use Rattle.refusal.proofs.Outcome.{test-true, test-false, test-passed}
 use Rattle.refusal.proofs.Tests.{and-true, reflects-leb, reflects-ltb, reflects-eqb, reflects-and}

@@ -1,19 +1,18 @@
 -- The check is accepted exactly where the table passes, and refused exactly by its first refusal.
 use mathlib.Core.Path.{_≡_, refl, ap, sym, subst, _∙_}
 use mathlib.Core.Logic.{_↔_}
-use mathlib.Core.Bool.{Bool, true, false}
 use mathlib.Core.List.{List}
 use Prim.Native.Nat.{ℕ, zero, suc, _+_, _-_, _*_, _≤_, _<_}
-use native.Mathlib.Nat.{add-zero, zero-add, add-suc, suc-add}
+use native.Mathlib.Nat.{add-zero, zero-add}
 use native.Mathlib.Decide.{ℕ-discrete}
 use native.Mathlib.Omega.{arith}
-use Rattle.refusal.specs.Outcome.{Outcome, accepted, refused, bind, test, Reason, reason, word}
+use Rattle.refusal.specs.Outcome.{Outcome, accepted, refused, bind, Reason, reason, word}
 use Rattle.refusal.proofs.Tests.{refuted}
 use Rattle.refusal.proofs.Outcome.{Post, holds, fails, post-bind, post-reflects, post-accepted, post-refused, test-true, test-false}
 use Rattle.value.specs.Kinds.{lastKind, kindOf}
-use Rattle.grammar.specs.Table.{nodeCount, kindWord, firstWord, countWord, childCount}
+use Rattle.grammar.specs.Table.{nodeCount, kindWord, firstWord, countWord}
 use Rattle.grammar.specs.Check.{isNamed, startHolds, lengthHolds, childrenHold, childHolds, checkLayout, checkNode, checkChildren, checkNodes, checkGrammar}
-use Rattle.grammar.specs.Rule.{StartRule, LengthRule, ChildrenRule, ChildRule, ChildOf, NodeRule, LaidOut, Passes, Reached, FirstRefusal, first1, first2, first3, first4, first5}
+use Rattle.grammar.specs.Rule.{ChildrenRule, ChildRule, ChildOf, NodeRule, LaidOut, Passes, Reached, FirstRefusal, first1, first2, first3, first4, first5}
 use Rattle.grammar.proofs.Laws.{reflects-start, reflects-length, reflects-kind, reflects-children, reflects-child}
 
 -- what holds of every number below i, and of i, holds of every number below suc i

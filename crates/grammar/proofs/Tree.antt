@@ -1,13 +1,14 @@
--- The tree of a node in a table that passes: it does not hang on the depth.
-use mathlib.Core.Path.{_≡_, refl, ap}
+-- The tree of a node in a table that passes: it does not depend on the depth.
+use mathlib.Core.Path.{_≡_, refl, ap, _∙_}
 use mathlib.Core.List.{List}
 use Prim.Native.Nat.{ℕ, zero, suc, _+_, _*_, _^_, _≤_, _<_}
+use native.Mathlib.Nat.{add-zero}
 use native.Mathlib.Decide.{decLt}
 use native.Mathlib.Omega.{arith}
 use lib.ListN.{length, getD, List·getD-eq-default}
 use Rattle.packed.specs.Packed.{Below}
 use Rattle.value.specs.Kinds.{Kind, kindOf, constant, number, array, tuple, elements, union, other}
-use Rattle.value.specs.Tree.{G, Gs, gnil, gcons, seqG, ValidGrammar, ValidGrammars}
+use Rattle.value.specs.Tree.{G, Gs, gnil, gcons, seqG, caseAt, ValidGrammar, ValidGrammars}
 use Rattle.grammar.specs.Table.{nodeCount, kindWord, firstWord, countWord, childWord}
 use Rattle.grammar.specs.Rule.{Passes}
 use Rattle.grammar.specs.Tree.{onlyChild, nodeTree, childTrees, treeTo, treeOf}
@@ -34,10 +35,19 @@ tree-node t p k h = tree-depth t p (nodeCount t) (suc (nodeCount t)) k h (omega 
 
 -- ---- GM's `ValidGrammar` of every tree of a table that passes
 
-trees-length : (t : List ℕ) (r : ℕ → G) (n i : ℕ) → length (seqG (childTrees t r i n)) ≡ n
+pub trees-length : (t : List ℕ) (r : ℕ → G) (n i : ℕ) → length (seqG (childTrees t r i n)) ≡ n
 unfolding childTrees
 trees-length t r zero i = refl
 trees-length t r (suc n) i = ap suc (trees-length t r n (suc i))
+
+-- the tree of child i
+pub trees-at : (t : List ℕ) (r : ℕ → G) (n first i : ℕ) → i < n → caseAt (childTrees t r first n) i ≡ r (childWord t (first + i))
+unfolding childTrees
+trees-at t r zero first i h = absurd (omega arith)
+trees-at t r (suc n) first zero h = rw (add-zero first)
+trees-at t r (suc n) first (suc i) h =
+    let e : suc first + i ≡ first + suc i = omega arith in
+    trees-at t r n (suc first) i (omega arith) ∙ rw e
 
 trees-valid : (t : List ℕ) (r : ℕ → G) → ((k : ℕ) → ValidGrammar (r k)) → (n i : ℕ) → ValidGrammars (childTrees t r i n)
 unfolding childTrees ValidGrammar

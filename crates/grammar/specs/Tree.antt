@@ -5,7 +5,7 @@ use Rattle.value.specs.Kinds.{Kind, kindOf, constant, number, array, tuple, ele
 use Rattle.value.specs.Tree.{G, Gs, GConstant, GNumber, GArray, GTuple, GNumberArray, GTaggedUnion, gnil, gcons}
 use Rattle.grammar.specs.Table.{nodeCount, kindWord, firstWord, countWord, childWord}
 
--- the first of some grammars, for kind 3, which has one
+-- the first of some grammars, for kind 3, which has one. None, another kind and depth 0 below are not met in a table that passes
 abbrev pub onlyChild : Gs → G
 onlyChild gnil = GConstant
 onlyChild (gcons g gs) = g

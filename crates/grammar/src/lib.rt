@@ -61,7 +61,7 @@ fn length_holds(words: &[u32]) -> bool
     words.len() == 2 + 3 * nodes + children
 }
 
-// 1, then 2.
+// Refusal 1, then 2.
 fn check_layout(words: &[u32]) -> Answer
     ensures { λ r. ⌜ outcomeOf r ≡ checkLayout (now (words .entry)) ⌝ }
 {
@@ -96,7 +96,7 @@ fn children_hold(kept: bool, first: usize, count: usize, children: usize) -> boo
     first <= children - count
 }
 
-// 4, by whether the kind's rule is kept.
+// Refusal 4, by whether the kind's rule is kept.
 fn check_rule(kept: bool, at: usize, first: usize, count: usize, children: usize) -> Answer
     ensures { λ r. ⌜ outcomeOf r ≡ test (kept && leb (first + count) children) (reason 4 (wordAt at)) accepted ⌝ }
 {
@@ -106,7 +106,7 @@ fn check_rule(kept: bool, at: usize, first: usize, count: usize, children: usize
     )
 }
 
-// Node k by itself: 3, then 4.
+// Node k by itself: refusal 3, then 4.
 fn check_node(words: &[u32], k: usize, children: usize) -> Answer
     requires { ⌜ (k < 256) × (3 + 3 * k < length (now words)) × (children ≡ childCount (now words)) ⌝ }
     ensures { λ r. ⌜ outcomeOf r ≡ checkNode (now (words .entry)) k ⌝ }
@@ -137,7 +137,7 @@ fn child_holds(k: usize, child: usize, nodes: usize) -> bool
     if k < child { child < nodes } else { false }
 }
 
-// Each node by 3, then 4, then its children from the first, before the next node.
+// Each node by refusal 3, then 4, then its children from the first, before the next node.
 fn check_nodes(words: &[u32]) -> Answer
     requires { ⌜ LaidOut (now words) ⌝ }
     ensures { λ r. ⌜ outcomeOf r ≡ checkNodes (now (words .entry)) 0 (nodeCount (now (words .entry))) ⌝ }

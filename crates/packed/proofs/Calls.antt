@@ -1,6 +1,6 @@
 -- When bytes are present and when they have room, as the calls decide it.
 use mathlib.Core.Path.{_≡_, refl, sym, ap, _∙_}
-use mathlib.Core.Bool.{true, false}
+use mathlib.Core.Bool.{true}
 use Prim.Native.Nat.{ℕ, _+_, _-_, _*_, _/_, _≤_, _<_}
 use native.Mathlib.Nat.{le-div-iff-mul-le, mul-comm, le-refl}
 use native.Mathlib.Omega.{arith}

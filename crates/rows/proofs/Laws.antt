@@ -1,4 +1,4 @@
--- The walk's definition as the code takes it: it does not hang on the depth, and what is left of the children decides the whole.
+-- The walk's definition as the code takes it: it does not depend on the depth, and what is left of the children decides the whole.
 use mathlib.Core.Path.{_≡_, refl, ap, sym, _∙_}
 use mathlib.Core.Bool.{Bool, true, false, _&&_}
 use mathlib.Core.Logic.{_↔_}

@@ -1,5 +1,5 @@
 -- A reading with refusals and a parsing of the same bytes agree.
-use mathlib.Core.Path.{_≡_, refl, ap, _∙_}
+use mathlib.Core.Path.{_≡_, refl, ap, subst, _∙_}
 use mathlib.Core.Bool.{Bool, true, false, not}
 use mathlib.Core.List.{List}
 use Prim.Native.Nat.{ℕ, zero, suc, _+_, _-_, _*_, _/_, _≤_, _<_}
@@ -11,7 +11,7 @@ use Rattle.refusal.specs.Outcome.{Outcome, accepted, refused, bind, test}
 use Rattle.refusal.proofs.Outcome.{Post, holds, fails, post-bind, post-weaken, bind-test}
 use Rattle.packed.specs.Packed.{unpackLittleEndian}
 use Rattle.value.specs.Kinds.{width, elementWidth}
-use Rattle.value.specs.Tree.{G, Gs, GConstant, GNumber, GArray, GTuple, GNumberArray, GTaggedUnion, gnil, gcons, Val, Vals, VConstant, VNumber, VArray, VTuple, VNumberArray, VCase, vnil, vcons, seqV, rowCount, rowCounts}
+use Rattle.value.specs.Tree.{G, Gs, GConstant, GNumber, GArray, GTuple, GNumberArray, GTaggedUnion, gnil, gcons, Val, Vals, VConstant, VNumber, VArray, VTuple, VNumberArray, VCase, vnil, vcons, seqG, seqV, rowCount, rowCounts}
 use Rattle.value.specs.Step.{Step, yield, give, both, elements}
 use Rattle.value.specs.Parse.{Parse, missing, parseNumber, parseNumbers, parse, parseFields, parseCaseAt}
 use Rattle.value.specs.Reading.{State, Reading, stop, move, begin, claim, claimed, free, takeNumber, takeNumbers, readBody, readFields, readCaseAt, readVal}
@@ -43,7 +43,7 @@ pub gives : {E A : Type 0} {P : A → Type 0} {Q : E → Type 0} {a : A} → P a
 gives p = holds _ p
 
 -- as many elements as were asked for
-elements-count : {E S : Type 0} (n : ℕ) (r : S → Outcome E (Step S Val)) (s : S) → Post (λ t. length (seqV (t .value)) ≡ n) (λ _. Unit {0}) (elements n r s)
+pub elements-count : {E S : Type 0} (n : ℕ) (r : S → Outcome E (Step S Val)) (s : S) → Post (λ t. length (seqV (t .value)) ≡ n) (λ _. Unit {0}) (elements n r s)
 unfolding elements
 elements-count zero r s = gives refl
 elements-count (suc n) r s = post-bind _ (any (r s)) (λ a x. post-bind _ (elements-count n r (a .state)) (λ b y. gives (ap suc y)))
@@ -110,7 +110,7 @@ module _ {capacity : ℕ} {d : List ℕ} where
   agrees-both k l (neither n t) c = neither n t
   agrees-both k l (short t y p) c = short t (both y l) (post-bind _ p (λ a h. post-bind _ (any (l (a .state))) (λ b _. gives (omega arith))))
 
-  agrees-elements : (g : G) → ((s : State) → s .at ≤ length d → Agrees capacity d rowCount s (readVal capacity d g s) (parse g (drop (s .at) d))) → (n : ℕ) (s : State) → s .at ≤ length d → Agrees capacity d rowCounts s (elements n (readVal capacity d g) s) (elements n (parse g) (drop (s .at) d))
+  pub agrees-elements : (g : G) → ((s : State) → s .at ≤ length d → Agrees capacity d rowCount s (readVal capacity d g s) (parse g (drop (s .at) d))) → (n : ℕ) (s : State) → s .at ≤ length d → Agrees capacity d rowCounts s (elements n (readVal capacity d g) s) (elements n (parse g) (drop (s .at) d))
   unfolding elements rowCount
   agrees-elements g r zero s h = same vnil s h (omega arith) (omega arith)
   agrees-elements g r (suc n) s h = agrees-both (elements n (readVal capacity d g)) (elements n (parse g)) (r s h) (λ t i. agrees-elements g r n t i)
@@ -130,7 +130,7 @@ module _ (capacity : ℕ) (d : List ℕ) where
     agrees-body (GNumberArray k) s h b = agrees-give 1 (VNumberArray k) (λ ns. omega arith) (omega arith) (omega arith) (agrees-numbers (elementWidth k) (begin s) h (elementWidth-positive k))
     agrees-body (GTaggedUnion gs) s h b = agrees-number 8 (begin s) _ _ h (λ c i. agrees-give 1 (VCase c) (λ v. refl) (omega arith) (omega arith) (agrees-case gs c (begin s) (move 8 (begin s)) i))
 
-    agrees-fields : (gs : Gs) (s : State) → s .at ≤ length d → Agrees capacity d rowCounts s (readFields capacity d gs s) (parseFields gs (drop (s .at) d))
+    pub agrees-fields : (gs : Gs) (s : State) → s .at ≤ length d → Agrees capacity d rowCounts s (readFields capacity d gs s) (parseFields gs (drop (s .at) d))
     agrees-fields gnil s h = same vnil s h (omega arith) (omega arith)
     agrees-fields (gcons g gs) s h = agrees-both (readFields capacity d gs) (parseFields gs) (agrees-claim s (readBody capacity d g) (λ b. agrees-body g s h b)) (λ t i. agrees-fields gs t i)
 
@@ -141,3 +141,17 @@ module _ (capacity : ℕ) (d : List ℕ) where
 
   pub agrees : (g : G) (s : State) → s .at ≤ length d → Agrees capacity d rowCount s (readVal capacity d g s) (parse g (drop (s .at) d))
   agrees g s h = agrees-claim s (readBody capacity d g) (λ b. agrees-body g s h b)
+
+-- what an accepted reading says: it ends inside the record, and the rows of what it read were free and are counted
+pub agrees-accepted : {A : Type 0} {capacity : ℕ} {d : List ℕ} {rows : A → ℕ} {s : State} {x : Reading A} {y : Parse A} → Agrees capacity d rows s x y → (t : Step State A) → x ≡ accepted t → (t .state .at ≤ length d) × (t .state .begun ≡ s .begun + rows (t .value)) × (rows (t .value) ≤ free capacity s)
+agrees-accepted {A} {capacity} {d} {rows} {s} (same a u h b f) t e =
+    let q : record { value = a; state = u } ≡ t = cc in
+    subst (λ (w : Step State A). (w .state .at ≤ length d) × (w .state .begun ≡ s .begun + rows (w .value)) × (rows (w .value) ≤ free capacity s)) q (h, b, f)
+agrees-accepted (neither n u) t e = let z : _≡_ {A = ℕ} 0 1 = cc in absurd (omega arith)
+agrees-accepted (short u y p) t e = let z : _≡_ {A = ℕ} 0 1 = cc in absurd (omega arith)
+
+-- as many fields as grammars
+pub fields-count : (capacity : ℕ) (d : List ℕ) (gs : Gs) (s : State) → Post (λ t. length (seqV (t .value)) ≡ length (seqG gs)) (λ _. Unit {0}) (readFields capacity d gs s)
+unfolding readBody
+fields-count capacity d gnil s = gives refl
+fields-count capacity d (gcons g gs) s = post-bind _ (any (readVal capacity d g s)) (λ a x. post-bind _ (fields-count capacity d gs (a .state)) (λ b y. gives (ap suc y)))

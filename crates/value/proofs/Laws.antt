@@ -298,7 +298,7 @@ module _ {vs us : Vals} where
   pub one-meaning-fields : {gs : Gs} → FieldsOf gs vs → FieldsOf gs us → (r s : List ℕ) → bytesOfAll vs ++ r ≡ bytesOfAll us ++ s → (vs ≡ us) × (r ≡ s)
   one-meaning-fields {gs} o q r s = apart (parseFields gs) (bytesOfAll vs) (bytesOfAll us) r s (fields-bytesOf (o .inGrammar) (o .valid) (o .typed) r) (fields-bytesOf (q .inGrammar) (q .valid) (q .typed) s)
 
--- ---- three lemmas that GM exports and whose text was not at hand: the statements are found from their names and uses
+-- ---- three lemmas that GM exports and whose text was not at hand: the statements are ours, after their names
 
 -- a seq<V> and one value more
 unfoldable pub snoc : Vals → Val → Vals

@@ -1,4 +1,4 @@
--- The kinds, by classes, and what tells the kinds of a class apart: number and width. The only place that lists them.
+-- The kinds, by classes, and what tells the kinds of a class apart: number and width. Definitions that go by width take it from here.
 use mathlib.Core.List.{List, [], _∷_}
 use Prim.Native.Nat.{ℕ}
 use lib.ListN.{getD}

@@ -90,11 +90,11 @@ module _ (capacity : ℕ) (d : List ℕ) where
   abbrev pub readVal : G → State → Reading Val
   readVal g s = claimed capacity (readBody g) s
 
-  -- what GM's `ParseVal` answers, from an index on
+  -- GM's `ParseVal` from an index on, where 1 to 6 are not given
   unfoldable pub readAt : G → ℕ → Reading Val
   readAt g index = test (leb index (length d)) (stop 7 (start index)) (λ _. readVal g (start index))
 
-  -- what GM's `Demarshall` answers: from byte 0 on, with the end reached
+  -- GM's `Demarshall`, where 1 to 6 are not given: from byte 0 on, with the end reached
   unfoldable pub readWhole : G → Reading Val
   readWhole g = next (readVal g (start 0)) (atEnd d)
 

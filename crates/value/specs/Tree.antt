@@ -1,4 +1,4 @@
--- Grammars and values as trees, GM's `G` and `V`, with GM's predicates and sizes.
+-- Grammars and values as trees, `G` and `V` of the source's GenericMarshalling (GM), with its predicates and sizes.
 use mathlib.Core.List.{List, [], _∷_}
 use Prim.Native.Nat.{ℕ, _+_, _*_, _^_, _<_}
 use lib.ListN.{length, getD}
@@ -19,7 +19,7 @@ mutual
     gnil : Gs
     gcons : G → Gs → Gs
 
--- GM's datatype V (`V` is a reserved word of antt); Vals is seq<V>
+-- GM's datatype V (`V` is a reserved word here); Vals is seq<V>
 mutual
   pub data Val : Type 0 where
     VConstant : Val

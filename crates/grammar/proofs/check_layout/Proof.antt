@@ -1,10 +1,9 @@
 use mathlib.Core.Path.{_≡_, ap, sym, _∙_}
-use mathlib.Core.Bool.{true, false}
+use mathlib.Core.Bool.{true}
 use Prim.Native.Nat.{ℕ, _+_, _*_}
-use native.Mathlib.Omega.{arith}
 use Rattle.refusal.specs.Outcome.{Reason, reason, word, accepted, refused, test}
 use Rattle.refusal.proofs.Outcome.{test-true, test-false}
-use Rattle.grammar.specs.Check.{startHolds, lengthHolds, checkLayout}
+use Rattle.grammar.specs.Check.{startHolds, checkLayout}
 use Rattle.grammar.proofs.Laws.{reflects-start}
 use borrow.Author.Needs.{needs}
 use Rattle.grammar.proofs.check_layout.Statement.{statement}

@@ -1,5 +1,4 @@
 use borrow.Author.Tests.{lt-ltb, le-ltb}
-use borrow.Author.Needs.{needs}
 use Rattle.grammar.proofs.child_holds.Statement.{statement}
 use Rattle.grammar.proofs.child_holds.Tie as tie
 

@@ -2,7 +2,6 @@ use Prim.Native.Nat.{_+_, _-_}
 use borrow.Author.Tests.{not-true, not-false, lt-leb}
 use Rattle.refusal.proofs.Tests.{leb-iff}
 use native.Mathlib.Omega.{arith}
-use borrow.Author.Needs.{needs}
 use Rattle.grammar.proofs.children_hold.Statement.{statement}
 use Rattle.grammar.proofs.children_hold.Tie as tie
 

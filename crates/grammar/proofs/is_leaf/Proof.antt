@@ -1,5 +1,4 @@
 use borrow.Author.Tests.{eq-eqb, ne-eqb}
-use borrow.Author.Needs.{needs}
 use Rattle.grammar.proofs.is_leaf.Statement.{statement}
 use Rattle.grammar.proofs.is_leaf.Tie as tie
 
