@@ -7,8 +7,12 @@
 
 mod grammar;
 mod packed;
+mod reading;
 mod refusal;
+mod rows;
 
 pub use grammar::check_grammar;
 pub use packed::{pack, pack_seq, unpack, unpack_seq};
+pub use reading::{capacity, demarshall, parse_val, Reading};
 pub use refusal::{Place, Refusal};
+pub use rows::{array_bytes, check_rows, compute_size_of, locate_array};

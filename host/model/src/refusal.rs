@@ -32,3 +32,11 @@ pub(crate) fn at_byte(number: u64, byte: usize) -> Refusal {
         place: Place::Byte(byte as u64),
     }
 }
+
+/// The refusal of this number at a row.
+pub(crate) fn at_row(number: u64, row: usize) -> Refusal {
+    Refusal {
+        number,
+        place: Place::Row(row as u64),
+    }
+}

@@ -1,0 +1,179 @@
+//! Reading a record after GM, which is GenericMarshalling.i.dfy: the value is read as a tree and
+//! then laid out as rows.
+
+use std::slice;
+
+use crate::grammar::check_grammar;
+use crate::packed::unpack;
+use crate::refusal::{at_byte, Refusal};
+use crate::rows::{check_length, Elements, MOST_ROWS, V};
+
+/// An accepted reading.
+#[derive(Clone, Debug, PartialEq, Eq)]
+pub struct Reading {
+    /// The words of the value's rows, four to a row.
+    pub rows: Vec<u64>,
+    /// The first byte behind the value.
+    pub rest_index: usize,
+}
+
+/// The capacity, in rows, of a slice of this many words.
+pub fn capacity(words: usize) -> usize {
+    MOST_ROWS.min(words / 4)
+}
+
+/// A reader of values: the table of a checked grammar, the record, the next byte to read and the
+/// number of rows still free.
+struct Reader<'a> {
+    grammar: &'a [u32],
+    record: &'a [u8],
+    position: usize,
+    rows_left: usize,
+}
+
+impl<'a> Reader<'a> {
+    /// The kind of a node and the numbers of its children.
+    fn node(&self, number: u32) -> (u32, &'a [u32]) {
+        let (nodes, node) = (self.grammar[0] as usize, 1 + 3 * number as usize);
+        let (first, count) = (self.grammar[node + 1], self.grammar[node + 2]);
+        let child_words = &self.grammar[2 + 3 * nodes..];
+        let children = &child_words[first as usize..][..count as usize];
+        (self.grammar[node], children)
+    }
+
+    /// Reads a number of `width` bytes.
+    fn number(&mut self, width: usize) -> Result<u64, Refusal> {
+        let number = unpack(width, self.record, self.position)?;
+        self.position += width;
+        Ok(number)
+    }
+
+    /// Reads an element count and the elements, `width` bytes each.
+    fn elements(&mut self, width: usize) -> Result<Elements<'a>, Refusal> {
+        let start = self.position;
+        let count = self.number(8)?;
+        let rest = &self.record[self.position..];
+        if count > (rest.len() / width) as u64 {
+            return Err(at_byte(9, start));
+        }
+        let (place, length) = (self.position, count as usize * width);
+        self.position += length;
+        let packed = &rest[..length];
+        Ok(Elements { place, packed })
+    }
+
+    /// Reads an element count and as many values of a node. Each of them needs a row.
+    fn array(&mut self, element: u32) -> Result<Vec<V<'a>>, Refusal> {
+        let start = self.position;
+        let count = self.number(8)?;
+        if count > self.rows_left as u64 {
+            return Err(at_byte(8, start));
+        }
+        (0..count).map(|_| self.value(element)).collect()
+    }
+
+    /// Reads a tag and the value of its case.
+    fn case(&mut self, cases: &[u32]) -> Result<V<'a>, Refusal> {
+        let start = self.position;
+        let tag = self.number(8)?;
+        if tag >= cases.len() as u64 {
+            return Err(at_byte(10, start));
+        }
+        let value = self.value(cases[tag as usize])?;
+        Ok(V::Case(tag, Box::new(value)))
+    }
+
+    /// Reads a value of a node.
+    fn value(&mut self, node: u32) -> Result<V<'a>, Refusal> {
+        if self.rows_left == 0 {
+            return Err(at_byte(8, self.position));
+        }
+        self.rows_left -= 1;
+        let (kind, children) = self.node(node);
+        match kind {
+            0 => Ok(V::Constant),
+            1 => self.number(4).map(|number| V::Uint32(number as u32)),
+            2 => self.number(8).map(V::Uint64),
+            3 => self.array(children[0]).map(V::Array),
+            4 => {
+                let fields: Result<_, _> = children.iter().map(|&n| self.value(n)).collect();
+                fields.map(V::Tuple)
+            }
+            5 => self.elements(1).map(V::ByteArray),
+            6 => self.elements(4).map(V::Uint32Array),
+            7 => self.elements(8).map(V::Uint64Array),
+            _ => self.case(children),
+        }
+    }
+}
+
+/// The values directly in a value.
+fn parts<'v, 'a>(value: &'v V<'a>) -> &'v [V<'a>] {
+    match value {
+        V::Array(values) | V::Tuple(values) => values,
+        V::Case(_, value) => slice::from_ref(value),
+        _ => &[],
+    }
+}
+
+/// The kind, word 2 and word 3 of a value's row.
+fn words(value: &V) -> [u64; 3] {
+    let array = |kind, width, elements: &Elements| {
+        let count = elements.packed.len() / width;
+        [kind, count as u64, elements.place as u64]
+    };
+    match value {
+        V::Constant => [0, 0, 0],
+        V::Uint32(number) => [1, u64::from(*number), 0],
+        V::Uint64(number) => [2, *number, 0],
+        V::Array(values) => [3, values.len() as u64, 0],
+        V::Tuple(values) => [4, values.len() as u64, 0],
+        V::ByteArray(elements) => array(5, 1, elements),
+        V::Uint32Array(elements) => array(6, 4, elements),
+        V::Uint64Array(elements) => array(7, 8, elements),
+        V::Case(tag, _) => [8, *tag, 0],
+    }
+}
+
+/// The rows of a value, in preorder.
+fn rows(value: &V) -> Vec<u64> {
+    let below: Vec<u64> = parts(value).iter().flat_map(rows).collect();
+    let span = 1 + below.len() as u64 / 4;
+    let [kind, word2, word3] = words(value);
+    [vec![kind, span, word2, word3], below].concat()
+}
+
+/// Reads a value of the grammar's root from `index`, in at most `capacity` rows. A capacity is at
+/// most 4,096.
+pub fn parse_val(
+    grammar: &[u32],
+    record: &[u8],
+    index: usize,
+    capacity: usize,
+) -> Result<Reading, Refusal> {
+    check_grammar(grammar)?;
+    check_length(record)?;
+    if index > record.len() {
+        return Err(at_byte(7, index));
+    }
+    let mut reader = Reader {
+        grammar,
+        record,
+        position: index,
+        rows_left: capacity,
+    };
+    let value = reader.value(0)?;
+    Ok(Reading {
+        rows: rows(&value),
+        rest_index: reader.position,
+    })
+}
+
+/// Reads a record that is a value of the grammar's root, in at most `capacity` rows.
+pub fn demarshall(grammar: &[u32], record: &[u8], capacity: usize) -> Result<Reading, Refusal> {
+    let reading = parse_val(grammar, record, 0, capacity)?;
+    if reading.rest_index < record.len() {
+        return Err(at_byte(11, reading.rest_index));
+    }
+    Ok(reading)
+}

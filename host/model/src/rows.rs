@@ -1,0 +1,197 @@
+//! Value rows: the value they stand for, its size and the place of an array in the store. GM is
+//! GenericMarshalling.i.dfy. A size in bytes that an unchecked row gives is computed in u128,
+//! where it never wraps.
+
+use crate::refusal::{at_byte, at_row, Refusal};
+
+/// The most rows of a value.
+pub(crate) const MOST_ROWS: usize = 4096;
+/// The most bytes of a record or a store.
+const MOST_BYTES: usize = 1_048_576;
+/// The largest number of kind 1.
+const MOST_UINT32: u64 = 4_294_967_295;
+
+/// The words of a row: kind, span, word 2 and word 3.
+type Row = [u64; 4];
+
+/// The elements of a value of kind 5 to 7: where they start in the store, and their bytes there.
+pub(crate) struct Elements<'a> {
+    pub(crate) place: usize,
+    pub(crate) packed: &'a [u8],
+}
+
+/// GM's datatype `V`. Number arrays stay packed, since arrays that overlap in the store may have
+/// far more elements than the store has bytes.
+pub(crate) enum V<'a> {
+    Constant,
+    Uint32(u32),
+    Uint64(u64),
+    Array(Vec<V<'a>>),
+    Tuple(Vec<V<'a>>),
+    ByteArray(Elements<'a>),
+    Uint32Array(Elements<'a>),
+    Uint64Array(Elements<'a>),
+    Case(u64, Box<V<'a>>),
+}
+
+/// Refuses a record or a store that is too long.
+pub(crate) fn check_length(bytes: &[u8]) -> Result<(), Refusal> {
+    match bytes.len() {
+        0..=MOST_BYTES => Ok(()),
+        _ => Err(at_byte(6, 0)),
+    }
+}
+
+/// The first `n` rows.
+fn table(rows: &[u64], n: usize) -> Result<Vec<Row>, Refusal> {
+    if n == 0 || n > MOST_ROWS || 4 * n > rows.len() {
+        return Err(at_row(12, 0));
+    }
+    let words = rows[..4 * n].chunks(4);
+    Ok(words.map(|row| [row[0], row[1], row[2], row[3]]).collect())
+}
+
+/// Whether a row keeps the rules for its own words. From it to its parent's end there are `most`
+/// rows, at least 1.
+fn is_valid([kind, span, word2, word3]: Row, most: usize) -> bool {
+    let is_span_valid = match kind {
+        3 | 4 | 8 => (1..=most as u64).contains(&span),
+        _ => span == 1,
+    };
+    let is_word2_valid = match kind {
+        0 => word2 == 0,
+        1 => word2 <= MOST_UINT32,
+        _ => true,
+    };
+    let is_word3_valid = matches!(kind, 5..=7) || word3 == 0;
+    kind <= 8 && is_span_valid && is_word2_valid && is_word3_valid
+}
+
+/// The elements of an array row, `width` bytes each.
+fn elements<'a>(
+    rows: &[Row],
+    row: usize,
+    width: usize,
+    store: &'a [u8],
+) -> Result<Elements<'a>, Refusal> {
+    let [_, _, count, place] = rows[row];
+    let end = u128::from(place) + u128::from(count) * width as u128;
+    if end > store.len() as u128 {
+        return Err(at_row(14, row));
+    }
+    let (place, end) = (place as usize, end as usize);
+    let packed = &store[place..end];
+    Ok(Elements { place, packed })
+}
+
+/// The values of the `count` children of a row, which fill its span.
+fn children<'a>(
+    rows: &[Row],
+    row: usize,
+    count: u64,
+    store: &'a [u8],
+) -> Result<Vec<V<'a>>, Refusal> {
+    let end = row + rows[row][1] as usize;
+    let mut child = row + 1;
+    let mut values = Vec::new();
+    while (values.len() as u64) < count && child < end {
+        values.push(value(rows, child, end, store)?);
+        child += rows[child][1] as usize;
+    }
+    if values.len() as u64 == count && child == end {
+        Ok(values)
+    } else {
+        Err(at_row(13, row))
+    }
+}
+
+/// The value of a row whose parent ends before row `end`.
+fn value<'a>(rows: &[Row], row: usize, end: usize, store: &'a [u8]) -> Result<V<'a>, Refusal> {
+    if !is_valid(rows[row], end - row) {
+        return Err(at_row(13, row));
+    }
+    let [kind, _, word2, _] = rows[row];
+    match kind {
+        0 => Ok(V::Constant),
+        1 => Ok(V::Uint32(word2 as u32)),
+        2 => Ok(V::Uint64(word2)),
+        3 => children(rows, row, word2, store).map(V::Array),
+        4 => children(rows, row, word2, store).map(V::Tuple),
+        5 => elements(rows, row, 1, store).map(V::ByteArray),
+        6 => elements(rows, row, 4, store).map(V::Uint32Array),
+        7 => elements(rows, row, 8, store).map(V::Uint64Array),
+        _ => {
+            let child = children(rows, row, 1, store)?.remove(0);
+            Ok(V::Case(word2, Box::new(child)))
+        }
+    }
+}
+
+/// The value that `n` rows stand for.
+fn whole_value<'a>(rows: &[u64], n: usize, store: &'a [u8]) -> Result<V<'a>, Refusal> {
+    check_length(store)?;
+    let rows = table(rows, n)?;
+    // The root's span is n exactly; another row may stop before its parent's end.
+    if rows[0][1] != n as u64 {
+        return Err(at_row(13, 0));
+    }
+    value(&rows, 0, n, store)
+}
+
+/// `SeqSum`.
+fn seq_sum(values: &[V]) -> u64 {
+    values.iter().map(size_of_v).sum()
+}
+
+/// `SizeOfV`. The packed bytes of an array are as many as its elements times their width.
+fn size_of_v(value: &V) -> u64 {
+    match value {
+        V::Constant => 0,
+        V::Uint32(_) => 4,
+        V::Uint64(_) => 8,
+        V::Array(values) => 8 + seq_sum(values),
+        V::Tuple(values) => seq_sum(values),
+        V::ByteArray(array) | V::Uint32Array(array) | V::Uint64Array(array) => {
+            8 + array.packed.len() as u64
+        }
+        V::Case(_, value) => 8 + size_of_v(value),
+    }
+}
+
+/// Checks that `n` rows stand for a value.
+pub fn check_rows(rows: &[u64], n: usize, store: &[u8]) -> Result<(), Refusal> {
+    whole_value(rows, n, store).map(|_| ())
+}
+
+/// The length in bytes of the record of the value that `n` rows stand for.
+pub fn compute_size_of(rows: &[u64], n: usize, store: &[u8]) -> Result<u64, Refusal> {
+    whole_value(rows, n, store).map(|value| size_of_v(&value))
+}
+
+/// Where the elements of an array row start in the store, and their length in bytes.
+pub fn locate_array(
+    rows: &[u64],
+    n: usize,
+    store: &[u8],
+    row: usize,
+) -> Result<(usize, usize), Refusal> {
+    check_rows(rows, n, store)?;
+    let (kind, count, place) = match table(rows, n)?.get(row) {
+        Some(&[kind, _, count, place]) => (kind, count as usize, place as usize),
+        None => return Err(at_row(18, row)),
+    };
+    match kind {
+        5 => Ok((place, count)),
+        6 => Ok((place, 4 * count)),
+        7 => Ok((place, 8 * count)),
+        _ => Err(at_row(18, row)),
+    }
+}
+
+/// The bytes of an array row in the store, and the empty part at place 0 when there are none.
+pub fn array_bytes<'a>(rows: &[u64], n: usize, store: &'a [u8], row: usize) -> &'a [u8] {
+    match locate_array(rows, n, store, row) {
+        Ok((start, length)) => &store[start..start + length],
+        Err(_) => &store[..0],
+    }
+}
