@@ -75,7 +75,7 @@ route_answer route_pack_u64_seq(const uint64_t *numbers, size_t numbers_len, uin
  * 0 constant, 1 uint32, 2 uint64, 3 array, 4 tuple, 5 array of bytes, 6 array of uint32, 7 array of
  * uint64, 8 tagged union. */
 
-/* Accepts the words that are a sound table; child words of no node are free. Changes nothing.
+/* Accepts the words that are a sound table; child words of no node are not looked at. Changes nothing.
  * Refused: 1 at word 0, when words_len is 0, or N is 0 or above 256;
  * 2 at word 1 + 3N, when M's word is missing, M is above 1024, or words_len is not 2 + 3N + M;
  * then, node after node, from node 0 on:
@@ -84,6 +84,36 @@ route_answer route_pack_u64_seq(const uint64_t *numbers, size_t numbers_len, uin
  * its first or count not 0, or when first + count is above M;
  * 5 at the word of its first child whose number is not above k or not below N. */
 route_answer route_check_grammar(const uint32_t *words, size_t words_len);
+
+/* Value rows: row i is the words kind, span, word 2 and word 3, from word 4i on. Kinds are those of
+ * grammar tables. The span is the number of rows of the value, its own included; the rows of its
+ * children follow its own, child after child. Word 2 is 0 for kind 0, the number for kinds 1 and 2,
+ * the count of elements for kinds 3 to 7, the tag for kind 8. Word 3 is the place of the first
+ * element in the store for kinds 5 to 7, else 0. Words behind row n - 1 are free. A call uses less
+ * than 1 MiB of stack, on values as deep as 4096 rows can be. */
+
+/* Gives in `first` the size in bytes of the value that rows 0 to n - 1 stand for: the length of its
+ * record, at most 4293951488. Changes nothing.
+ * Refused: 6 at byte 0, when store_len is above 1048576;
+ * 12 at row 0, when n is 0 or above 4096, or 4 * n is above rows_len;
+ * 13 at row 0, when its span is not n;
+ * then, row after row, from row 0 on:
+ * 13 at the row, when its kind is above 8; when its span is 0, reaches past its parent's end, or is
+ * not 1 for kind 0, 1, 2, 5, 6 or 7; when word 2 of kind 0 or word 3 of kind 0, 1, 2, 3, 4 or 8 is
+ * not 0; or when its kind is 1 and its number above 4294967295;
+ * 14 at the row, when its kind is 5, 6 or 7 and its place plus its count times 1, 4 or 8 is above
+ * store_len, count 0 too;
+ * then its children, as many as word 2 says for kinds 3 and 4, one for kind 8, and behind them
+ * 13 at the row, when a child is missing or rows of its span are left over, which are free. */
+route_answer route_compute_size_of(const uint64_t *rows, size_t rows_len, size_t n,
+                                   const uint8_t *store, size_t store_len);
+
+/* Gives where the elements of a row of kind 5, 6 or 7 lie in the store: in `first` the place of
+ * their first byte, in `second` how many bytes. Changes nothing.
+ * Refused: as route_compute_size_of;
+ * 18 at the row, when row is not below n or its kind is not 5, 6 or 7. */
+route_answer route_locate_array(const uint64_t *rows, size_t rows_len, size_t n,
+                                const uint8_t *store, size_t store_len, size_t row);
 
 #ifdef __cplusplus
 }

@@ -20,31 +20,41 @@ static void check(int line, const char *expected, int holds)
 
 #define CHECK(expected) check(__LINE__, #expected, expected)
 
-static int answer_is(route_answer answer, uint64_t number, uint64_t place_kind, uint64_t place,
-                     uint64_t first)
+static int accepted_with(route_answer answer, uint64_t first, uint64_t second)
 {
-    return answer.number == number && answer.place_kind == place_kind && answer.place == place &&
-           answer.first == first && answer.second == 0;
+    return answer.number == 0 && answer.place_kind == 0 && answer.place == 0 &&
+           answer.first == first && answer.second == second;
 }
 
-static int unpacked(route_answer answer, uint64_t first)
+static int refused_at(route_answer answer, uint64_t number, uint64_t place_kind, uint64_t place)
 {
-    return answer_is(answer, 0, 0, 0, first);
+    return answer.number == number && answer.place_kind == place_kind && answer.place == place &&
+           answer.first == 0 && answer.second == 0;
+}
+
+static int gives(route_answer answer, uint64_t first)
+{
+    return accepted_with(answer, first, 0);
 }
 
 static int accepted(route_answer answer)
 {
-    return answer_is(answer, 0, 0, 0, 0);
+    return accepted_with(answer, 0, 0);
 }
 
 static int refused(route_answer answer, uint64_t number, uint64_t byte)
 {
-    return answer_is(answer, number, 2, byte, 0);
+    return refused_at(answer, number, 2, byte);
 }
 
 static int refused_at_word(route_answer answer, uint64_t number, uint64_t word)
 {
-    return answer_is(answer, number, 1, word, 0);
+    return refused_at(answer, number, 1, word);
+}
+
+static int refused_at_row(route_answer answer, uint64_t number, uint64_t row)
+{
+    return refused_at(answer, number, 3, row);
 }
 
 /* The buffer whose inner LENT bytes the calls may change. MARGIN bytes at each end show a change
@@ -99,9 +109,9 @@ static const uint8_t packed[20] = {0x99, 0x78, 0x56, 0x34, 0x12, 0xff, 0xff, 0xf
 
 static void test_unpack_u32(void)
 {
-    CHECK(unpacked(route_unpack_u32(packed, 20, 1), 0x12345678));
-    CHECK(unpacked(route_unpack_u32(packed, 20, 5), UINT32_MAX));
-    CHECK(unpacked(route_unpack_u32(packed, 20, 16), 0x80000001));
+    CHECK(gives(route_unpack_u32(packed, 20, 1), 0x12345678));
+    CHECK(gives(route_unpack_u32(packed, 20, 5), UINT32_MAX));
+    CHECK(gives(route_unpack_u32(packed, 20, 16), 0x80000001));
     CHECK(refused(route_unpack_u32(packed, 20, 17), 9, 17));
     CHECK(refused(route_unpack_u32(packed, 20, 20), 9, 20));
     CHECK(refused(route_unpack_u32(packed, 20, 21), 7, 21));
@@ -113,8 +123,8 @@ static void test_unpack_u32(void)
 
 static void test_unpack_u64(void)
 {
-    CHECK(unpacked(route_unpack_u64(packed, 20, 9), 0x0102030405060708));
-    CHECK(unpacked(route_unpack_u64(packed, 20, 12), 0x8000000102030405));
+    CHECK(gives(route_unpack_u64(packed, 20, 9), 0x0102030405060708));
+    CHECK(gives(route_unpack_u64(packed, 20, 12), 0x8000000102030405));
     CHECK(refused(route_unpack_u64(packed, 20, 13), 9, 13));
     CHECK(refused(route_unpack_u64(packed, 20, 20), 9, 20));
     CHECK(refused(route_unpack_u64(packed, 20, 21), 7, 21));
@@ -373,6 +383,200 @@ static void test_check_grammar_order(void)
     CHECK(refused_at_word(ANSWER(2, 4, 1, 1, 4, 0, 1, 2, 1, 0), 5, 9));
 }
 
+/* The most rows of a table, and the most bytes of a store. */
+enum { MOST_ROWS = 4096, MOST_BYTES = 1048576 };
+
+static uint64_t rows_lent[4 * (MOST_ROWS + 1)];
+static uint8_t store_lent[MOST_BYTES + 1];
+
+/* Lends a copy of the rows, and a store. */
+static void lend_rows(const uint64_t *rows, size_t length)
+{
+    memset(rows_lent, FILL, sizeof rows_lent);
+    memcpy(rows_lent, rows, length * sizeof *rows);
+    memset(store_lent, FILL, sizeof store_lent);
+}
+
+/* Whether the rows and the store are as they were lent. */
+static int rows_unchanged(const uint64_t *rows, size_t length)
+{
+    static uint8_t fill[MOST_BYTES + 1];
+    memset(fill, FILL, sizeof fill);
+    return memcmp(rows_lent, rows, length * sizeof *rows) == 0 &&
+           memcmp(rows_lent + length, fill, sizeof rows_lent - length * sizeof *rows) == 0 &&
+           memcmp(store_lent, fill, sizeof store_lent) == 0;
+}
+
+/* The size on a copy of the rows, with a check that the call changes neither the rows nor the
+ * store, and that the locator gives the same refusal. */
+static route_answer size_on(const uint64_t *rows, size_t length, size_t n, size_t store_len)
+{
+    lend_rows(rows, length);
+    const route_answer answer = route_compute_size_of(rows_lent, length, n, store_lent, store_len);
+    CHECK(rows_unchanged(rows, length));
+    if (answer.number != 0) {
+        const route_answer other =
+            route_locate_array(rows_lent, length, n, store_lent, store_len, SIZE_MAX);
+        CHECK(memcmp(&answer, &other, sizeof answer) == 0);
+    }
+    return answer;
+}
+
+/* The words given, and how many they are. */
+#define WORDS(...) \
+    (const uint64_t[]){__VA_ARGS__}, sizeof((const uint64_t[]){__VA_ARGS__}) / sizeof(uint64_t)
+
+/* The size on one row, with a store of 16 bytes. */
+static route_answer size_on_row(uint64_t kind, uint64_t span, uint64_t word2, uint64_t word3)
+{
+    return size_on(WORDS(kind, span, word2, word3), 1, 16);
+}
+
+/* The size on this row in a case in a tuple, and behind it in the tuple a constant. */
+static route_answer size_inside(uint64_t kind, uint64_t span, uint64_t word2, uint64_t word3)
+{
+    return size_on(WORDS(4, 4, 2, 0, 8, 2, 0, 0, kind, span, word2, word3, 0, 1, 0, 0), 4, 16);
+}
+
+/* The size on n rows of the first words, as many as length says, of a tuple of constants that has
+ * so many rows. */
+static route_answer size_on_constants(size_t rows, size_t length, size_t n, size_t store_len)
+{
+    static uint64_t words[4 * (MOST_ROWS + 1)];
+    memset(words, 0, sizeof words);
+    for (size_t i = 0; i < rows; i++)
+        words[4 * i + 1] = 1;
+    words[0] = 4;
+    words[1] = rows;
+    words[2] = rows - 1;
+    return size_on(words, length, n, store_len);
+}
+
+static void test_compute_size_of_table(void)
+{
+    CHECK(gives(size_on(WORDS(4, 3, 2, 0, 1, 1, 7, 0, 5, 1, 2, 12), 3, 14), 14));
+    CHECK(refused(size_on_constants(3, 12, 3, MOST_BYTES + 1), 6, 0));
+    CHECK(refused(size_on_constants(3, 12, 0, MOST_BYTES + 1), 6, 0));
+    CHECK(gives(size_on_constants(3, 12, 3, MOST_BYTES), 0));
+
+    CHECK(refused_at_row(route_compute_size_of(NULL, 0, 0, NULL, 0), 12, 0));
+    CHECK(refused_at_row(route_compute_size_of(NULL, 0, 1, NULL, 0), 12, 0));
+    CHECK(refused_at_row(size_on_constants(3, 12, 0, 16), 12, 0));
+    CHECK(refused_at_row(size_on_constants(3, 11, 3, 16), 12, 0));
+    CHECK(refused_at_row(size_on_constants(3, 12, 4, 16), 12, 0));
+    CHECK(refused_at_row(size_on_constants(3, 12, SIZE_MAX, 16), 12, 0));
+    /* 4 * n would wrap to 0, to 4 and to 12 */
+    CHECK(refused_at_row(size_on_constants(3, 12, WRAPS_4, 16), 12, 0));
+    CHECK(refused_at_row(size_on_constants(3, 12, WRAPS_4 + 1, 16), 12, 0));
+    CHECK(refused_at_row(size_on_constants(3, 12, WRAPS_4 + 3, 16), 12, 0));
+    CHECK(gives(size_on_constants(MOST_ROWS, 4 * MOST_ROWS, MOST_ROWS, 16), 0));
+    CHECK(refused_at_row(size_on_constants(MOST_ROWS, 4 * MOST_ROWS - 1, MOST_ROWS, 16), 12, 0));
+    CHECK(refused_at_row(
+        size_on_constants(MOST_ROWS + 1, 4 * MOST_ROWS + 4, MOST_ROWS + 1, 16), 12, 0));
+
+    /* the root's span is n exactly; words behind its rows are free */
+    CHECK(refused_at_row(size_on_constants(3, 12, 2, 16), 13, 0));
+    CHECK(refused_at_row(size_on_constants(3, 16, 4, 16), 13, 0));
+    CHECK(gives(size_on_constants(3, 16, 3, 16), 0));
+    CHECK(refused_at_row(size_on_row(0, 0, 0, 0), 13, 0));
+    CHECK(refused_at_row(size_on_row(0, UINT64_MAX, 0, 0), 13, 0));
+}
+
+static void test_compute_size_of_rows(void)
+{
+    static const uint64_t sizes[] = {0, 4, 8, 8, 0, 8, 8, 8};
+    for (uint64_t kind = 0; kind < 8; kind++) {
+        const int is_array = kind >= 5;
+        const uint64_t inside = sizes[kind] + 8;
+        CHECK(gives(size_on_row(kind, 1, 0, 0), sizes[kind]));
+        CHECK(gives(size_inside(kind, 1, 0, 0), inside));
+        CHECK(is_array ? gives(size_inside(kind, 1, 0, 1), inside)
+                       : refused_at_row(size_inside(kind, 1, 0, 1), 13, 2));
+        CHECK(refused_at_row(size_inside(kind, 0, 0, 0), 13, 2));
+        CHECK(refused_at_row(size_inside(kind, 2, 0, 0), 13, 2));
+        CHECK(refused_at_row(size_inside(kind, UINT64_MAX, 0, 0), 13, 2));
+    }
+    CHECK(refused_at_row(size_inside(0, 1, 1, 0), 13, 2));
+    CHECK(refused_at_row(size_inside(9, 1, 0, 0), 13, 2));
+    CHECK(refused_at_row(size_inside(UINT64_MAX, 1, 0, 0), 13, 2));
+    CHECK(gives(size_inside(1, 1, UINT32_MAX, 0), 12));
+    CHECK(refused_at_row(size_inside(1, 1, (uint64_t)UINT32_MAX + 1, 0), 13, 2));
+    CHECK(gives(size_inside(2, 1, UINT64_MAX, 0), 16));
+
+    /* a child missing, and rows left over */
+    CHECK(refused_at_row(size_inside(8, 1, 0, 0), 13, 2));
+    CHECK(refused_at_row(size_inside(3, 1, 1, 0), 13, 2));
+    CHECK(refused_at_row(size_inside(3, 1, UINT64_MAX, 0), 13, 2));
+    CHECK(refused_at_row(size_inside(4, 1, UINT64_MAX, 0), 13, 2));
+    CHECK(gives(size_on(WORDS(8, 2, 9, 0, 1, 1, 7, 0), 2, 0), 12));
+    CHECK(refused_at_row(size_on(WORDS(8, 3, 9, 0, 1, 1, 7, 0, 0, 1, 0, 0), 3, 0), 13, 0));
+    CHECK(refused_at_row(size_on(WORDS(4, 3, 1, 0, 1, 1, 7, 0, 0, 1, 0, 0), 3, 0), 13, 0));
+    CHECK(gives(size_on(WORDS(3, 3, 2, 0, 1, 1, 7, 0, 1, 1, 8, 0), 3, 0), 16));
+}
+
+static void test_compute_size_of_arrays(void)
+{
+    for (uint64_t kind = 5; kind <= 7; kind++) {
+        const uint64_t width = kind == 5 ? 1 : kind == 6 ? 4 : 8;
+        CHECK(gives(size_on_row(kind, 1, 16 / width, 0), 24));
+        CHECK(gives(size_on_row(kind, 1, 1, 16 - width), 8 + width));
+        CHECK(gives(size_on_row(kind, 1, 0, 16), 8));
+        CHECK(refused_at_row(size_on_row(kind, 1, 0, 17), 14, 0));
+        CHECK(refused_at_row(size_on_row(kind, 1, 16 / width, 1), 14, 0));
+        CHECK(refused_at_row(size_on_row(kind, 1, 16 / width + 1, 0), 14, 0));
+        CHECK(refused_at_row(size_inside(kind, 1, 0, UINT64_MAX), 14, 2));
+        CHECK(refused_at_row(size_inside(kind, 1, UINT64_MAX, 0), 14, 2));
+        CHECK(refused_at_row(size_inside(kind, 1, UINT64_MAX, UINT64_MAX), 14, 2));
+        /* the product would wrap to 0; the sum would */
+        CHECK(refused_at_row(size_inside(kind, 1, (uint64_t)1 << 61, 0), 14, 2));
+        CHECK(refused_at_row(size_inside(kind, 1, (uint64_t)1 << 62, 0), 14, 2));
+        CHECK(refused_at_row(size_inside(kind, 1, 1, UINT64_MAX - width + 1), 14, 2));
+    }
+}
+
+static void test_compute_size_of_order(void)
+{
+    /* 13 before 14 in a row; else row after row; a child before a child missing or left over */
+    CHECK(refused_at_row(size_inside(5, 2, 17, 0), 13, 2));
+    CHECK(refused_at_row(size_on(WORDS(4, 3, 2, 0, 5, 1, 1, 0, 9, 1, 0, 0), 3, 0), 14, 1));
+    CHECK(refused_at_row(size_on(WORDS(4, 3, 2, 0, 9, 1, 0, 0, 5, 1, 1, 0), 3, 0), 13, 1));
+    CHECK(refused_at_row(size_on(WORDS(4, 2, 2, 0, 5, 1, 1, 0), 2, 0), 14, 1));
+    CHECK(refused_at_row(size_on(WORDS(4, 2, 2, 1, 5, 1, 1, 0), 2, 0), 13, 0));
+    CHECK(refused_at_row(size_on(WORDS(4, 3, 1, 0, 5, 1, 1, 0, 0, 1, 0, 0), 3, 0), 14, 1));
+    CHECK(refused_at_row(size_on(WORDS(4, 3, 1, 0, 0, 1, 0, 0, 5, 1, 1, 0), 3, 0), 13, 0));
+}
+
+/* The locator's answer on a tuple of a uint32 and an array of each kind, with a store of 16 bytes,
+ * with a check that the call changes neither the rows nor the store. */
+static route_answer locate(size_t n, size_t store_len, size_t row)
+{
+    static const uint64_t rows[] = {4, 5, 4, 0, 1, 1, 7, 0, 5, 1, 2, 12, 6, 1, 3, 4, 7, 1, 0, 16};
+    lend_rows(rows, 20);
+    const route_answer answer = route_locate_array(rows_lent, 20, n, store_lent, store_len, row);
+    CHECK(rows_unchanged(rows, 20));
+    return answer;
+}
+
+static void test_locate_array(void)
+{
+    CHECK(accepted_with(locate(5, 16, 2), 12, 2));
+    CHECK(accepted_with(locate(5, 16, 3), 4, 12));
+    CHECK(accepted_with(locate(5, 16, 4), 16, 0));
+    CHECK(refused_at_row(locate(5, 16, 0), 18, 0));
+    CHECK(refused_at_row(locate(5, 16, 1), 18, 1));
+    CHECK(refused_at_row(locate(5, 16, 5), 18, 5));
+    CHECK(refused_at_row(locate(5, 16, SIZE_MAX), 18, SIZE_MAX));
+    CHECK(refused_at_row(locate(5, 16, WRAPS_4 + 2), 18, WRAPS_4 + 2));
+
+    /* the table's refusals first */
+    CHECK(refused(locate(5, MOST_BYTES + 1, 5), 6, 0));
+    CHECK(refused_at_row(locate(6, 16, 2), 12, 0));
+    CHECK(refused_at_row(locate(4, 16, 2), 13, 0));
+    CHECK(refused_at_row(locate(5, 15, 2), 14, 3));
+    CHECK(refused_at_row(locate(5, 15, 5), 14, 3));
+    CHECK(refused_at_row(route_locate_array(NULL, 0, 0, NULL, 0, 0), 12, 0));
+}
+
 int main(void)
 {
     /* so that a call that ends the program leaves the lines before it */
@@ -389,6 +593,11 @@ int main(void)
     test_check_grammar_nodes();
     test_check_grammar_children();
     test_check_grammar_order();
+    test_compute_size_of_table();
+    test_compute_size_of_rows();
+    test_compute_size_of_arrays();
+    test_compute_size_of_order();
+    test_locate_array();
     printf("%u passed, %u failed\n", passed, failed);
     return failed != 0 || passed == 0;
 }

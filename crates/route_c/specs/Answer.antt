@@ -3,6 +3,7 @@ use mathlib.Core.Path.{_≡_}
 use mathlib.Core.List.{List}
 use Prim.Native.Nat.{ℕ}
 use Rattle.refusal.specs.Outcome.{Outcome, accepted, refused, map, contents, Location, word, byte, row, Reason, reason}
+use Rattle.rows.specs.Locate.{Part}
 use Rattle.route_c.specs.declared.RouteAnswer.{RouteAnswer}
 
 -- the values of an accepted call; 0 where it gives fewer than two
@@ -30,6 +31,10 @@ noValue a = values 0 0
 
 abbrev pub oneValue : ℕ → Values
 oneValue n = values n 0
+
+-- a part of the store: its first byte, and how many
+abbrev pub partValues : Part → Values
+partValues p = values (p .start) (p .size)
 
 -- a call over a lent buffer answers and fills as the outcome o says
 pub record Answers (o : Outcome Reason (List ℕ)) (answer : RouteAnswer) (entry exit : List ℕ) : Type 0 where

@@ -6,12 +6,17 @@ ghost use Rattle.refusal.specs.Meaning.{reasonOf, outcomeOf};
 ghost use Rattle.packed.specs.Packed.{unpackAt, unpackSeqAt, putAt, packLittleEndian, packLittleEndianSeq};
 ghost use Rattle.grammar.specs.Check.{checkGrammar};
 ghost use Rattle.packed.specs.Meaning.{unpackedU32, unpackedU64};
-ghost use Rattle.route_c.specs.Answer.{answerOf, noValue, oneValue, Answers};
+ghost use Rattle.rows.specs.Size.{computeSizeOf};
+ghost use Rattle.rows.specs.Locate.{locateArray};
+ghost use Rattle.rows.specs.Meaning.{sizeOf, located};
+ghost use Rattle.route_c.specs.Answer.{answerOf, noValue, oneValue, partValues, Answers};
 use packed::UnpackedU32;
 use packed::UnpackedU64;
 use refusal::Answer;
 use refusal::Place;
 use refusal::Refusal;
+use rows::Located;
+use rows::SizeOf;
 
 // The header's `route_answer`.
 #[repr(C)]
@@ -23,15 +28,15 @@ pub struct RouteAnswer {
     pub second: u64,
 }
 
-fn accept(first: u64) -> RouteAnswer
-    ensures { λ r. ⌜ r ≡ record { number = 0; «place_kind» = 0; place = 0; first = first; second = 0 } ⌝ }
+fn accept(first: u64, second: u64) -> RouteAnswer
+    ensures { λ r. ⌜ r ≡ record { number = 0; «place_kind» = 0; place = 0; first = first; second = second } ⌝ }
 {
     RouteAnswer {
         number: 0,
         place_kind: 0,
         place: 0,
         first: first,
-        second: 0,
+        second: second,
     }
 }
 
@@ -63,7 +68,7 @@ fn of_unpacked_u32(answer: UnpackedU32) -> RouteAnswer
     ensures { λ r. ⌜ r ≡ answerOf (map oneValue (unpackedU32 answer)) ⌝ }
 {
     match answer {
-        UnpackedU32::Number(n) => accept(n as u64),
+        UnpackedU32::Number(n) => accept(n as u64, 0),
         UnpackedU32::Refused(r) => refuse(r),
     }
 }
@@ -72,8 +77,26 @@ fn of_unpacked_u64(answer: UnpackedU64) -> RouteAnswer
     ensures { λ r. ⌜ r ≡ answerOf (map oneValue (unpackedU64 answer)) ⌝ }
 {
     match answer {
-        UnpackedU64::Number(n) => accept(n),
+        UnpackedU64::Number(n) => accept(n, 0),
         UnpackedU64::Refused(r) => refuse(r),
+    }
+}
+
+fn of_size(answer: SizeOf) -> RouteAnswer
+    ensures { λ r. ⌜ r ≡ answerOf (map oneValue (sizeOf answer)) ⌝ }
+{
+    match answer {
+        SizeOf::Size(size) => accept(size, 0),
+        SizeOf::Refused(r) => refuse(r),
+    }
+}
+
+fn of_located(answer: Located) -> RouteAnswer
+    ensures { λ r. ⌜ r ≡ answerOf (map partValues (located answer)) ⌝ }
+{
+    match answer {
+        Located::At(start, size) => accept(start as u64, size as u64),
+        Located::Refused(r) => refuse(r),
     }
 }
 
@@ -81,7 +104,7 @@ fn of_answer(answer: Answer) -> RouteAnswer
     ensures { λ r. ⌜ r ≡ answerOf (map noValue (outcomeOf answer)) ⌝ }
 {
     match answer {
-        Answer::Accepted => accept(0),
+        Answer::Accepted => accept(0, 0),
         Answer::Refused(r) => refuse(r),
     }
 }
@@ -155,4 +178,23 @@ pub extern "C" fn route_check_grammar(words: &[u32]) -> RouteAnswer
     ensures { λ r. ⌜ r ≡ answerOf (map noValue (checkGrammar (now (words .entry)))) ⌝ }
 {
     of_answer(grammar::check_grammar(words))
+}
+
+#[no_mangle]
+pub extern "C" fn route_compute_size_of(rows: &[u64], n: usize, store: &[u8]) -> RouteAnswer
+    ensures { λ r. ⌜ r ≡ answerOf (map oneValue (computeSizeOf (now (rows .entry)) n (now (store .entry)))) ⌝ }
+{
+    of_size(rows::compute_size_of(rows, n, store))
+}
+
+#[no_mangle]
+pub extern "C" fn route_locate_array(
+    rows: &[u64],
+    n: usize,
+    store: &[u8],
+    row: usize,
+) -> RouteAnswer
+    ensures { λ r. ⌜ r ≡ answerOf (map partValues (locateArray (now (rows .entry)) n (now (store .entry)) row)) ⌝ }
+{
+    of_located(rows::locate_array(rows, n, store, row))
 }

@@ -8,11 +8,15 @@
 mod grammar;
 mod packed;
 mod random;
+mod row_table;
+mod rows;
 mod table;
 
 pub use grammar::check_grammar;
 pub use packed::{narrow, Calls, Number, MARGIN, U32, U64};
 pub use random::Random;
+pub use row_table::{element_width, RowTable};
+pub use rows::{compute_size_of, locate_array};
 pub use table::Table;
 
 /// The refusal of the model in the bindings' type.

@@ -46,6 +46,21 @@ extern "C" {
         index: usize,
     ) -> Answer;
     fn route_check_grammar(words: *const u32, words_len: usize) -> Answer;
+    fn route_compute_size_of(
+        rows: *const u64,
+        rows_len: usize,
+        n: usize,
+        store: *const u8,
+        store_len: usize,
+    ) -> Answer;
+    fn route_locate_array(
+        rows: *const u64,
+        rows_len: usize,
+        n: usize,
+        store: *const u8,
+        store_len: usize,
+        row: usize,
+    ) -> Answer;
 }
 
 pub fn unpack_u32(packed: &[u8], index: usize) -> Answer {
@@ -99,4 +114,18 @@ pub fn pack_u64_seq(numbers: &[u64], out: &mut [u8], index: usize) -> Answer {
 pub fn check_grammar(words: &[u32]) -> Answer {
     // SAFETY: pointer and length are those of one slice; it is aligned for u32 and only read.
     unsafe { route_check_grammar(words.as_ptr(), words.len()) }
+}
+
+pub fn compute_size_of(rows: &[u64], n: usize, store: &[u8]) -> Answer {
+    let (bytes, length) = (store.as_ptr(), store.len());
+    // SAFETY: each pointer and length are those of one slice; `rows` is aligned for u64, and both
+    // are only read.
+    unsafe { route_compute_size_of(rows.as_ptr(), rows.len(), n, bytes, length) }
+}
+
+pub fn locate_array(rows: &[u64], n: usize, store: &[u8], row: usize) -> Answer {
+    let (bytes, length) = (store.as_ptr(), store.len());
+    // SAFETY: each pointer and length are those of one slice; `rows` is aligned for u64, and both
+    // are only read.
+    unsafe { route_locate_array(rows.as_ptr(), rows.len(), n, bytes, length, row) }
 }

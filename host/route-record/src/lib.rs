@@ -21,6 +21,7 @@ mod ffi;
 mod grammar;
 mod packed;
 mod refusal;
+mod rows;
 
 pub use grammar::check_grammar;
 pub use packed::{
@@ -28,3 +29,4 @@ pub use packed::{
     unpack_u64_seq,
 };
 pub use refusal::{Place, Refusal};
+pub use rows::{compute_size_of, locate_array};

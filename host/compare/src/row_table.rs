@@ -1,0 +1,122 @@
+//! Random row tables: sound ones, and a fault in one word.
+
+use crate::Random;
+
+/// The kinds of values of one row, arrays and tuples of no value among them.
+const LEAVES: [u64; 8] = [0, 1, 2, 3, 4, 5, 6, 7];
+
+/// The kinds of values of more rows.
+const PARENTS: [u64; 3] = [3, 4, 8];
+
+/// The bytes of an element, if the kind is that of an array in the store.
+pub fn element_width(kind: u64) -> Option<usize> {
+    match kind {
+        5 => Some(1),
+        6 => Some(4),
+        7 => Some(8),
+        _ => None,
+    }
+}
+
+/// A value laid out as rows, with its record as the store.
+#[derive(Default)]
+pub struct RowTable {
+    /// Kind, span, word 2 and word 3 of each row.
+    pub rows: Vec<[u64; 4]>,
+    /// The bytes of the value.
+    pub record: Vec<u8>,
+}
+
+impl RowTable {
+    /// The rows and the record of a random value of `n` rows, `n` above 0.
+    pub fn sound(random: &mut Random, n: usize) -> RowTable {
+        let mut table = RowTable::default();
+        table.add(random, n);
+        table
+    }
+
+    /// Adds a random value of `span` rows behind the others.
+    fn add(&mut self, random: &mut Random, span: usize) {
+        let kind = random.pick(if span == 1 { &LEAVES } else { &PARENTS });
+        let word2 = match kind {
+            0 => 0,
+            1 => random.number() >> 32,
+            2 | 8 => random.number(),
+            3 | 4 => random.within((span - 1).min(1)..=span - 1) as u64,
+            _ => random.within(0..=9) as u64,
+        };
+        let own_bytes = match kind {
+            0 | 4 => 0,
+            1 => 4,
+            _ => 8,
+        };
+        self.record.extend(&word2.to_le_bytes()[..own_bytes]);
+        let elements = element_width(kind).map(|width| random.bytes(width * word2 as usize));
+        let place = elements.as_ref().map_or(0, |_| self.record.len());
+        self.record.extend(elements.unwrap_or_default());
+        self.rows.push([kind, span as u64, word2, place as u64]);
+        let children = if kind == 8 { 1 } else { word2 as usize };
+        if span > 1 {
+            self.add_children(random, children, span - 1);
+        }
+    }
+
+    /// Adds this many random values, at least 1, which have so many rows together.
+    fn add_children(&mut self, random: &mut Random, count: usize, rows: usize) {
+        let mut left = rows;
+        for others in (0..count).rev() {
+            let span = match others {
+                0 => left,
+                _ => random.within(1..=left - others),
+            };
+            self.add(random, span);
+            left -= span;
+        }
+    }
+
+    /// The table's words.
+    pub fn words(&self) -> Vec<u64> {
+        self.rows.concat()
+    }
+
+    /// The numbers of the rows of arrays in the store.
+    pub fn arrays(&self) -> Vec<usize> {
+        let rows = 0..self.rows.len();
+        rows.filter(|&row| element_width(self.rows[row][0]).is_some())
+            .collect()
+    }
+
+    /// Moves each array to any place in the store where it has room.
+    pub fn scatter(&mut self, random: &mut Random) {
+        for [kind, _, count, place] in &mut self.rows {
+            if let Some(width) = element_width(*kind) {
+                let last = self.record.len() - width * *count as usize;
+                *place = random.within(0..=last) as u64;
+            }
+        }
+    }
+
+    /// Changes one of the table's words to a limit or to a number next to one.
+    pub fn damage(&mut self, random: &mut Random) {
+        let (n, arrays) = (self.rows.len(), self.arrays());
+        let row = match arrays.len() {
+            0 => random.within(0..=n - 1),
+            _ if random.below(2) == 0 => random.pick(&arrays),
+            _ => random.within(0..=n - 1),
+        };
+        let [kind, span, count, place] = self.rows[row];
+        let width = element_width(kind).unwrap_or(1) as u64;
+        let length = self.record.len() as u64;
+        let room = length.saturating_sub(place) / width;
+        let powers = [0, 1 << 32, 1 << 61, 1 << 62, 1 << 63];
+        let bounds = [8, n as u64, (n - row) as u64, length, room];
+        let limits = [&powers[..], &bounds, &[kind, span, count, place]].concat();
+        let word = &mut self.rows[row][random.below(4)];
+        let old = *word;
+        while *word == old {
+            *word = random
+                .pick(&limits)
+                .wrapping_add(random.pick(&[0, 1, u64::MAX]));
+        }
+    }
+}
