@@ -15,7 +15,7 @@ use Rattle.refusal.proofs.Outcome.{Post, holds, fails, post-bind, post-test, po
 use Rattle.packed.specs.Packed.{unpackLittleEndian, unpackLittleEndianSeq, packLittleEndian, packLittleEndianSeq, Bytes, Below}
 use Rattle.packed.proofs.Laws.{bytes-drop, bytes-take, unpack-below, unpack-take, length-pack, pack-bytes, unpack-packed, pack-unpack, length-unpackSeq, unpackSeq-take, getD-unpackSeq, length-packSeq, unpackSeq-packSeq, packSeq-unpackSeq}
 use Rattle.value.specs.Kinds.{width, elementWidth}
-use Rattle.value.specs.Tree.{G, Gs, GConstant, GNumber, GArray, GTuple, GNumberArray, GTaggedUnion, gnil, gcons, Val, Vals, VConstant, VNumber, VArray, VTuple, VNumberArray, VCase, vnil, vcons, VByteArray, seqG, seqV, caseAt, ValInGrammar, AllInGrammar, EachInGrammar, inConstant, inNumber, inArray, inTuple, inNumberArray, inCase, allNil, allCons, eachNil, eachCons, ValidGrammar, ValidGrammars, ValidVal, ValidVals, TypedVal, TypedVals, ValueOf, ElementsOf, FieldsOf, SizeOfV, SeqSum}
+use Rattle.value.specs.Tree.{G, Gs, GConstant, GNumber, GArray, GTuple, GNumberArray, GTaggedUnion, gnil, gcons, Val, Vals, VConstant, VNumber, VArray, VTuple, VNumberArray, VCase, vnil, vcons, VByteArray, seqG, seqV, caseAt, CountsBelow, CountsBelowAll, ValInGrammar, AllInGrammar, EachInGrammar, inConstant, inNumber, inArray, inTuple, inNumberArray, inCase, allNil, allCons, eachNil, eachCons, ValidGrammar, ValidGrammars, ValidVal, ValidVals, TypedVal, TypedVals, ValueOf, ElementsOf, FieldsOf, SizeOfV, SeqSum}
 use Rattle.value.specs.Bytes.{bytesOf, bytesOfAll}
 use Rattle.value.specs.Step.{Step, yield, elements}
 use Rattle.value.specs.Parse.{Parse, missing, pair, parseNumber, parseNumbers, parse, parseFields, parseCaseAt, parseVal, Demarshallable, DemarshallFunc}
@@ -188,6 +188,32 @@ parseNumbers-post w d pos h = post-bind _ (parseNumber-post 8 d h) (λ a x. pars
 pub each-length : {vs : Vals} {gs : Gs} → EachInGrammar vs gs → length (seqV vs) ≡ length (seqG gs)
 each-length eachNil = refl
 each-length (eachCons i is) = ap suc (each-length is)
+
+valid-case : (gs : Gs) (c : ℕ) → ValidGrammars gs → ValidGrammar (caseAt gs c)
+unfolding ValidGrammar
+valid-case gnil c w = tt
+valid-case (gcons g gs) zero w = w .0
+valid-case (gcons g gs) (suc c) w = valid-case gs c (w .1)
+
+-- a tuple of a valid grammar has fewer than 2^64 fields, so `ValidVal` asks no more of a value than document 01 does
+mutual
+  unfolding ValidGrammar ValidVal CountsBelow
+
+  pub valid-counts : {v : Val} {g : G} → ValidGrammar g → ValInGrammar v g → CountsBelow v → ValidVal v
+  valid-counts w inConstant c = tt
+  valid-counts w inNumber c = tt
+  valid-counts w (inArray i) c = (c .0, valid-all w i (c .1))
+  valid-counts w (inTuple i) c = (rw (each-length i) (w .0), valid-each (w .1) i c)
+  valid-counts w inNumberArray c = c
+  valid-counts w (inCase {c = k} {gs = gs} l i) c = valid-counts (valid-case gs k (w .1)) i c
+
+  valid-all : {vs : Vals} {g : G} → ValidGrammar g → AllInGrammar vs g → CountsBelowAll vs → ValidVals vs
+  valid-all w allNil c = tt
+  valid-all w (allCons i is) c = (valid-counts w i (c .0), valid-all w is (c .1))
+
+  valid-each : {vs : Vals} {gs : Gs} → ValidGrammars gs → EachInGrammar vs gs → CountsBelowAll vs → ValidVals vs
+  valid-each w eachNil c = tt
+  valid-each w (eachCons i is) c = (valid-counts (w .0) i (c .0), valid-each (w .1) is (c .1))
 
 pub elements-post : (g : G) → ((d : List ℕ) → Bytes d → Parses bytesOf (ValueOf g) d (parse g d)) → (n : ℕ) (d : List ℕ) → Bytes d → Parses bytesOfAll (λ vs. ElementsOf g vs × (length (seqV vs) ≡ n)) d (elements n (parse g) d)
 unfolding elements bytesOf ValidVal TypedVal

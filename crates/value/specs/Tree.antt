@@ -139,7 +139,22 @@ unfoldable mutual
   TypedVals vnil = Unit {0}
   TypedVals (vcons v vs) = TypedVal v × TypedVals vs
 
--- document 01's values of a grammar: a `V` that meets `ValInGrammar`, each element count below 2^64
+-- document 01's "each element count below 2^64": the counts that stand in the bytes, so not a tuple's
+unfoldable mutual
+  pub CountsBelow : Val → Type 0
+  CountsBelow VConstant = Unit {0}
+  CountsBelow (VNumber k n) = Unit {0}
+  CountsBelow (VArray vs) = (length (seqV vs) < 2 ^ 64) × CountsBelowAll vs
+  CountsBelow (VTuple vs) = CountsBelowAll vs
+  CountsBelow (VNumberArray k ns) = length ns < 2 ^ 64
+  CountsBelow (VCase c v) = CountsBelow v
+
+  pub CountsBelowAll : Vals → Type 0
+  CountsBelowAll vnil = Unit {0}
+  CountsBelowAll (vcons v vs) = CountsBelow v × CountsBelowAll vs
+
+-- document 01's values of a grammar: a `V` that meets `ValInGrammar`, each element count below 2^64. Under `ValidGrammar`
+-- that is `ValidVal` (`valid-counts` of proofs/)
 pub record ValueOf (g : G) (v : Val) : Type 0 where
   pub inGrammar : ValInGrammar v g
   pub valid : ValidVal v
