@@ -17,14 +17,15 @@ use Rattle.value.specs.Bytes.{Stands}
 use Rattle.value.specs.Step.{Step}
 use Rattle.value.specs.Parse.{parseVal, Demarshallable, DemarshallFunc}
 use Rattle.value.specs.Reading.{State, Stop, Reading, start, readAt, readWhole, readTo}
+use Rattle.value.proofs.Agreement.{agrees, agrees-accepted}
 use Rattle.value.proofs.Reading.{read-parsed, read-refused, read-accepted, readAt-inside, readAt-outside, whole-demarshallable, whole-refused}
 use Rattle.grammar.specs.Check.{checkGrammar}
 use Rattle.grammar.specs.Rule.{FirstRefusal, first1, first2, first3, first4, first5}
 use Rattle.grammar.specs.Tree.{treeOf}
 use Rattle.grammar.proofs.Rule.{refused-exactly}
 use Rattle.grammar.proofs.Tree.{tree-valid}
-use Rattle.reading.specs.Calls.{unstopped, guarded, parseValOf, demarshallOf}
-use Rattle.reading.proofs.Calls.{unstopped-accepted, parse-accepted, admitted}
+use Rattle.reading.specs.Calls.{withoutState, guarded, parseValOf, demarshallOf}
+use Rattle.reading.proofs.Calls.{withoutState-accepted, parse-accepted, admitted}
 
 grammar-number : (g : List ℕ) (n : ℕ) (place : Location) → checkGrammar g ≡ refused (reason n place) → n ≤ 5
 grammar-number g n place h = go (refused-exactly g (reason n place) .0 h) refl
@@ -36,20 +37,20 @@ grammar-number g n place h = go (refused-exactly g (reason n place) .0 h) refl
     go (first4 k a b c) e = let q : 4 ≡ n = cc in omega arith
     go (first5 k i a b c f l m) e = let q : 5 ≡ n = cc in omega arith
 
-unstopped-refused : (x : Reading Val) (r : Reason) → unstopped x ≡ refused r → (e : Stop) × (x ≡ refused e) × (e .why ≡ r)
-unstopped-refused (refused e) r h = let q : e .why ≡ r = cc in (e, refl, q)
-unstopped-refused (accepted t) r h = let z : _≡_ {A = ℕ} 0 1 = cc in absurd (omega arith)
+withoutState-refused : (x : Reading Val) (r : Reason) → withoutState x ≡ refused r → (e : Stop) × (x ≡ refused e) × (e .why ≡ r)
+withoutState-refused (refused e) r h = let q : e .why ≡ r = cc in (e, refl, q)
+withoutState-refused (accepted t) r h = let z : _≡_ {A = ℕ} 0 1 = cc in absurd (omega arith)
 
 module _ (g d : List ℕ) (x : Unit {0} → Reading Val) where
   -- an accepted call passed 6, and the reading was accepted
   guarded-accepted : (t : Step State Val) → guarded g d x ≡ accepted t → (length d ≤ 1048576) × (x tt ≡ accepted t)
   guarded-accepted t h = go (checkGrammar g) h
     where
-      go2 : (b : Bool) → leb (length d) 1048576 ≡ b → test b (reason 6 (byte 0)) (λ _. unstopped (x tt)) ≡ accepted t → (length d ≤ 1048576) × (x tt ≡ accepted t)
-      go2 true e q = (leb-true (length d) 1048576 e, unstopped-accepted (x tt) t q)
+      go2 : (b : Bool) → leb (length d) 1048576 ≡ b → test b (reason 6 (byte 0)) (λ _. withoutState (x tt)) ≡ accepted t → (length d ≤ 1048576) × (x tt ≡ accepted t)
+      go2 true e q = (leb-true (length d) 1048576 e, withoutState-accepted (x tt) t q)
       go2 false e q = let z : _≡_ {A = ℕ} 0 1 = cc in absurd (omega arith)
 
-      go : (o : Outcome Reason (Unit {0})) → bind o (λ _. test (leb (length d) 1048576) (reason 6 (byte 0)) (λ _. unstopped (x tt))) ≡ accepted t → (length d ≤ 1048576) × (x tt ≡ accepted t)
+      go : (o : Outcome Reason (Unit {0})) → bind o (λ _. test (leb (length d) 1048576) (reason 6 (byte 0)) (λ _. withoutState (x tt))) ≡ accepted t → (length d ≤ 1048576) × (x tt ≡ accepted t)
       go (accepted u) q = go2 (leb (length d) 1048576) refl q
       go (refused r) q = let z : _≡_ {A = ℕ} 0 1 = cc in absurd (omega arith)
 
@@ -57,11 +58,11 @@ module _ (g d : List ℕ) (x : Unit {0} → Reading Val) where
   guarded-refused : (n : ℕ) (place : Location) → 6 < n → guarded g d x ≡ refused (reason n place) → (e : Stop) × (x tt ≡ refused e) × (e .why ≡ reason n place)
   guarded-refused n place l h = go (checkGrammar g) refl h
     where
-      go2 : (b : Bool) → test b (reason 6 (byte 0)) (λ _. unstopped (x tt)) ≡ refused (reason n place) → (e : Stop) × (x tt ≡ refused e) × (e .why ≡ reason n place)
-      go2 true q = unstopped-refused (x tt) (reason n place) q
+      go2 : (b : Bool) → test b (reason 6 (byte 0)) (λ _. withoutState (x tt)) ≡ refused (reason n place) → (e : Stop) × (x tt ≡ refused e) × (e .why ≡ reason n place)
+      go2 true q = withoutState-refused (x tt) (reason n place) q
       go2 false q = let z : 6 ≡ n = cc in absurd (omega arith)
 
-      go : (o : Outcome Reason (Unit {0})) → checkGrammar g ≡ o → bind o (λ _. test (leb (length d) 1048576) (reason 6 (byte 0)) (λ _. unstopped (x tt))) ≡ refused (reason n place) → (e : Stop) × (x tt ≡ refused e) × (e .why ≡ reason n place)
+      go : (o : Outcome Reason (Unit {0})) → checkGrammar g ≡ o → bind o (λ _. test (leb (length d) 1048576) (reason 6 (byte 0)) (λ _. withoutState (x tt))) ≡ refused (reason n place) → (e : Stop) × (x tt ≡ refused e) × (e .why ≡ reason n place)
       go (accepted u) e q = go2 (leb (length d) 1048576) q
       go (refused r) e q = let p : r ≡ reason n place = cc in let f = grammar-number g n place (e ∙ ap refused p) in absurd (omega (arith, f))
 
@@ -78,6 +79,12 @@ module _ (g d : List ℕ) (index capacity : ℕ) where
       let a = parse-accepted g d index capacity t h in
       let x = read-accepted capacity d (treeOf g 0) (start index) (admitted g d index (a .0) .2) (tree-valid g w 0) b t (a .1) in
       (x .0, omega (arith, x .1), x .2)
+
+  -- it ends within the record
+  pub parse-inside : (t : Step State Val) → parseValOf g d index capacity ≡ accepted t → t .state .at ≤ length d
+  parse-inside t h =
+      let a = parse-accepted g d index capacity t h in
+      agrees-accepted (agrees capacity d (treeOf g 0) (start index) (admitted g d index (a .0) .2)) t (a .1) .0
 
   -- where it refuses and none of 1 to 8 is given, GM parses nothing
   pub parse-none : (n : ℕ) (place : Location) → 8 < n → parseValOf g d index capacity ≡ refused (reason n place) → parseVal (drop index d) (treeOf g 0) ≡ (none, [])

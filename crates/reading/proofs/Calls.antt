@@ -27,20 +27,20 @@ use Rattle.reading.specs.declared.Parsed.{Parsed}
 use Rattle.reading.specs.declared.Parsed.the-variants.{Refused}
 use Rattle.reading.specs.Meaning.{stepOf, Counts, parsedOf}
 use Rattle.reading.specs.Reads.{Room, Reads}
-use Rattle.reading.specs.Calls.{unstopped, parseValOf, demarshallOf, countsOf, admitOf, parsedStep, Admitted, Parses}
+use Rattle.reading.specs.Calls.{withoutState, parseValOf, demarshallOf, countsOf, admitOf, parsedStep, Admitted, Parses}
 use Rattle.reading.proofs.Laws.{laid-lent}
 
 -- 11, where the value does not end with the record
 abbrev pub atEndCounts : List ℕ → Counts → Outcome Reason Counts
 atEndCounts d k = test (eqb (k .restIndex) (length d)) (reason 11 (byte (k .restIndex))) (λ _. accepted k)
 
-pub unstopped-accepted : (x : Reading Val) (t : Step State Val) → unstopped x ≡ accepted t → x ≡ accepted t
-unstopped-accepted (accepted s) t h = let q : s ≡ t = cc in ap accepted q
-unstopped-accepted (refused e) t h = let z : _≡_ {A = ℕ} 0 1 = cc in absurd (omega arith)
+pub withoutState-accepted : (x : Reading Val) (t : Step State Val) → withoutState x ≡ accepted t → x ≡ accepted t
+withoutState-accepted (accepted s) t h = let q : s ≡ t = cc in ap accepted q
+withoutState-accepted (refused e) t h = let z : _≡_ {A = ℕ} 0 1 = cc in absurd (omega arith)
 
 -- an answer that was matched
-pub told : {o : Outcome Reason Counts} {p q : Parsed} → p ≡ q → parsedOf p ≡ o → parsedOf q ≡ o
-told e h = ap parsedOf (sym e) ∙ h
+pub parsed-matched : {o : Outcome Reason Counts} {p q : Parsed} → p ≡ q → parsedOf p ≡ o → parsedOf q ≡ o
+parsed-matched e h = ap parsedOf (sym e) ∙ h
 
 -- a call whose answer has a value has one by its definition
 pub with-accepted : {P : Type 0} (o : Outcome Reason (Step State Val)) {k : Counts} → accepted k ≡ map countsOf o → ((t : Step State Val) → o ≡ accepted t → P) → P
@@ -97,32 +97,32 @@ module _ (g d : List ℕ) (index : ℕ) where
   }
 
   -- the reading waits for 1 to 7
-  pub parse-admitted : (capacity : ℕ) → parseValOf g d index capacity ≡ bind (admitOf g d index) (λ _. unstopped (readVal capacity d (treeOf g 0) (start index)))
+  pub parse-admitted : (capacity : ℕ) → parseValOf g d index capacity ≡ bind (admitOf g d index) (λ _. withoutState (readVal capacity d (treeOf g 0) (start index)))
   unfolding parseValOf admitOf readAt
   parse-admitted capacity = go (checkGrammar g)
     where
-      go2 : (b c : Bool) → test b (reason 6 (byte 0)) (λ _. unstopped (test c (stop 7 (start index)) (λ _. readVal capacity d (treeOf g 0) (start index)))) ≡ bind (test b (reason 6 (byte 0)) (λ _. test c (reason 7 (byte index)) accepted)) (λ _. unstopped (readVal capacity d (treeOf g 0) (start index)))
+      go2 : (b c : Bool) → test b (reason 6 (byte 0)) (λ _. withoutState (test c (stop 7 (start index)) (λ _. readVal capacity d (treeOf g 0) (start index)))) ≡ bind (test b (reason 6 (byte 0)) (λ _. test c (reason 7 (byte index)) accepted)) (λ _. withoutState (readVal capacity d (treeOf g 0) (start index)))
       go2 true true = refl
       go2 true false = refl
       go2 false c = refl
 
-      go : (x : Outcome Reason (Unit {0})) → bind x (λ _. test (leb (length d) 1048576) (reason 6 (byte 0)) (λ _. unstopped (test (leb index (length d)) (stop 7 (start index)) (λ _. readVal capacity d (treeOf g 0) (start index))))) ≡ bind (bind x (λ _. test (leb (length d) 1048576) (reason 6 (byte 0)) (λ _. test (leb index (length d)) (reason 7 (byte index)) accepted))) (λ _. unstopped (readVal capacity d (treeOf g 0) (start index)))
+      go : (x : Outcome Reason (Unit {0})) → bind x (λ _. test (leb (length d) 1048576) (reason 6 (byte 0)) (λ _. withoutState (test (leb index (length d)) (stop 7 (start index)) (λ _. readVal capacity d (treeOf g 0) (start index))))) ≡ bind (bind x (λ _. test (leb (length d) 1048576) (reason 6 (byte 0)) (λ _. test (leb index (length d)) (reason 7 (byte index)) accepted))) (λ _. withoutState (readVal capacity d (treeOf g 0) (start index)))
       go (refused r) = refl
       go (accepted u) = go2 (leb (length d) 1048576) (leb index (length d))
 
   pub parse-refused : (capacity : ℕ) {r : Reason} → refused r ≡ admitOf g d index → refused r ≡ parseValOf g d index capacity
-  parse-refused capacity h = ap (λ (o : Outcome Reason (Unit {0})). bind o (λ _. unstopped (readVal capacity d (treeOf g 0) (start index)))) h ∙ sym (parse-admitted capacity)
+  parse-refused capacity h = ap (λ (o : Outcome Reason (Unit {0})). bind o (λ _. withoutState (readVal capacity d (treeOf g 0) (start index)))) h ∙ sym (parse-admitted capacity)
 
-  pub parse-read : (capacity : ℕ) → accepted tt ≡ admitOf g d index → unstopped (readVal capacity d (treeOf g 0) (start index)) ≡ parseValOf g d index capacity
-  parse-read capacity h = ap (λ (o : Outcome Reason (Unit {0})). bind o (λ _. unstopped (readVal capacity d (treeOf g 0) (start index)))) h ∙ sym (parse-admitted capacity)
+  pub parse-read : (capacity : ℕ) → accepted tt ≡ admitOf g d index → withoutState (readVal capacity d (treeOf g 0) (start index)) ≡ parseValOf g d index capacity
+  parse-read capacity h = ap (λ (o : Outcome Reason (Unit {0})). bind o (λ _. withoutState (readVal capacity d (treeOf g 0) (start index)))) h ∙ sym (parse-admitted capacity)
 
   -- an accepted call passed 1 to 7, and the root was read
   pub parse-accepted : (capacity : ℕ) (t : Step State Val) → parseValOf g d index capacity ≡ accepted t → (accepted tt ≡ admitOf g d index) × (readVal capacity d (treeOf g 0) (start index) ≡ accepted t)
   parse-accepted capacity t h = go (admitOf g d index) refl (sym (parse-admitted capacity) ∙ h)
     where
-      go : (x : Outcome Reason (Unit {0})) → admitOf g d index ≡ x → bind x (λ _. unstopped (readVal capacity d (treeOf g 0) (start index))) ≡ accepted t → (accepted tt ≡ admitOf g d index) × (readVal capacity d (treeOf g 0) (start index) ≡ accepted t)
+      go : (x : Outcome Reason (Unit {0})) → admitOf g d index ≡ x → bind x (λ _. withoutState (readVal capacity d (treeOf g 0) (start index))) ≡ accepted t → (accepted tt ≡ admitOf g d index) × (readVal capacity d (treeOf g 0) (start index) ≡ accepted t)
       go (refused r) e q = let z : _≡_ {A = ℕ} 0 1 = cc in absurd (omega arith)
-      go (accepted u) e q = (sym e, unstopped-accepted (readVal capacity d (treeOf g 0) (start index)) t q)
+      go (accepted u) e q = (sym e, withoutState-accepted (readVal capacity d (treeOf g 0) (start index)) t q)
 
 module _ (g d : List ℕ) (capacity : ℕ) where
   -- the whole reading is the reading from byte 0 on, and then 11
@@ -130,20 +130,20 @@ module _ (g d : List ℕ) (capacity : ℕ) where
   unfolding demarshallOf parseValOf readWhole readAt
   whole-parse = go (checkGrammar g)
     where
-      go4 : (b : Bool) (t : Step State Val) → unstopped (test b (stop 11 (t .state)) (λ _. yield (t .value) (t .state))) ≡ test b (reason 11 (byte (t .state .at))) (λ _. accepted t)
+      go4 : (b : Bool) (t : Step State Val) → withoutState (test b (stop 11 (t .state)) (λ _. yield (t .value) (t .state))) ≡ test b (reason 11 (byte (t .state .at))) (λ _. accepted t)
       go4 true t = refl
       go4 false t = refl
 
-      go3 : (x : Reading Val) → unstopped (next x (atEnd d)) ≡ bind (unstopped x) (λ t. test (eqb (t .state .at) (length d)) (reason 11 (byte (t .state .at))) (λ _. accepted t))
+      go3 : (x : Reading Val) → withoutState (next x (atEnd d)) ≡ bind (withoutState x) (λ t. test (eqb (t .state .at) (length d)) (reason 11 (byte (t .state .at))) (λ _. accepted t))
       go3 (refused e) = refl
       go3 (accepted t) = go4 (eqb (t .state .at) (length d)) t
 
-      go2 : (b c : Bool) → c ≡ true → test b (reason 6 (byte 0)) (λ _. unstopped (next (readVal capacity d (treeOf g 0) (start 0)) (atEnd d))) ≡ bind (test b (reason 6 (byte 0)) (λ _. unstopped (test c (stop 7 (start 0)) (λ _. readVal capacity d (treeOf g 0) (start 0))))) (λ t. test (eqb (t .state .at) (length d)) (reason 11 (byte (t .state .at))) (λ _. accepted t))
+      go2 : (b c : Bool) → c ≡ true → test b (reason 6 (byte 0)) (λ _. withoutState (next (readVal capacity d (treeOf g 0) (start 0)) (atEnd d))) ≡ bind (test b (reason 6 (byte 0)) (λ _. withoutState (test c (stop 7 (start 0)) (λ _. readVal capacity d (treeOf g 0) (start 0))))) (λ t. test (eqb (t .state .at) (length d)) (reason 11 (byte (t .state .at))) (λ _. accepted t))
       go2 true true h = go3 (readVal capacity d (treeOf g 0) (start 0))
       go2 true false h = let z : _≡_ {A = ℕ} 0 1 = cc in absurd (omega arith)
       go2 false c h = refl
 
-      go : (x : Outcome Reason (Unit {0})) → bind x (λ _. test (leb (length d) 1048576) (reason 6 (byte 0)) (λ _. unstopped (next (readVal capacity d (treeOf g 0) (start 0)) (atEnd d)))) ≡ bind (bind x (λ _. test (leb (length d) 1048576) (reason 6 (byte 0)) (λ _. unstopped (test (leb 0 (length d)) (stop 7 (start 0)) (λ _. readVal capacity d (treeOf g 0) (start 0)))))) (λ t. test (eqb (t .state .at) (length d)) (reason 11 (byte (t .state .at))) (λ _. accepted t))
+      go : (x : Outcome Reason (Unit {0})) → bind x (λ _. test (leb (length d) 1048576) (reason 6 (byte 0)) (λ _. withoutState (next (readVal capacity d (treeOf g 0) (start 0)) (atEnd d)))) ≡ bind (bind x (λ _. test (leb (length d) 1048576) (reason 6 (byte 0)) (λ _. withoutState (test (leb 0 (length d)) (stop 7 (start 0)) (λ _. readVal capacity d (treeOf g 0) (start 0)))))) (λ t. test (eqb (t .state .at) (length d)) (reason 11 (byte (t .state .at))) (λ _. accepted t))
       go (refused r) = refl
       go (accepted u) = go2 (leb (length d) 1048576) (leb 0 (length d)) (le-leb 0 (length d) (omega arith))
 
@@ -177,7 +177,7 @@ module _ (g d : List ℕ) (capacity : ℕ) where
       go (accepted s) q = go2 (eqb (s .state .at) (length d)) s q
 
 -- a step of the code, as an answer
-pub step-counts : (c : CodeStep) (x : Reading Val) → stepOf c ≡ map (λ t. t .state) x → parsedStep c ≡ map countsOf (unstopped x)
+pub step-counts : (c : CodeStep) (x : Reading Val) → stepOf c ≡ map (λ t. t .state) x → parsedStep c ≡ map countsOf (withoutState x)
 step-counts (Next u) (accepted t) h = let q : record { at = u .at; begun = u .begun } ≡ t .state = cc in ap (λ (s : State). accepted (record { rows = s .begun; restIndex = s .at })) q
 step-counts (Next u) (refused e) h = let z : _≡_ {A = ℕ} 0 1 = cc in absurd (omega arith)
 step-counts (Stopped u f) (accepted t) h = let z : _≡_ {A = ℕ} 0 1 = cc in absurd (omega arith)
@@ -196,6 +196,6 @@ module _ (capacity : ℕ) (d : List ℕ) (g : G) (index : ℕ) {entry exit : Lis
       let e : readVal capacity d g (start index) ≡ accepted t = f t refl in
       let l : 0 < capacity = read-claims capacity d g (start index) t e in
       record {
-        answers = a ∙ step-counts c (readVal capacity d g (start index)) (r .answers) ∙ ap (λ (x : Reading Val). map countsOf (unstopped x)) e;
+        answers = a ∙ step-counts c (readVal capacity d g (start index)) (r .answers) ∙ ap (λ (x : Reading Val). map countsOf (withoutState x)) e;
         rows = r .rows t e ∙ laid-lent entry 0 (rowsOf (t .value) index) (omega arith);
       }

@@ -4,3 +4,4 @@ pub mod Loop
 pub mod Arms
 pub mod Calls
 pub mod Bridge
+pub mod Meaning

@@ -25,14 +25,14 @@ use Rattle.reading.specs.declared.Step.the-variants as S
 abbrev pub capacityOf : ℕ → ℕ
 capacityOf words = min (words / rowWidth) 4096
 
--- the reason of a refused reading
-abbrev pub unstopped : {A : Type 0} → Reading A → Outcome Reason (Step State A)
-unstopped (accepted t) = accepted t
-unstopped (refused e) = refused (e .why)
+-- a reading, whose refusal is without its state
+abbrev pub withoutState : {A : Type 0} → Reading A → Outcome Reason (Step State A)
+withoutState (accepted t) = accepted t
+withoutState (refused e) = refused (e .why)
 
 -- 1 to 5 of the grammar, 6 of the record, then the reading, which waits for both
 abbrev pub guarded : List ℕ → List ℕ → (Unit {0} → Reading Val) → Outcome Reason (Step State Val)
-guarded g d x = bind (checkGrammar g) (λ _. test (leb (length d) 1048576) (reason 6 (byte 0)) (λ _. unstopped (x tt)))
+guarded g d x = bind (checkGrammar g) (λ _. test (leb (length d) 1048576) (reason 6 (byte 0)) (λ _. withoutState (x tt)))
 
 -- GM's `ParseVal` from an index on
 unfoldable pub parseValOf : List ℕ → List ℕ → ℕ → ℕ → Outcome Reason (Step State Val)

@@ -57,7 +57,7 @@ abbrev pub closed : ℕ → ℕ → ℕ → CodeStep → List ℕ → List ℕ
 closed row kind word2 (S.Next u) rows = laid rows row (kind ∷ (u .begun - row) ∷ word2 ∷ 0 ∷ [])
 closed row kind word2 (S.Stopped u r) rows = rows
 
--- the rows asked for so far are at least this one and at most the capacity
+-- the rows asked for so far are at least this one and at most the largest capacity
 abbrev pub Counted : ℕ → CodeStep → Type 0
 Counted row (S.Next u) = (row < u .begun) × (u .begun ≤ 4096)
 Counted row (S.Stopped u r) = Unit {0}

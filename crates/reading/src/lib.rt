@@ -21,27 +21,27 @@ use packed::UnpackedU64;
 use refusal::Answer;
 use refusal::Refusal;
 
-// The position in the record and the values begun, under a capacity of rows.
-pub struct State {
-    pub at: usize,
-    pub begun: usize,
-    pub capacity: usize,
+// Document 01's position and rows used, under a capacity. `begun` counts each time a row is asked for, the refused time too.
+struct State {
+    at: usize,
+    begun: usize,
+    capacity: usize,
 }
 
 // What a reader answers: the state behind what it read, or a refusal with the state where it ended.
-pub enum Step {
+enum Step {
     Next(State),
     Stopped(State, Refusal),
 }
 
 // What taking a number answers.
-pub enum Taken {
+enum Taken {
     Number(u64, State),
     Stopped(State, Refusal),
 }
 
 // The bytes of an array's elements behind its count.
-pub enum Body {
+enum Body {
     Bytes(usize),
     Refused(Refusal),
 }
@@ -53,7 +53,7 @@ pub enum Parsed {
 }
 
 // The bytes of the longest record.
-const LONGEST: usize = 1048576;
+const MOST_BYTES: usize = 1048576;
 
 // The rows of the largest capacity.
 const MOST_ROWS: usize = 4096;
@@ -91,6 +91,7 @@ impl State {
         }
     }
 
+    // The next 4 bytes as a number; 9 where they are missing.
     fn take4(self, bytes: &[u8]) -> Taken
         requires { ⌜ (self .at ≤ length (now bytes)) × (length (now bytes) ≤ 1048576) ⌝ }
         ensures { λ r. ⌜ (takenOf r ≡ takeNumber (now (bytes .entry)) 4 (stateOf self)) × TakenKeeps (self .capacity) r ⌝ }
@@ -102,6 +103,7 @@ impl State {
         }
     }
 
+    // The next 8 bytes as a number; 9 where they are missing.
     fn take8(self, bytes: &[u8]) -> Taken
         requires { ⌜ (self .at ≤ length (now bytes)) × (length (now bytes) ≤ 1048576) ⌝ }
         ensures { λ r. ⌜ (takenOf r ≡ takeNumber (now (bytes .entry)) 8 (stateOf self)) × TakenKeeps (self .capacity) r ⌝ }
@@ -355,7 +357,7 @@ fn admit(grammar: &[u32], bytes: &[u8], index: usize) -> Answer
     match grammar::check_grammar(grammar) {
         Answer::Refused(r) => Answer::Refused(r),
         Answer::Accepted => {
-            if LONGEST < bytes.len() {
+            if MOST_BYTES < bytes.len() {
                 return Answer::Refused(refusal::at_byte(refusal::BYTES_TOO_LONG, 0));
             }
             refusal::accept_if(

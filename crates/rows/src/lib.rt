@@ -241,7 +241,7 @@ pub fn compute_size_of(rows: &[u64], n: usize, store: &[u8]) -> SizeOf
     }
 }
 
-// A row of a table that passes; the refusal's number where there is none.
+// Whether a table that passes has this row; else the refusal of this number at that row.
 fn find_row(rows: &[u64], n: usize, store: &[u8], row: usize, number: u64) -> Answer
     ensures { λ r. ⌜ outcomeOf r ≡ map (λ _. tt) (lookUp number (now (rows .entry)) n (now (store .entry)) row) ⌝ }
 {

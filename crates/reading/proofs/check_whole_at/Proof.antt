@@ -2,7 +2,7 @@ use mathlib.Core.Path.{ap, sym, _∙_}
 use borrow.Author.Tests.{eq-eqb, ne-eqb}
 use Rattle.refusal.specs.Outcome.{refused}
 use Rattle.refusal.proofs.Outcome.{test-true, test-false}
-use Rattle.reading.proofs.Calls.{told, whole-refused, whole-value}
+use Rattle.reading.proofs.Calls.{parsed-matched, whole-refused, whole-value}
 use borrow.Author.Needs.{needs}
 use Rattle.reading.proofs.check_whole_at.Statement.{statement}
 use Rattle.reading.proofs.check_whole_at.Tie as tie
@@ -24,18 +24,18 @@ returns c =
     let a = c .before .before .before .before .before .before .before .before .args in
     ap refused (c .at-byte .ensures)
     ∙ sym (test-false _ _ (ne-eqb _ _ (c .before .if1 .taken)))
-    ∙ whole-value (a .grammar .now) (a .bytes .now) (a .capacity) (told (c .before .before .before .rows .given .1) (c .before .before .before .before .before .check-at .ensures))
+    ∙ whole-value (a .grammar .now) (a .bytes .now) (a .capacity) (parsed-matched (c .before .before .before .rows .given .1) (c .before .before .before .before .before .check-at .ensures))
 
 returns-2 : tie.Need-returns-2
 returns-2 c =
     let a = c .before .before .before .before .before .before .args in
-    whole-refused (a .grammar .now) (a .bytes .now) (a .capacity) (told (c .before .r .given .1) (c .before .before .before .check-at .ensures))
+    whole-refused (a .grammar .now) (a .bytes .now) (a .capacity) (parsed-matched (c .before .r .given .1) (c .before .before .before .check-at .ensures))
 
 returns-3 : tie.Need-returns-3
 returns-3 c =
     let a = c .before .before .before .before .before .before .before .args in
     sym (test-true _ _ (eq-eqb _ _ (c .if1 .left)))
-    ∙ whole-value (a .grammar .now) (a .bytes .now) (a .capacity) (told (c .before .before .rows .given .1) (c .before .before .before .before .check-at .ensures))
+    ∙ whole-value (a .grammar .now) (a .bytes .now) (a .capacity) (parsed-matched (c .before .before .rows .given .1) (c .before .before .before .before .check-at .ensures))
 
 pub check-whole-at-spec : {M : Type 1} → statement M
 check-whole-at-spec =

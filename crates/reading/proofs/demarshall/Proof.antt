@@ -5,7 +5,7 @@ use lib.ListN.{length}
 use Rattle.refusal.specs.Outcome.{map}
 use Rattle.grammar.specs.Tree.{treeOf}
 use Rattle.reading.specs.Calls.{capacityOf, demarshallOf, countsOf}
-use Rattle.reading.proofs.Calls.{told, with-accepted, root-admitted, parse-accepted, whole-accepted, parses-refused, parses-filled}
+use Rattle.reading.proofs.Calls.{parsed-matched, with-accepted, root-admitted, parse-accepted, whole-accepted, parses-refused, parses-filled}
 use borrow.Author.Needs.{needs}
 use Rattle.reading.proofs.demarshall.Statement.{statement}
 use Rattle.reading.proofs.demarshall.Tie as tie
@@ -27,7 +27,7 @@ read-root-requires c κs =
     let a = c .before .before .before .before .before .before .before .before .args in
     let capacity = c .before .before .before .before .capacity-of .result in
     root-admitted (a .grammar .now) (a .«record» .now) 0
-    (with-accepted (demarshallOf (a .grammar .now) (a .«record» .now) capacity) (told (c .before .enum-told .given .1) (c .before .before .before .check-whole-at .ensures)) (λ t e. parse-accepted (a .grammar .now) (a .«record» .now) 0 capacity t (whole-accepted (a .grammar .now) (a .«record» .now) capacity t e) .0))
+    (with-accepted (demarshallOf (a .grammar .now) (a .«record» .now) capacity) (parsed-matched (c .before .enum-told .given .1) (c .before .before .before .check-whole-at .ensures)) (λ t e. parse-accepted (a .grammar .now) (a .«record» .now) 0 capacity t (whole-accepted (a .grammar .now) (a .«record» .now) capacity t e) .0))
     (λ j l. c .before .before .before .before .before .before .before .shared-slice-known .given j .fits)
     (λ j. c .before .before .before .before .before .before .shared-slice-known2 .given j .fits)
     (c .before .before .before .before .capacity-of .ensures .1)
@@ -40,7 +40,7 @@ returns : tie.Need-returns
 returns c =
     let a = c .before .before .before .before .before .before .before .before .args in
     parses-refused (demarshallOf (a .grammar .now) (a .«record» .now) (capacityOf (length (a .rows .now)))) 0 (a .rows .now)
-    (told (c .before .r .given .1) (c .before .before .before .check-whole-at .ensures) ∙ ap (λ (k : ℕ). map countsOf (demarshallOf (a .grammar .now) (a .«record» .now) k)) (c .before .before .before .before .capacity-of .ensures .0))
+    (parsed-matched (c .before .r .given .1) (c .before .before .before .check-whole-at .ensures) ∙ ap (λ (k : ℕ). map countsOf (demarshallOf (a .grammar .now) (a .«record» .now) k)) (c .before .before .before .before .capacity-of .ensures .0))
 
 same-length : tie.Need-same-length
 same-length c = search needs
@@ -52,7 +52,7 @@ returns-2 c =
     let largest = c .before .before .before .before .before .before .before .before .capacity-of .ensures .0 in
     parses-filled capacity (a .«record» .now) (treeOf (a .grammar .now) 0) 0 (c .before .before .before .before .before .before .before .before .capacity-of .ensures .2) (c .before .before .before .read-root .ensures) (c .answer .ensures)
     (demarshallOf (a .grammar .now) (a .«record» .now) (capacityOf (length (a .rows .now))))
-    (told (c .before .before .before .before .before .enum-told .given .1) (c .before .before .before .before .before .before .before .check-whole-at .ensures) ∙ ap (λ (k : ℕ). map countsOf (demarshallOf (a .grammar .now) (a .«record» .now) k)) largest)
+    (parsed-matched (c .before .before .before .before .before .enum-told .given .1) (c .before .before .before .before .before .before .before .check-whole-at .ensures) ∙ ap (λ (k : ℕ). map countsOf (demarshallOf (a .grammar .now) (a .«record» .now) k)) largest)
     (λ t e. parse-accepted (a .grammar .now) (a .«record» .now) 0 capacity t (whole-accepted (a .grammar .now) (a .«record» .now) capacity t (ap (λ (k : ℕ). demarshallOf (a .grammar .now) (a .«record» .now) k) largest ∙ e)) .1)
 
 pub demarshall-spec : {M : Type 1} → statement M
