@@ -115,6 +115,42 @@ route_answer route_compute_size_of(const uint64_t *rows, size_t rows_len, size_t
 route_answer route_locate_array(const uint64_t *rows, size_t rows_len, size_t n,
                                 const uint8_t *store, size_t store_len, size_t row);
 
+/* Reading: the bytes of a value are, for kind 0, none; kind 1, 4; kind 2, 8; kinds 3, 5, 6 and 7,
+ * an 8-byte count of elements and the elements; kind 4, its fields in order; kind 8, an 8-byte tag
+ * and the value of that case. Each number is least byte first. A call reads a value of node 0 of
+ * the grammar and gives in `first` its row count n, in `second` the first byte behind it. */
+
+/* Reads from byte index on. The rows lent are rows_len divided by 4, rounded down, at most 4096;
+ * none with rows_len 0. Changes only rows 0 to n - 1, which stand for the value, with the record as
+ * store.
+ * Refused: 1 to 5 as route_check_grammar;
+ * 6 at byte 0, when record_len is above 1048576;
+ * 7 at byte index, when index is above record_len;
+ * then, value after value, from the root on, at the byte where the value starts:
+ * 8, when no row is left for it;
+ * 9, when fewer bytes are left than its 4 or 8, or when its kind is 5, 6 or 7 and its count above
+ * the bytes left behind the count, divided by 1, 4 or 8 and rounded down;
+ * 8, when its kind is 3 and its count above the rows left after its own;
+ * 10, when its kind is 8 and its tag not below the count of cases;
+ * then its children, in order. */
+route_answer route_parse_val(const uint32_t *grammar, size_t grammar_len, const uint8_t *record,
+                             size_t record_len, size_t index, uint64_t *rows, size_t rows_len);
+
+/* Reads the whole record. Changes only rows 0 to n - 1, which stand for the value, with the record
+ * as store.
+ * Refused: as route_parse_val from byte 0 on;
+ * 11 at the first byte behind the value, when it is not record_len. */
+route_answer route_demarshall(const uint32_t *grammar, size_t grammar_len, const uint8_t *record,
+                              size_t record_len, uint64_t *rows, size_t rows_len);
+
+/* Answers as route_parse_val with 4096 rows. Changes nothing. */
+route_answer route_check_val(const uint32_t *grammar, size_t grammar_len, const uint8_t *record,
+                             size_t record_len, size_t index);
+
+/* Answers as route_demarshall with 4096 rows. Changes nothing. */
+route_answer route_check_whole(const uint32_t *grammar, size_t grammar_len, const uint8_t *record,
+                               size_t record_len);
+
 #ifdef __cplusplus
 }
 #endif

@@ -577,6 +577,196 @@ static void test_locate_array(void)
     CHECK(refused_at_row(route_locate_array(NULL, 0, 0, NULL, 0, 0), 12, 0));
 }
 
+/* The words of which the readers are lent those behind the first ROW_MARGIN, at most ROWS_LENT: 5
+ * rows and a word. */
+enum { ROW_MARGIN = 2, ROWS_LENT = 21, ROWS_WHOLE = ROW_MARGIN + ROWS_LENT + ROW_MARGIN };
+
+static uint64_t row_words[ROWS_WHOLE];
+
+static uint64_t *lend_row_words(void)
+{
+    memset(row_words, FILL, sizeof row_words);
+    return row_words + ROW_MARGIN;
+}
+
+/* Whether the words lent begin with these n rows, and all else is as it was lent. */
+static int rows_are(const uint64_t *rows, size_t n)
+{
+    uint64_t expected[ROWS_WHOLE];
+    memset(expected, FILL, sizeof expected);
+    memcpy(expected + ROW_MARGIN, rows, n * 4 * sizeof *rows);
+    return memcmp(row_words, expected, sizeof expected) == 0;
+}
+
+static int no_row_changed(void)
+{
+    return rows_are((const uint64_t[]){0}, 0);
+}
+
+/* A grammar and a record. */
+typedef struct input {
+    const uint32_t *grammar;
+    size_t grammar_len;
+    const uint8_t *record;
+    size_t record_len;
+} input;
+
+static route_answer parse_val(input in, size_t index, size_t rows_len)
+{
+    return route_parse_val(in.grammar, in.grammar_len, in.record, in.record_len, index,
+                           lend_row_words(), rows_len);
+}
+
+static route_answer demarshall(input in, size_t rows_len)
+{
+    return route_demarshall(in.grammar, in.grammar_len, in.record, in.record_len, lend_row_words(),
+                            rows_len);
+}
+
+static route_answer check_val(input in, size_t index)
+{
+    return route_check_val(in.grammar, in.grammar_len, in.record, in.record_len, index);
+}
+
+static route_answer check_whole(input in)
+{
+    return route_check_whole(in.grammar, in.grammar_len, in.record, in.record_len);
+}
+
+/* Checks that the four calls read the whole record into these n rows. */
+static void check_read(int line, input in, const uint64_t *rows, size_t n)
+{
+    const size_t end = in.record_len;
+    check(line, "parse_val",
+          accepted_with(parse_val(in, 0, ROWS_LENT), n, end) && rows_are(rows, n));
+    check(line, "demarshall",
+          accepted_with(demarshall(in, ROWS_LENT), n, end) && rows_are(rows, n));
+    check(line, "check_val", accepted_with(check_val(in, 0), n, end));
+    check(line, "check_whole", accepted_with(check_whole(in), n, end));
+}
+
+/* Checks that the four calls refuse the record from byte 0 on, and change no row. */
+static void check_refused(int line, input in, uint64_t number, uint64_t kind, uint64_t place)
+{
+    check(line, "parse_val",
+          refused_at(parse_val(in, 0, ROWS_LENT), number, kind, place) && no_row_changed());
+    check(line, "demarshall",
+          refused_at(demarshall(in, ROWS_LENT), number, kind, place) && no_row_changed());
+    check(line, "check_val", refused_at(check_val(in, 0), number, kind, place));
+    check(line, "check_whole", refused_at(check_whole(in), number, kind, place));
+}
+
+#define CHECK_READ(in, rows, n) check_read(__LINE__, in, rows, n)
+#define CHECK_REFUSED(in, number, kind, place) check_refused(__LINE__, in, number, kind, place)
+
+enum { WORD = 1, BYTE = 2 };
+
+/* a tuple of a uint32 and an array of bytes */
+static void test_read_tuple(void)
+{
+    static const uint32_t tuple[] = {3, 4, 0, 2, 1, 0, 0, 5, 0, 0, 2, 1, 2};
+    static const uint8_t record[] = {7, 0, 0, 0, 2, 0, 0, 0, 0, 0, 0, 0, 0x41, 0x42, 0xff};
+    static const uint8_t behind[] = {9, 7, 0, 0, 0, 0, 0, 0, 0, 0, 0, 0, 0};
+    static const uint64_t rows[] = {4, 3, 2, 0, 1, 1, 7, 0, 5, 1, 2, 12};
+    static const uint64_t rows_behind[] = {4, 3, 2, 0, 1, 1, 7, 0, 5, 1, 0, 13};
+
+    CHECK_READ(((input){tuple, 13, record, 14}), rows, 3);
+    CHECK_REFUSED(((input){tuple, 13, record, 13}), 9, BYTE, 4);
+    CHECK_REFUSED(((input){tuple, 13, record, 11}), 9, BYTE, 4);
+    CHECK_REFUSED(((input){tuple, 13, record, 3}), 9, BYTE, 0);
+    CHECK_REFUSED(((input){tuple, 13, NULL, 0}), 9, BYTE, 0);
+    CHECK_REFUSED(((input){tuple, 12, record, 14}), 2, WORD, 10);
+    CHECK_REFUSED(((input){NULL, 0, record, 14}), 1, WORD, 0);
+
+    /* a byte left over */
+    const input longer = {tuple, 13, record, 15};
+    CHECK(accepted_with(parse_val(longer, 0, ROWS_LENT), 3, 14) && rows_are(rows, 3));
+    CHECK(accepted_with(check_val(longer, 0), 3, 14));
+    CHECK(refused(demarshall(longer, ROWS_LENT), 11, 14) && no_row_changed());
+    CHECK(refused(check_whole(longer), 11, 14));
+
+    /* from byte 1 on; past the end */
+    const input later = {tuple, 13, behind, 13};
+    CHECK(accepted_with(parse_val(later, 1, ROWS_LENT), 3, 13) && rows_are(rows_behind, 3));
+    CHECK(accepted_with(check_val(later, 1), 3, 13));
+    CHECK(refused(parse_val(later, 2, ROWS_LENT), 9, 6) && no_row_changed());
+    CHECK(refused(parse_val(later, 13, ROWS_LENT), 9, 13) && no_row_changed());
+    CHECK(refused(parse_val(later, 14, ROWS_LENT), 7, 14) && no_row_changed());
+    CHECK(refused(parse_val(later, SIZE_MAX, ROWS_LENT), 7, SIZE_MAX) && no_row_changed());
+    CHECK(refused(check_val(later, SIZE_MAX), 7, SIZE_MAX));
+}
+
+/* The rows lent are as few as the value needs, or fewer. */
+static void test_read_capacity(void)
+{
+    static const uint32_t array[] = {2, 3, 0, 1, 0, 0, 0, 1, 1};
+    static const uint8_t three[8] = {3};
+    static const uint64_t rows[] = {3, 4, 3, 0, 0, 1, 0, 0, 0, 1, 0, 0, 0, 1, 0, 0};
+    const input in = {array, 9, three, 8};
+
+    for (size_t words = 16; words <= 19; words++) {
+        CHECK(accepted_with(parse_val(in, 0, words), 4, 8) && rows_are(rows, 4));
+        CHECK(accepted_with(demarshall(in, words), 4, 8) && rows_are(rows, 4));
+    }
+    for (size_t words = 0; words <= 15; words++) {
+        CHECK(refused(parse_val(in, 0, words), 8, 0) && no_row_changed());
+        CHECK(refused(demarshall(in, words), 8, 0) && no_row_changed());
+    }
+    CHECK(refused(route_parse_val(array, 9, three, 8, 0, NULL, 0), 8, 0));
+    CHECK(refused(route_demarshall(array, 9, three, 8, NULL, 0), 8, 0));
+}
+
+/* constants, alone and in an array */
+static void test_read_constants(void)
+{
+    static const uint32_t constant[] = {1, 0, 0, 0, 0}, array[] = {2, 3, 0, 1, 0, 0, 0, 1, 1};
+    static const uint8_t three[8] = {3}, most[8] = {0xff, 0x0f}, too_many[8] = {0x00, 0x10};
+    static const uint8_t wraps[8] = {0xff, 0xff, 0xff, 0xff, 0xff, 0xff, 0xff, 0xff};
+    static const uint64_t rows[] = {3, 4, 3, 0, 0, 1, 0, 0, 0, 1, 0, 0, 0, 1, 0, 0};
+
+    CHECK_READ(((input){constant, 5, NULL, 0}), ((const uint64_t[]){0, 1, 0, 0}), 1);
+    CHECK(refused(demarshall((input){constant, 5, three, 1}, ROWS_LENT), 11, 0));
+    CHECK(no_row_changed());
+    CHECK(refused(check_whole((input){constant, 5, three, 1}), 11, 0));
+    CHECK(accepted_with(check_val((input){constant, 5, three, 1}, 1), 1, 1));
+
+    CHECK_READ(((input){array, 9, three, 8}), rows, 4);
+    CHECK_REFUSED(((input){array, 9, three, 7}), 9, BYTE, 0);
+    CHECK_REFUSED(((input){array, 9, wraps, 8}), 8, BYTE, 0);
+    CHECK_REFUSED(((input){array, 9, too_many, 8}), 8, BYTE, 0);
+    CHECK(accepted_with(check_val((input){array, 9, most, 8}, 0), 4096, 8));
+    CHECK(accepted_with(check_whole((input){array, 9, most, 8}), 4096, 8));
+}
+
+/* an empty union; an array of uint32; grammars that do not pass */
+static void test_read_others(void)
+{
+    static const uint32_t nothing[] = {1, 8, 0, 0, 0}, numbers[] = {1, 6, 0, 0, 0};
+    static const uint32_t cycle[] = {1, 4, 0, 1, 1, 0};
+    static const uint8_t zero[8] = {0};
+    static const uint8_t one[12] = {1, 0, 0, 0, 0, 0, 0, 0, 0x78, 0x56, 0x34, 0x12};
+    static const uint8_t wraps[12] = {0, 0, 0, 0, 0, 0, 0, 0x40, 0x78, 0x56, 0x34, 0x12};
+    static uint32_t constants[773] = {256};
+
+    CHECK_REFUSED(((input){nothing, 5, zero, 8}), 10, BYTE, 0);
+    CHECK_REFUSED(((input){nothing, 5, NULL, 0}), 9, BYTE, 0);
+    CHECK_READ(((input){numbers, 5, one, 12}), ((const uint64_t[]){6, 1, 1, 8}), 1);
+    CHECK(gives(route_unpack_u32(one, 12, 8), 305419896));
+    CHECK_REFUSED(((input){numbers, 5, wraps, 12}), 9, BYTE, 0);
+    CHECK_REFUSED(((input){cycle, 6, NULL, 0}), 5, WORD, 5);
+    CHECK_READ(((input){constants, 770, NULL, 0}), ((const uint64_t[]){0, 1, 0, 0}), 1);
+    constants[0] = 257;
+    CHECK_REFUSED(((input){constants, 773, NULL, 0}), 1, WORD, 0);
+}
+
+static void test_read_longest(void)
+{
+    static const uint32_t constant[] = {1, 0, 0, 0, 0};
+    static uint8_t record[1048577];
+    CHECK(accepted_with(check_val((input){constant, 5, record, 1048576}, 1048576), 1, 1048576));
+    CHECK_REFUSED(((input){constant, 5, record, 1048577}), 6, BYTE, 0);
+}
+
 int main(void)
 {
     /* so that a call that ends the program leaves the lines before it */
@@ -598,6 +788,11 @@ int main(void)
     test_compute_size_of_arrays();
     test_compute_size_of_order();
     test_locate_array();
+    test_read_tuple();
+    test_read_capacity();
+    test_read_constants();
+    test_read_others();
+    test_read_longest();
     printf("%u passed, %u failed\n", passed, failed);
     return failed != 0 || passed == 0;
 }

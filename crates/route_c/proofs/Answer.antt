@@ -1,14 +1,26 @@
--- A C answer made of the answer of a call that fills a buffer.
+-- A C answer made of the answer of a call that fills a buffer or rows.
 use mathlib.Core.Path.{_≡_, ap, _∙_}
 use mathlib.Core.List.{List}
 use Prim.Native.Nat.{ℕ}
 use Rattle.refusal.specs.Outcome.{Outcome, map, Fills, Reason}
 use Rattle.refusal.proofs.Outcome.{map-map}
+use Rattle.value.specs.Tree.{Val}
+use Rattle.value.specs.Step.{Step}
+use Rattle.value.specs.Reading.{State}
+use Rattle.reading.specs.Meaning.{Counts, parsedOf}
+use Rattle.reading.specs.Calls.{Parses}
+use Rattle.reading.specs.declared.Parsed.{Parsed}
 use Rattle.route_c.specs.declared.RouteAnswer.{RouteAnswer}
-use Rattle.route_c.specs.Answer.{answerOf, noValue, Answers}
+use Rattle.route_c.specs.Answer.{answerOf, noValue, countValues, Answers, AnswersRows}
 
 pub answers-fills : {o : Outcome Reason (List ℕ)} {a : Outcome Reason (Unit {0})} {r : RouteAnswer} {entry exit : List ℕ} → r ≡ answerOf (map noValue a) → Fills o a entry exit → Answers o r entry exit
 answers-fills {o} e f = record {
   answers = e ∙ ap (λ (x : Outcome Reason (Unit {0})). answerOf (map noValue x)) (f .answers) ∙ ap answerOf (map-map noValue (λ _. tt) o);
   buffer = f .buffer;
+}
+
+pub answers-parses : {o : Outcome Reason (Step State Val)} {index : ℕ} {p : Parsed} {r : RouteAnswer} {entry exit : List ℕ} → r ≡ answerOf (map countValues (parsedOf p)) → Parses o index p entry exit → AnswersRows o index r entry exit
+answers-parses e f = record {
+  answers = e ∙ ap (λ (x : Outcome Reason Counts). answerOf (map countValues x)) (f .answers);
+  rows = f .rows;
 }

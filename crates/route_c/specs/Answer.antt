@@ -3,7 +3,14 @@ use mathlib.Core.Path.{_≡_}
 use mathlib.Core.List.{List}
 use Prim.Native.Nat.{ℕ}
 use Rattle.refusal.specs.Outcome.{Outcome, accepted, refused, map, contents, Location, word, byte, row, Reason, reason}
+use Rattle.packed.specs.Packed.{put}
+use Rattle.value.specs.Tree.{Val}
+use Rattle.value.specs.Step.{Step}
+use Rattle.value.specs.Reading.{State}
 use Rattle.rows.specs.Locate.{Part}
+use Rattle.rows.specs.Layout.{rowsOf}
+use Rattle.reading.specs.Meaning.{Counts}
+use Rattle.reading.specs.Calls.{countsOf}
 use Rattle.route_c.specs.declared.RouteAnswer.{RouteAnswer}
 
 -- the values of an accepted call; 0 where it gives fewer than two
@@ -36,7 +43,16 @@ oneValue n = values n 0
 abbrev pub partValues : Part → Values
 partValues p = values (p .start) (p .size)
 
+-- of a reading: the row count, and the position behind the value
+abbrev pub countValues : Counts → Values
+countValues c = values (c .rows) (c .restIndex)
+
 -- a call over a lent buffer answers and fills as the outcome o says
 pub record Answers (o : Outcome Reason (List ℕ)) (answer : RouteAnswer) (entry exit : List ℕ) : Type 0 where
   pub answers : answer ≡ answerOf (map noValue o)
   pub buffer : exit ≡ contents o entry
+
+-- a reading with rows lent answers as the outcome o says; rows 0 to n − 1 at exit are the layout of the value, whose bytes start at the index
+pub record AnswersRows (o : Outcome Reason (Step State Val)) (index : ℕ) (answer : RouteAnswer) (entry exit : List ℕ) : Type 0 where
+  pub answers : answer ≡ answerOf (map countValues (map countsOf o))
+  pub rows : exit ≡ contents (map (λ t. put entry 0 (rowsOf (t .value) index)) o) entry

@@ -9,9 +9,12 @@ ghost use Rattle.packed.specs.Meaning.{unpackedU32, unpackedU64};
 ghost use Rattle.rows.specs.Size.{computeSizeOf};
 ghost use Rattle.rows.specs.Locate.{locateArray};
 ghost use Rattle.rows.specs.Meaning.{sizeOf, located};
-ghost use Rattle.route_c.specs.Answer.{answerOf, noValue, oneValue, partValues, Answers};
+ghost use Rattle.reading.specs.Calls.{capacityOf, parseValOf, demarshallOf, countsOf};
+ghost use Rattle.reading.specs.Meaning.{parsedOf};
+ghost use Rattle.route_c.specs.Answer.{answerOf, noValue, oneValue, partValues, countValues, Answers, AnswersRows};
 use packed::UnpackedU32;
 use packed::UnpackedU64;
+use reading::Parsed;
 use refusal::Answer;
 use refusal::Place;
 use refusal::Refusal;
@@ -109,6 +112,15 @@ fn of_answer(answer: Answer) -> RouteAnswer
     }
 }
 
+fn of_parsed(answer: Parsed) -> RouteAnswer
+    ensures { λ r. ⌜ r ≡ answerOf (map countValues (parsedOf answer)) ⌝ }
+{
+    match answer {
+        Parsed::Value { rows, rest_index } => accept(rows as u64, rest_index as u64),
+        Parsed::Refused(r) => refuse(r),
+    }
+}
+
 #[no_mangle]
 pub extern "C" fn route_unpack_u32(packed: &[u8], index: usize) -> RouteAnswer
     ensures { λ r. ⌜ r ≡ answerOf (map oneValue (unpackAt 4 (now (packed .entry)) index)) ⌝ }
@@ -197,4 +209,37 @@ pub extern "C" fn route_locate_array(
     ensures { λ r. ⌜ r ≡ answerOf (map partValues (locateArray (now (rows .entry)) n (now (store .entry)) row)) ⌝ }
 {
     of_located(rows::locate_array(rows, n, store, row))
+}
+
+#[no_mangle]
+pub extern "C" fn route_check_val(grammar: &[u32], record: &[u8], index: usize) -> RouteAnswer
+    ensures { λ r. ⌜ r ≡ answerOf (map countValues (map countsOf (parseValOf (now (grammar .entry)) (now («record» .entry)) index 4096))) ⌝ }
+{
+    of_parsed(reading::check_val(grammar, record, index))
+}
+
+#[no_mangle]
+pub extern "C" fn route_check_whole(grammar: &[u32], record: &[u8]) -> RouteAnswer
+    ensures { λ r. ⌜ r ≡ answerOf (map countValues (map countsOf (demarshallOf (now (grammar .entry)) (now («record» .entry)) 4096))) ⌝ }
+{
+    of_parsed(reading::check_whole(grammar, record))
+}
+
+#[no_mangle]
+pub extern "C" fn route_parse_val(
+    grammar: &[u32],
+    record: &[u8],
+    index: usize,
+    rows: &mut [u64],
+) -> RouteAnswer
+    ensures { λ r. ⌜ AnswersRows (parseValOf (now (grammar .entry)) (now («record» .entry)) index (capacityOf (length (now (rows .entry))))) index r (now (rows .entry)) (now (rows .exit)) ⌝ }
+{
+    of_parsed(reading::parse_val(grammar, record, index, rows))
+}
+
+#[no_mangle]
+pub extern "C" fn route_demarshall(grammar: &[u32], record: &[u8], rows: &mut [u64]) -> RouteAnswer
+    ensures { λ r. ⌜ AnswersRows (demarshallOf (now (grammar .entry)) (now («record» .entry)) (capacityOf (length (now (rows .entry))))) 0 r (now (rows .entry)) (now (rows .exit)) ⌝ }
+{
+    of_parsed(reading::demarshall(grammar, record, rows))
 }

@@ -8,6 +8,8 @@
 mod grammar;
 mod packed;
 mod random;
+mod reading;
+mod record;
 mod row_table;
 mod rows;
 mod table;
@@ -15,6 +17,8 @@ mod table;
 pub use grammar::check_grammar;
 pub use packed::{narrow, Calls, Number, MARGIN, U32, U64};
 pub use random::Random;
+pub use reading::{check_val, check_whole, demarshall, parse_val};
+pub use record::Record;
 pub use row_table::{element_width, RowTable};
 pub use rows::{compute_size_of, locate_array};
 pub use table::Table;

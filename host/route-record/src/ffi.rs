@@ -61,6 +61,36 @@ extern "C" {
         store_len: usize,
         row: usize,
     ) -> Answer;
+    fn route_parse_val(
+        grammar: *const u32,
+        grammar_len: usize,
+        record: *const u8,
+        record_len: usize,
+        index: usize,
+        rows: *mut u64,
+        rows_len: usize,
+    ) -> Answer;
+    fn route_demarshall(
+        grammar: *const u32,
+        grammar_len: usize,
+        record: *const u8,
+        record_len: usize,
+        rows: *mut u64,
+        rows_len: usize,
+    ) -> Answer;
+    fn route_check_val(
+        grammar: *const u32,
+        grammar_len: usize,
+        record: *const u8,
+        record_len: usize,
+        index: usize,
+    ) -> Answer;
+    fn route_check_whole(
+        grammar: *const u32,
+        grammar_len: usize,
+        record: *const u8,
+        record_len: usize,
+    ) -> Answer;
 }
 
 pub fn unpack_u32(packed: &[u8], index: usize) -> Answer {
@@ -128,4 +158,36 @@ pub fn locate_array(rows: &[u64], n: usize, store: &[u8], row: usize) -> Answer 
     // SAFETY: each pointer and length are those of one slice; `rows` is aligned for u64, and both
     // are only read.
     unsafe { route_locate_array(rows.as_ptr(), rows.len(), n, bytes, length, row) }
+}
+
+pub fn parse_val(grammar: &[u32], record: &[u8], index: usize, rows: &mut [u64]) -> Answer {
+    let (words, count) = (grammar.as_ptr(), grammar.len());
+    let (bytes, length) = (record.as_ptr(), record.len());
+    let (into, rows_len) = (rows.as_mut_ptr(), rows.len());
+    // SAFETY: each pointer and length are those of one slice; `grammar`, aligned for u32, and
+    // `record` are only read, and `&mut` keeps `rows`, aligned for u64, apart from them.
+    unsafe { route_parse_val(words, count, bytes, length, index, into, rows_len) }
+}
+
+pub fn demarshall(grammar: &[u32], record: &[u8], rows: &mut [u64]) -> Answer {
+    let (words, count) = (grammar.as_ptr(), grammar.len());
+    let (bytes, length) = (record.as_ptr(), record.len());
+    let (into, rows_len) = (rows.as_mut_ptr(), rows.len());
+    // SAFETY: each pointer and length are those of one slice; `grammar`, aligned for u32, and
+    // `record` are only read, and `&mut` keeps `rows`, aligned for u64, apart from them.
+    unsafe { route_demarshall(words, count, bytes, length, into, rows_len) }
+}
+
+pub fn check_val(grammar: &[u32], record: &[u8], index: usize) -> Answer {
+    let (bytes, length) = (record.as_ptr(), record.len());
+    // SAFETY: each pointer and length are those of one slice; `grammar` is aligned for u32, and
+    // both are only read.
+    unsafe { route_check_val(grammar.as_ptr(), grammar.len(), bytes, length, index) }
+}
+
+pub fn check_whole(grammar: &[u32], record: &[u8]) -> Answer {
+    let (bytes, length) = (record.as_ptr(), record.len());
+    // SAFETY: each pointer and length are those of one slice; `grammar` is aligned for u32, and
+    // both are only read.
+    unsafe { route_check_whole(grammar.as_ptr(), grammar.len(), bytes, length) }
 }

@@ -20,6 +20,7 @@
 mod ffi;
 mod grammar;
 mod packed;
+mod reading;
 mod refusal;
 mod rows;
 
@@ -28,5 +29,6 @@ pub use packed::{
     pack_u32, pack_u32_seq, pack_u64, pack_u64_seq, unpack_u32, unpack_u32_seq, unpack_u64,
     unpack_u64_seq,
 };
+pub use reading::{check_val, check_whole, demarshall, parse_val, Parsed};
 pub use refusal::{Place, Refusal};
 pub use rows::{compute_size_of, locate_array};

@@ -1,0 +1,132 @@
+//! Random records of a grammar, written by the byte rule.
+
+use crate::{Random, Table};
+
+/// The most rows of a value.
+const MOST_ROWS: usize = 4_096;
+
+/// A random value of a grammar's root, as its bytes.
+pub struct Record {
+    /// The bytes of the value.
+    pub bytes: Vec<u8>,
+    /// The number of rows of the value.
+    pub rows: usize,
+    /// Where the element counts and the tags are in the bytes, 8 bytes each.
+    pub counts: Vec<usize>,
+}
+
+/// The child words of a node.
+fn children_of(table: &Table, [_, first, count]: [u32; 3]) -> &[u32] {
+    &table.children[first as usize..][..count as usize]
+}
+
+/// The rows of the smallest value of each node, if it has one of at most 4,096.
+fn least_rows(table: &Table) -> Vec<Option<usize>> {
+    let mut least = vec![None; table.nodes.len()];
+    for (k, &node) in table.nodes.iter().enumerate().rev() {
+        let children = || children_of(table, node).iter().map(|&c| least[c as usize]);
+        let below = match node[0] {
+            4 => children().sum(),
+            8 => children().flatten().min(),
+            _ => Some(0),
+        };
+        least[k] = below.map(|rows| rows + 1).filter(|&rows| rows <= MOST_ROWS);
+    }
+    least
+}
+
+impl Record {
+    /// A record of a sound table's root, of at most `spare` rows above the smallest value, or none
+    /// if the root has no value of at most 4,096 rows.
+    pub fn of(table: &Table, random: &mut Random, spare: usize) -> Option<Record> {
+        let least = least_rows(table);
+        let smallest = least[0]?;
+        let mut writer = Writer {
+            table,
+            random,
+            least,
+            spare: spare.min(MOST_ROWS - smallest),
+            record: Record {
+                bytes: Vec::new(),
+                rows: 0,
+                counts: Vec::new(),
+            },
+        };
+        writer.value(0);
+        Some(writer.record)
+    }
+}
+
+/// A writer of random values: the table, its smallest values, the rows that values may have above
+/// them, and what is written.
+struct Writer<'a> {
+    table: &'a Table,
+    random: &'a mut Random,
+    least: Vec<Option<usize>>,
+    spare: usize,
+    record: Record,
+}
+
+impl Writer<'_> {
+    /// Writes a value of a node that has one.
+    fn value(&mut self, k: usize) {
+        self.record.rows += 1;
+        let node = self.table.nodes[k];
+        let children = children_of(self.table, node);
+        match node[0] {
+            0 => (),
+            1 => self.random_bytes(4),
+            2 => self.random_bytes(8),
+            3 => self.array(children[0] as usize),
+            4 => children
+                .iter()
+                .for_each(|&child| self.value(child as usize)),
+            5 => self.numbers(1),
+            6 => self.numbers(4),
+            7 => self.numbers(8),
+            _ => self.case(children),
+        }
+    }
+
+    fn random_bytes(&mut self, count: usize) {
+        let bytes = self.random.bytes(count);
+        self.record.bytes.extend(bytes);
+    }
+
+    /// Writes an element count or a tag.
+    fn count(&mut self, count: usize) {
+        self.record.counts.push(self.record.bytes.len());
+        self.record.bytes.extend((count as u64).to_le_bytes());
+    }
+
+    /// Writes an array of numbers of this many bytes.
+    fn numbers(&mut self, width: usize) {
+        let count = self.random.within(0..=5);
+        self.count(count);
+        self.random_bytes(count * width);
+    }
+
+    /// Writes an array of values of a node.
+    fn array(&mut self, element: usize) {
+        let most = self.least[element].map_or(0, |rows| self.spare / rows);
+        let most = self.random.pick(&[most.min(3), most]);
+        let count = self.random.within(0..=most);
+        self.spare -= count * self.least[element].unwrap_or(0);
+        self.count(count);
+        (0..count).for_each(|_| self.value(element));
+    }
+
+    /// Writes a case, one at least of which has a value.
+    fn case(&mut self, cases: &[u32]) {
+        let rows = |&tag: &usize| self.least[cases[tag] as usize];
+        let smallest = (0..cases.len()).filter_map(|tag| rows(&tag)).min();
+        let most = smallest.expect("a case that has a value") + self.spare;
+        let fits = |tag: &usize| rows(tag).is_some_and(|rows| rows <= most);
+        let tags: Vec<usize> = (0..cases.len()).filter(fits).collect();
+        let tag = self.random.pick(&tags);
+        let child = cases[tag] as usize;
+        self.spare = most - self.least[child].expect("the case has a value");
+        self.count(tag);
+        self.value(child);
+    }
+}

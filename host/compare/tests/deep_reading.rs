@@ -1,0 +1,71 @@
+//! The deepest readings, on a thread with a small stack. They have a program of their own, since a
+//! stack that overflows ends it.
+
+use std::thread;
+
+use compare::{check_whole, demarshall};
+use route_record::{Parsed, Place, Refusal};
+
+type Answer = Result<Parsed, Refusal>;
+
+/// The bytes of stack within which a reading stays.
+const STACK: usize = 128 * 1_024;
+
+/// 256 nodes, each but the last of this kind with the next as its one child, and a uint32.
+fn chain(kind: u32) -> Vec<u32> {
+    let parents = (0..255).flat_map(|k| [kind, k, 1]);
+    let nodes = parents.chain([1, 0, 0]);
+    let children = 1..256;
+    let words = [256].into_iter().chain(nodes).chain([255]);
+    words.chain(children).collect()
+}
+
+/// The library's answers, with rows and as a check, on a thread with the small stack.
+fn on_small_stack(grammar: Vec<u32>, record: Vec<u8>) -> [Answer; 2] {
+    let calls = move || {
+        let mut words = vec![0; 4 * 256];
+        let lent = route_record::demarshall(&grammar, &record, &mut words);
+        [lent, route_record::check_whole(&grammar, &record)]
+    };
+    let thread = thread::Builder::new().stack_size(STACK).spawn(calls);
+    let thread = thread.expect("a thread with a small stack");
+    thread.join().expect("both calls return")
+}
+
+/// The answers to a chain of this kind, each value of which begins with these bytes, on the small
+/// stack and compared with the model.
+fn compare_chain(kind: u32, own: &[u8]) {
+    let grammar = chain(kind);
+    let end = 255 * own.len();
+    let record = [own.repeat(255), vec![7, 0, 0, 0]].concat();
+    let sound = Ok(Parsed {
+        rows: 256,
+        rest_index: end + 4,
+    });
+    let cut = Err(Refusal {
+        number: 9,
+        place: Place::Byte(end as u64),
+    });
+    for (length, expected) in [(end + 4, sound), (end + 3, cut)] {
+        let record = &record[..length];
+        assert_eq!(demarshall(&grammar, record, 4 * 256), expected);
+        assert_eq!(check_whole(&grammar, record), expected);
+        let answers = on_small_stack(grammar.clone(), record.to_vec());
+        assert_eq!(answers, [expected; 2]);
+    }
+}
+
+#[test]
+fn arrays() {
+    compare_chain(3, &1u64.to_le_bytes());
+}
+
+#[test]
+fn tuples() {
+    compare_chain(4, &[]);
+}
+
+#[test]
+fn unions() {
+    compare_chain(8, &0u64.to_le_bytes());
+}

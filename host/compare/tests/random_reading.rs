@@ -1,0 +1,262 @@
+//! The readers against the model, over random grammars and records.
+
+use std::collections::BTreeMap;
+
+use compare::{check_val, check_whole, demarshall, parse_val, Random, Record, Table};
+use route_record::{Parsed, Refusal};
+
+/// How often each answer was given: 0 for an accepted call, else the refusal's number.
+#[derive(Default)]
+struct Tally(BTreeMap<u64, usize>);
+
+impl Tally {
+    fn count(&mut self, answer: Result<Parsed, Refusal>) {
+        let number = answer.map_or_else(|refusal| refusal.number, |_| 0);
+        *self.0.entry(number).or_default() += 1;
+    }
+
+    /// Compares all four calls.
+    fn add(&mut self, grammar: &[u32], record: &[u8], index: usize, words: usize) {
+        self.count(parse_val(grammar, record, index, words));
+        self.count(demarshall(grammar, record, words));
+        self.count(check_val(grammar, record, index));
+        self.count(check_whole(grammar, record));
+    }
+
+    /// These answers and no others were given, none of them rarely.
+    fn assert_are(&self, numbers: &[u64]) {
+        assert!(self.0.keys().eq(numbers), "{:?}", self.0);
+        assert!(self.0.values().all(|&count| count >= 20), "{:?}", self.0);
+    }
+}
+
+/// How many random grammars a test makes.
+const GRAMMARS: usize = 1_000;
+
+/// A random table, small or large, with shared children, empty unions and empty tuples.
+fn random_table(random: &mut Random) -> Table {
+    let most_nodes = random.pick(&[1, 2, 3, 8, 20, 256]);
+    let most_child_words = random.pick(&[1, 4, 16, 64, 1_024]);
+    let n = random.within(1..=most_nodes);
+    let m = random.within(0..=most_child_words);
+    Table::sound(random, n, m)
+}
+
+/// Whether a node is a child twice, of one node or of two.
+fn shares_a_child(table: &Table) -> bool {
+    let children =
+        |&[_, first, count]: &[u32; 3]| &table.children[first as usize..][..count as usize];
+    let mut used = table.nodes.iter().flat_map(children).collect::<Vec<_>>();
+    used.sort();
+    used.windows(2).any(|pair| pair[0] == pair[1])
+}
+
+#[test]
+fn grammars_of_each_form() {
+    let mut random = Random::new(30);
+    let tables: Vec<Table> = (0..GRAMMARS).map(|_| random_table(&mut random)).collect();
+    for kind in [4, 8] {
+        let empty = |table: &&Table| {
+            table
+                .nodes
+                .iter()
+                .any(|node| node[0] == kind && node[2] == 0)
+        };
+        assert!(tables.iter().filter(empty).count() >= 100);
+    }
+    let shared = tables.iter().filter(|table| shares_a_child(table));
+    assert!(shared.count() >= 100);
+}
+
+/// Calls `test` with random grammars that have a value, and a record of each.
+fn for_each_record(seed: u64, mut test: impl FnMut(&mut Random, &[u32], Record)) {
+    let mut random = Random::new(seed);
+    let mut records = 0;
+    while records < GRAMMARS {
+        let table = random_table(&mut random);
+        let spare = random.pick(&[0, 5, 30, 100]);
+        if let Some(record) = Record::of(&table, &mut random, spare) {
+            test(&mut random, &table.words(), record);
+            records += 1;
+        }
+    }
+}
+
+/// Some words behind the rows that a value needs, not always a multiple of 4.
+fn enough(random: &mut Random, record: &Record) -> usize {
+    4 * record.rows + random.below(10)
+}
+
+#[test]
+fn sound_records() {
+    for_each_record(31, |random, grammar, record| {
+        let words = enough(random, &record);
+        let (rows, rest_index) = (record.rows, record.bytes.len());
+        let expected = Ok(Parsed { rows, rest_index });
+        assert_eq!(parse_val(grammar, &record.bytes, 0, words), expected);
+        assert_eq!(demarshall(grammar, &record.bytes, words), expected);
+        assert_eq!(check_val(grammar, &record.bytes, 0), expected);
+        assert_eq!(check_whole(grammar, &record.bytes), expected);
+    });
+}
+
+#[test]
+fn large_records() {
+    let mut most = 0;
+    for seed in 0..300 {
+        let mut random = Random::new(seed);
+        let table = Table::sound(&mut random, 20, 30);
+        if let Some(record) = Record::of(&table, &mut random, 4_096) {
+            let (rows, rest_index) = (record.rows, record.bytes.len());
+            let expected = Ok(Parsed { rows, rest_index });
+            let words = table.words();
+            assert_eq!(demarshall(&words, &record.bytes, 4 * 4_096), expected);
+            assert_eq!(check_whole(&words, &record.bytes), expected);
+            most = most.max(rows);
+        }
+    }
+    assert!(most > 4_000, "{most} rows at most");
+}
+
+#[test]
+fn every_capacity_near_the_need() {
+    let mut tally = Tally::default();
+    for_each_record(32, |_, grammar, record| {
+        let need = 4 * record.rows;
+        for words in need.saturating_sub(9)..=need + 9 {
+            let answer = demarshall(grammar, &record.bytes, words);
+            assert_eq!(answer.is_ok(), words >= need);
+            tally.count(answer);
+            tally.count(parse_val(grammar, &record.bytes, 0, words));
+        }
+        tally.add(grammar, &record.bytes, 0, 0);
+        tally.add(grammar, &record.bytes, 0, 4 * 4_096 + 7);
+    });
+    tally.assert_are(&[0, 8]);
+}
+
+#[test]
+fn every_index_near_the_ends() {
+    let mut tally = Tally::default();
+    for_each_record(33, |random, grammar, record| {
+        let words = enough(random, &record);
+        let before = random.below(5);
+        let behind = random.below(5);
+        let (front, back) = (random.bytes(before), random.bytes(behind));
+        let bytes = [front, record.bytes, back].concat();
+        let rest_index = bytes.len() - behind;
+        let rows = record.rows;
+        let answer = parse_val(grammar, &bytes, before, words);
+        assert_eq!(answer, Ok(Parsed { rows, rest_index }));
+        let end = bytes.len();
+        for index in (0..=9).chain(end.saturating_sub(9)..=end + 2) {
+            tally.add(grammar, &bytes, index, words);
+        }
+        for index in [1 << 20, 1 << 32, 1 << 63, usize::MAX - 7, usize::MAX] {
+            tally.add(grammar, &bytes, index, words);
+        }
+    });
+    tally.assert_are(&[0, 7, 8, 9, 10, 11]);
+}
+
+#[test]
+fn cut_records() {
+    let mut tally = Tally::default();
+    for_each_record(34, |random, grammar, record| {
+        let words = enough(random, &record);
+        let end = record.bytes.len();
+        let lengths = (0..end).filter(|length| length % 11 == 0 || end - length < 10);
+        for length in lengths {
+            tally.add(grammar, &record.bytes[..length], 0, words);
+        }
+    });
+    tally.assert_are(&[9]);
+}
+
+#[test]
+fn lengthened_records() {
+    let mut tally = Tally::default();
+    for_each_record(35, |random, grammar, record| {
+        let words = enough(random, &record);
+        let end = record.bytes.len();
+        let count = random.within(1..=20);
+        let bytes = [&record.bytes[..], &random.bytes(count)].concat();
+        let refusal = demarshall(grammar, &bytes, words).expect_err("bytes left over");
+        let place = route_record::Place::Byte(end as u64);
+        assert_eq!(refusal, Refusal { number: 11, place });
+        tally.add(grammar, &bytes, 0, words);
+    });
+    tally.assert_are(&[0, 11]);
+}
+
+/// Changes one byte, or one count or tag to a limit or to a number next to one.
+fn flip(random: &mut Random, record: &mut Record) {
+    let end = record.bytes.len();
+    if record.counts.is_empty() || random.below(3) == 0 {
+        record.bytes[random.below(end)] ^= 1 << random.below(8);
+        return;
+    }
+    let at = random.pick(&record.counts);
+    let old = u64::from_le_bytes(record.bytes[at..at + 8].try_into().expect("8 bytes"));
+    let left = (end - at - 8) as u64;
+    let limits = [old, left, left / 4, left / 8, 4_096, 1 << 61, 1 << 62, 0];
+    let new = random
+        .pick(&limits)
+        .wrapping_add(random.pick(&[0, 1, u64::MAX]));
+    record.bytes[at..at + 8].copy_from_slice(&new.to_le_bytes());
+}
+
+#[test]
+fn flipped_records() {
+    let mut tally = Tally::default();
+    for_each_record(36, |random, grammar, mut record| {
+        let words = enough(random, &record);
+        for _ in 0..random.within(1..=10) {
+            if !record.bytes.is_empty() {
+                flip(random, &mut record);
+                tally.add(grammar, &record.bytes, 0, words);
+            }
+        }
+    });
+    tally.assert_are(&[0, 8, 9, 10, 11]);
+}
+
+#[test]
+fn random_bytes() {
+    let mut tally = Tally::default();
+    let mut random = Random::new(37);
+    for _ in 0..GRAMMARS {
+        let grammar = random_table(&mut random).words();
+        let count = random.pick(&[0, 4, 8, 20, 100]);
+        let bytes = random.bytes(count);
+        let small: Vec<u8> = bytes.iter().map(|byte| u8::from(*byte > 240)).collect();
+        let index = random.within(0..=count + 1);
+        let words = random.pick(&[0, 3, 4, 9, 100, 4 * 4_096]);
+        tally.add(&grammar, &bytes, index, words);
+        tally.add(&grammar, &small, index, words);
+    }
+    tally.assert_are(&[0, 7, 8, 9, 10, 11]);
+}
+
+/// Refusals 1 to 6, each before all that the reading itself refuses.
+#[test]
+fn damaged_grammars_and_long_records() {
+    let mut tally = Tally::default();
+    let mut random = Random::new(38);
+    let long = vec![0; 1_048_577];
+    for round in 0..4 * GRAMMARS {
+        let table = random_table(&mut random);
+        let mut grammar = table.words();
+        table.damage(&mut random, &mut grammar);
+        if random.below(8) == 0 {
+            grammar.truncate(random.below(grammar.len()));
+        }
+        let count = random.below(30);
+        let bytes = random.bytes(count);
+        let record = if round % 40 == 0 { &long } else { &bytes };
+        let index = random.pick(&[0, count, count + 1]);
+        let words = random.pick(&[0, 5, 100]);
+        tally.add(&grammar, record, index, words);
+    }
+    tally.assert_are(&[0, 1, 2, 3, 4, 5, 6, 7, 8, 9, 10, 11]);
+}

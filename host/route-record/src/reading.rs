@@ -1,0 +1,117 @@
+//! Reading a record by its grammar, into value rows or as a check.
+//!
+//! The bytes of a constant are none, of a uint32 4, of a uint64 8, of a tuple its fields in order,
+//! of an array an 8-byte element count and the elements, of a case an 8-byte tag and its value;
+//! each number is least byte first. The record is the store of the rows. Rows are four words each;
+//! a slice has as many rows as its words divided by 4, rounded down, at most 4,096.
+
+use crate::ffi::{self, Answer};
+use crate::refusal::Refusal;
+
+/// What an accepted reading gives.
+#[derive(Clone, Copy, Debug, PartialEq, Eq)]
+pub struct Parsed {
+    /// The number of rows of the value.
+    pub rows: usize,
+    /// The first byte behind the value.
+    pub rest_index: usize,
+}
+
+/// The counts of an answer.
+fn parsed(answer: Answer) -> Result<Parsed, Refusal> {
+    let answer = answer.into_result()?;
+    let within_usize = |word| usize::try_from(word).expect("the library counts rows and bytes");
+    Ok(Parsed {
+        rows: within_usize(answer.first),
+        rest_index: within_usize(answer.second),
+    })
+}
+
+/// Reads a value of the grammar's root from byte `index` on and lays it out in rows 0 to `n - 1`,
+/// `n` being its row count. The words behind them stay as they were.
+///
+/// Refused by 1 to 5 as [`check_grammar`](crate::check_grammar) refuses; then by 6 at byte 0 when
+/// the record has more than 1,048,576 bytes; then by 7 at byte `index` when it is above the
+/// record's length; then, for each value from the root on, at the byte where the value starts, by
+/// - 8 when no row is left;
+/// - 9 when fewer bytes are left than a number, count or tag has, or when the count of a kind 5 to
+///   7 is above the bytes left behind it, divided by 1, 4 or 8 and rounded down;
+/// - 8 when the count of a kind 3 is above the rows left after its own;
+/// - 10 when a tag is not below the number of cases;
+/// - what its children are refused by, in order.
+///
+/// ```
+/// use route_record::{parse_val, Parsed, Place, Refusal};
+///
+/// let tuple_of_u32_and_bytes = [3, 4, 0, 2, 1, 0, 0, 5, 0, 0, 2, 1, 2];
+/// let record = [0xff, 7, 0, 0, 0, 2, 0, 0, 0, 0, 0, 0, 0, 0x41, 0x42, 0xff];
+/// let mut rows = [99; 13];
+/// let parsed = parse_val(&tuple_of_u32_and_bytes, &record, 1, &mut rows);
+/// assert_eq!(parsed, Ok(Parsed { rows: 3, rest_index: 15 }));
+/// assert_eq!(rows, [4, 3, 2, 0, 1, 1, 7, 0, 5, 1, 2, 13, 99]);
+///
+/// let refusal = Refusal { number: 9, place: Place::Byte(5) };
+/// let parsed = parse_val(&tuple_of_u32_and_bytes, &record[..14], 1, &mut rows);
+/// assert_eq!(parsed, Err(refusal));
+/// ```
+pub fn parse_val(
+    grammar: &[u32],
+    record: &[u8],
+    index: usize,
+    rows: &mut [u64],
+) -> Result<Parsed, Refusal> {
+    parsed(ffi::parse_val(grammar, record, index, rows))
+}
+
+/// Reads a record that is a value of the grammar's root, and lays it out in rows 0 to `n - 1`, `n`
+/// being its row count. The words behind them stay as they were.
+///
+/// Refused as [`parse_val`] from byte 0 on is, then by 11 at the first byte behind the value when
+/// it is not the record's end.
+///
+/// ```
+/// use route_record::{demarshall, Parsed, Place, Refusal};
+///
+/// let uint32 = [1, 1, 0, 0, 0];
+/// let mut rows = [99; 5];
+/// let parsed = demarshall(&uint32, &[7, 0, 0, 0], &mut rows);
+/// assert_eq!(parsed, Ok(Parsed { rows: 1, rest_index: 4 }));
+/// assert_eq!(rows, [1, 1, 7, 0, 99]);
+///
+/// let refusal = Refusal { number: 11, place: Place::Byte(4) };
+/// assert_eq!(demarshall(&uint32, &[8, 0, 0, 0, 0], &mut rows), Err(refusal));
+/// assert_eq!(rows, [1, 1, 7, 0, 99]);
+/// ```
+pub fn demarshall(grammar: &[u32], record: &[u8], rows: &mut [u64]) -> Result<Parsed, Refusal> {
+    parsed(ffi::demarshall(grammar, record, rows))
+}
+
+/// Reads as [`parse_val`] does with 4,096 rows, and keeps none.
+///
+/// ```
+/// use route_record::{check_val, Parsed, Place, Refusal};
+///
+/// let uint64 = [1, 2, 0, 0, 0];
+/// assert_eq!(check_val(&uint64, &[0; 9], 1), Ok(Parsed { rows: 1, rest_index: 9 }));
+///
+/// let refusal = Refusal { number: 9, place: Place::Byte(2) };
+/// assert_eq!(check_val(&uint64, &[0; 9], 2), Err(refusal));
+/// ```
+pub fn check_val(grammar: &[u32], record: &[u8], index: usize) -> Result<Parsed, Refusal> {
+    parsed(ffi::check_val(grammar, record, index))
+}
+
+/// Reads as [`demarshall`] does with 4,096 rows, and keeps none.
+///
+/// ```
+/// use route_record::{check_whole, Parsed, Place, Refusal};
+///
+/// let uint64 = [1, 2, 0, 0, 0];
+/// assert_eq!(check_whole(&uint64, &[0; 8]), Ok(Parsed { rows: 1, rest_index: 8 }));
+///
+/// let refusal = Refusal { number: 11, place: Place::Byte(8) };
+/// assert_eq!(check_whole(&uint64, &[0; 9]), Err(refusal));
+/// ```
+pub fn check_whole(grammar: &[u32], record: &[u8]) -> Result<Parsed, Refusal> {
+    parsed(ffi::check_whole(grammar, record))
+}
