@@ -89,8 +89,8 @@ route_answer route_check_grammar(const uint32_t *words, size_t words_len);
  * grammar tables. The span is the number of rows of the value, its own included; the rows of its
  * children follow its own, child after child. Word 2 is 0 for kind 0, the number for kinds 1 and 2,
  * the count of elements for kinds 3 to 7, the tag for kind 8. Word 3 is the place of the first
- * element in the store for kinds 5 to 7, else 0. Words behind row n - 1 are free. A call uses less
- * than 1 MiB of stack, on values as deep as 4096 rows can be. */
+ * element in the store for kinds 5 to 7, else 0. Words behind row n - 1 are not looked at. A call
+ * uses less than 1 MiB of stack, on values as deep as 4096 rows can be. */
 
 /* Gives in `first` the size in bytes of the value that rows 0 to n - 1 stand for: the length of its
  * record, at most 4293951488. Changes nothing.
@@ -118,7 +118,8 @@ route_answer route_locate_array(const uint64_t *rows, size_t rows_len, size_t n,
 /* Reading: the bytes of a value are, for kind 0, none; kind 1, 4; kind 2, 8; kinds 3, 5, 6 and 7,
  * an 8-byte count of elements and the elements; kind 4, its fields in order; kind 8, an 8-byte tag
  * and the value of that case. Each number is least byte first. A call reads a value of node 0 of
- * the grammar and gives in `first` its row count n, in `second` the first byte behind it. */
+ * the grammar and gives in `first` its row count n, in `second` the first byte behind it. It uses
+ * less than 128 KiB of stack, on grammars as deep as 256 nodes can be. */
 
 /* Reads from byte index on. The rows lent are rows_len divided by 4, rounded down, at most 4096;
  * none with rows_len 0. Changes only rows 0 to n - 1, which stand for the value, with the record as

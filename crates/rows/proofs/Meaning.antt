@@ -39,11 +39,11 @@ located-injective (Located.Refused r) (Located.Refused s) h = ap Located.Refused
 pub children : {x : Wanted} {count : ℕ} {o : Outcome Reason ℕ} → x ≡ Wanted.Children count → wanted x ≡ o → accepted count ≡ o
 children p h = ap wanted (sym p) ∙ h
 
-pub no-children : {x : Wanted} {r : Refusal} {o : Outcome Reason ℕ} → x ≡ Wanted.Refused r → wanted x ≡ o → refused (reasonOf r) ≡ o
-no-children p h = ap wanted (sym p) ∙ h
+pub wanted-refused : {x : Wanted} {r : Refusal} {o : Outcome Reason ℕ} → x ≡ Wanted.Refused r → wanted x ≡ o → refused (reasonOf r) ≡ o
+wanted-refused p h = ap wanted (sym p) ∙ h
 
 pub at : {x : Located} {start size : ℕ} {o : Outcome Reason Part} → x ≡ Located.At start size → located x ≡ o → accepted (record { start = start; size = size }) ≡ o
 at p h = ap located (sym p) ∙ h
 
-pub nowhere : {x : Located} {r : Refusal} {o : Outcome Reason Part} → x ≡ Located.Refused r → located x ≡ o → refused (reasonOf r) ≡ o
-nowhere p h = ap located (sym p) ∙ h
+pub located-refused : {x : Located} {r : Refusal} {o : Outcome Reason Part} → x ≡ Located.Refused r → located x ≡ o → refused (reasonOf r) ≡ o
+located-refused p h = ap located (sym p) ∙ h

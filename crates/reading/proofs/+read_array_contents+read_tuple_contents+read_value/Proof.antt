@@ -14,7 +14,7 @@ use Rattle.grammar.proofs.Tree.{tree-valid}
 use Rattle.reading.specs.Meaning.{stateOf, TakenKeeps}
 use Rattle.reading.proofs.Loop.{room-kept, Remaining, remaining-start, remaining-stopped, remaining-next, remaining-done, few-elements, few-fields, elements-next, elements-none, fields-next, fields-none}
 use Rattle.reading.proofs.Laws.{node-inside, taken-number, taken-stopped}
-use Rattle.reading.proofs.Arms.{claimed-next, claim-refused, below-taken, own-row, ready-claimed, ready-below, row-room, array-count, counted-elements, counted-fields, counted-value, arm-constant, arm-number, arm-elements, arm-array-stopped, arm-case-stopped, arm-array, arm-tuple, arm-case}
+use Rattle.reading.proofs.Arms.{Claimed, claimed-next, claim-refused, below-taken, own-row, ready-claimed, ready-below, row-room, array-count, counted-elements, counted-fields, counted-value, arm-constant, arm-number, arm-elements, arm-array-stopped, arm-case-stopped, arm-array, arm-tuple, arm-case}
 use borrow.Author.Needs.{needs}
 use Prim.Native.Nat.{ℕ, _<_}
 use borrow.Fn.Kinds.{In}
@@ -366,6 +366,10 @@ read-tuple-contents-returns-2 t c =
     let l = c .before .loop in
     remaining-done (l .inv .2) (fields-none (a .s .capacity) (a .bytes .now) (a .grammar .now) (stateOf (l .t)) (firstWord (a .grammar .now) (a .node)) (countWord (a .grammar .now) (a .node)) (l .i) (omega (arith, l .inv .1)))
 
+-- a row was claimed for the value, and what that says of the state behind
+claimed-row : (t : ℕ) (c : read-value-lts.After-t2 (read-value-calls t) (read-value-at t) read-value.Post) → Claimed (c .before .before .before .before .before .before .args .s) (c .t2 .given .0 .0)
+claimed-row t c = claimed-next (c .before .before .before .before .before .before .args .s) (c .t2 .given .0 .0) (c .t2 .given .1) (c .before .before .claim .ensures .0) (c .before .before .claim .ensures .1)
+
 read-value-claim-requires : (t : ℕ) → read-value-lts.Need-claim-requires (read-value-calls t) (read-value-at t) read-value.Post
 read-value-claim-requires t c κs = search needs
 
@@ -391,14 +395,14 @@ read-value-read-constant-requires : (t : ℕ) → read-value-lts.Need-read-const
 read-value-read-constant-requires t c κs =
     let a = c .before .before .before .before .before .before .before .before .before .before .args in
     let p = c .before .before .before .before .before .before .before .before .before .before .pre .1 in
-    let q = claimed-next (a .s) (c .before .before .before .before .t2 .given .0 .0) (c .before .before .before .before .t2 .given .1) (c .before .before .before .before .before .before .claim .ensures .0) (c .before .before .before .before .before .before .claim .ensures .1) in
+    let q = claimed-row t (c .before .before .before .before) in
     own-row (p .0) (p .1) q
 
 read-value-take4-requires : (t : ℕ) → read-value-lts.Need-take4-requires (read-value-calls t) (read-value-at t) read-value.Post
 read-value-take4-requires t c κs =
     let a = c .before .before .before .before .before .before .before .before .before .before .args in
     let p = c .before .before .before .before .before .before .before .before .before .before .pre .1 in
-    let q = claimed-next (a .s) (c .before .before .before .before .t2 .given .0 .0) (c .before .before .before .before .t2 .given .1) (c .before .before .before .before .before .before .claim .ensures .0) (c .before .before .before .before .before .before .claim .ensures .1) in
+    let q = claimed-row t (c .before .before .before .before) in
     let r = ready-claimed (p .0) (p .1) q in
     (r .inside, r .short)
 
@@ -406,14 +410,14 @@ read-value-read-number-requires : (t : ℕ) → read-value-lts.Need-read-number-
 read-value-read-number-requires t c κs =
     let a = c .before .before .before .before .before .before .before .before .before .before .before .args in
     let p = c .before .before .before .before .before .before .before .before .before .before .before .pre .1 in
-    let q = claimed-next (a .s) (c .before .before .before .before .before .t2 .given .0 .0) (c .before .before .before .before .before .t2 .given .1) (c .before .before .before .before .before .before .before .claim .ensures .0) (c .before .before .before .before .before .before .before .claim .ensures .1) in
+    let q = claimed-row t (c .before .before .before .before .before) in
     own-row (p .0) (p .1) q
 
 read-value-take8-requires : (t : ℕ) → read-value-lts.Need-take8-requires (read-value-calls t) (read-value-at t) read-value.Post
 read-value-take8-requires t c κs =
     let a = c .before .before .before .before .before .before .before .before .before .before .args in
     let p = c .before .before .before .before .before .before .before .before .before .before .pre .1 in
-    let q = claimed-next (a .s) (c .before .before .before .before .t2 .given .0 .0) (c .before .before .before .before .t2 .given .1) (c .before .before .before .before .before .before .claim .ensures .0) (c .before .before .before .before .before .before .claim .ensures .1) in
+    let q = claimed-row t (c .before .before .before .before) in
     let r = ready-claimed (p .0) (p .1) q in
     (r .inside, r .short)
 
@@ -421,28 +425,28 @@ read-value-read-number-requires-2 : (t : ℕ) → read-value-lts.Need-read-numbe
 read-value-read-number-requires-2 t c κs =
     let a = c .before .before .before .before .before .before .before .before .before .before .before .args in
     let p = c .before .before .before .before .before .before .before .before .before .before .before .pre .1 in
-    let q = claimed-next (a .s) (c .before .before .before .before .before .t2 .given .0 .0) (c .before .before .before .before .before .t2 .given .1) (c .before .before .before .before .before .before .before .claim .ensures .0) (c .before .before .before .before .before .before .before .claim .ensures .1) in
+    let q = claimed-row t (c .before .before .before .before .before) in
     own-row (p .0) (p .1) q
 
 read-value-sub-limit : (t : ℕ) → read-value-lts.Need-sub-limit (read-value-calls t) (read-value-at t) read-value.Post
 read-value-sub-limit t c =
     let a = c .before .before .before .before .before .before .before .before .before .before .args in
     let p = c .before .before .before .before .before .before .before .before .before .before .pre .1 in
-    let q = claimed-next (a .s) (c .before .before .before .before .t2 .given .0 .0) (c .before .before .before .before .t2 .given .1) (c .before .before .before .before .before .before .claim .ensures .0) (c .before .before .before .before .before .before .claim .ensures .1) in
+    let q = claimed-row t (c .before .before .before .before) in
     ready-claimed (p .0) (p .1) q .few
 
 read-value-add-limit : (t : ℕ) → read-value-lts.Need-add-limit (read-value-calls t) (read-value-at t) read-value.Post
 read-value-add-limit t c =
     let a = c .before .before .before .before .before .before .before .before .before .before .args in
     let p = c .before .before .before .before .before .before .before .before .before .before .pre .1 in
-    let q = claimed-next (a .s) (c .before .before .before .before .t2 .given .0 .0) (c .before .before .before .before .t2 .given .1) (c .before .before .before .before .before .before .claim .ensures .0) (c .before .before .before .before .before .before .claim .ensures .1) in
+    let q = claimed-row t (c .before .before .before .before) in
     omega (arith, ready-claimed (p .0) (p .1) q .most)
 
 read-value-take-below-requires : (t : ℕ) → read-value-lts.Need-take-below-requires (read-value-calls t) (read-value-at t) read-value.Post
 read-value-take-below-requires t c κs =
     let a = c .before .before .before .before .before .before .before .before .before .before .args in
     let p = c .before .before .before .before .before .before .before .before .before .before .pre .1 in
-    let q = claimed-next (a .s) (c .before .before .before .before .t2 .given .0 .0) (c .before .before .before .before .t2 .given .1) (c .before .before .before .before .before .before .claim .ensures .0) (c .before .before .before .before .before .before .claim .ensures .1) in
+    let q = claimed-row t (c .before .before .before .before) in
     let r = ready-claimed (p .0) (p .1) q in
     (r .inside, r .short)
 
@@ -456,44 +460,14 @@ read-value-child-at-requires : (t : ℕ) → read-value-lts.Need-child-at-requir
 read-value-child-at-requires t c κs =
     let a = c .before .before .before .before .before .before .before .before .before .before .before .before .before .before .args in
     let p = c .before .before .before .before .before .before .before .before .before .before .before .before .before .before .pre .1 in
-    let q = claimed-next (a .s) (c .before .before .before .before .before .before .before .before .t2 .given .0 .0) (c .before .before .before .before .before .before .before .before .t2 .given .1) (c .before .before .before .before .before .before .before .before .before .before .claim .ensures .0) (c .before .before .before .before .before .before .before .before .before .before .claim .ensures .1) in
     (p .0, omega (arith, array-count (a .grammar .now) (a .node) (p .0) (c .before .before .before .before .before .match2 .keys4)))
 
 read-value-read-array-contents-requires :
-    (t : ℕ) → read-value-lts.Need-read-array-contents-requires (
-      claim-reads.Asked,
-      claim-reads.Learnt,
-      read-constant-reads.Asked,
-      read-constant-reads.Learnt,
-      take4-reads.Asked,
-      take4-reads.Learnt,
-      read-number-reads.Asked,
-      read-number-reads.Learnt,
-      take8-reads.Asked,
-      take8-reads.Learnt,
-      take-below-reads.Asked,
-      take-below-reads.Learnt,
-      child-at-reads.Asked,
-      child-at-reads.Learnt,
-      read-array-contents-below t,
-      read-array-contents.Post,
-      close-row-reads.Asked,
-      close-row-reads.Learnt,
-      read-tuple-contents-below t,
-      read-tuple-contents.Post,
-      word-reads.Asked,
-      word-reads.Learnt,
-      read-elements-reads.Asked,
-      read-elements-reads.Learnt,
-      read-value-below t,
-      read-value.Post,
-      at-word-reads.Asked,
-      at-word-reads.Learnt,
-    ) (read-value-at t) read-value.Post
+    (t : ℕ) → read-value-lts.Need-read-array-contents-requires (read-value-calls t) (read-value-at t) read-value.Post
 read-value-read-array-contents-requires t c κs =
     let a = c .before .before .before .before .before .before .before .before .before .before .before .before .before .before .before .before .args in
     let p = c .before .before .before .before .before .before .before .before .before .before .before .before .before .before .before .before .pre .1 in
-    let q = claimed-next (a .s) (c .before .before .before .before .before .before .before .before .before .before .t2 .given .0 .0) (c .before .before .before .before .before .before .before .before .before .before .t2 .given .1) (c .before .before .before .before .before .before .before .before .before .before .before .before .claim .ensures .0) (c .before .before .before .before .before .before .before .before .before .before .before .before .claim .ensures .1) in
+    let q = claimed-row t (c .before .before .before .before .before .before .before .before .before .before) in
     let g = c .before .before .before .n .given in
     let h = taken-number (g .0 .0) (g .0 .1 .0) (g .1) (c .before .before .before .before .before .take-below .ensures .0) in
     let m = rw (g .1) at (c .before .before .before .before .before .take-below .ensures .1) in
@@ -505,7 +479,7 @@ read-value-close-row-requires : (t : ℕ) → read-value-lts.Need-close-row-requ
 read-value-close-row-requires t c κs =
     let a = c .before .before .before .before .before .before .before .before .before .before .before .before .before .before .before .before .before .before .before .before .args in
     let p = c .before .before .before .before .before .before .before .before .before .before .before .before .before .before .before .before .before .before .before .before .pre .1 in
-    let q = claimed-next (a .s) (c .before .before .before .before .before .before .before .before .before .before .before .before .before .before .t2 .given .0 .0) (c .before .before .before .before .before .before .before .before .before .before .before .before .before .before .t2 .given .1) (c .before .before .before .before .before .before .before .before .before .before .before .before .before .before .before .before .claim .ensures .0) (c .before .before .before .before .before .before .before .before .before .before .before .before .before .before .before .before .claim .ensures .1) in
+    let q = claimed-row t (c .before .before .before .before .before .before .before .before .before .before .before .before .before .before) in
     let g = c .before .before .before .before .before .before .before .n .given in
     let h = taken-number (g .0 .0) (g .0 .1 .0) (g .1) (c .before .before .before .before .before .before .before .before .before .take-below .ensures .0) in
     let m = rw (g .1) at (c .before .before .before .before .before .before .before .before .before .take-below .ensures .1) in
@@ -516,40 +490,11 @@ read-value-close-row-requires t c κs =
     (o .0, row-room (a .s .capacity) (a .s .begun) _ (room-kept (a .s .capacity) (a .rows .now) _ l (p .1 .room)) (q .free), counted-elements (g .0 .1 .0) (treeOf (a .grammar .now) (c .before .before .before .before .before .child-at .result)) (g .0 .0) (c .before .before .before .read-array-contents .result) r (omega (arith, y .1, q .begun)) (c .before .before .before .read-array-contents .ensures))
 
 read-value-read-tuple-contents-requires :
-    (t : ℕ) → read-value-lts.Need-read-tuple-contents-requires (
-      claim-reads.Asked,
-      claim-reads.Learnt,
-      read-constant-reads.Asked,
-      read-constant-reads.Learnt,
-      take4-reads.Asked,
-      take4-reads.Learnt,
-      read-number-reads.Asked,
-      read-number-reads.Learnt,
-      take8-reads.Asked,
-      take8-reads.Learnt,
-      take-below-reads.Asked,
-      take-below-reads.Learnt,
-      child-at-reads.Asked,
-      child-at-reads.Learnt,
-      read-array-contents-below t,
-      read-array-contents.Post,
-      close-row-reads.Asked,
-      close-row-reads.Learnt,
-      read-tuple-contents-below t,
-      read-tuple-contents.Post,
-      word-reads.Asked,
-      word-reads.Learnt,
-      read-elements-reads.Asked,
-      read-elements-reads.Learnt,
-      read-value-below t,
-      read-value.Post,
-      at-word-reads.Asked,
-      at-word-reads.Learnt,
-    ) (read-value-at t) read-value.Post
+    (t : ℕ) → read-value-lts.Need-read-tuple-contents-requires (read-value-calls t) (read-value-at t) read-value.Post
 read-value-read-tuple-contents-requires t c κs =
     let a = c .before .before .before .before .before .before .before .before .before .before .args in
     let p = c .before .before .before .before .before .before .before .before .before .before .pre .1 in
-    let q = claimed-next (a .s) (c .before .before .before .before .t2 .given .0 .0) (c .before .before .before .before .t2 .given .1) (c .before .before .before .before .before .before .claim .ensures .0) (c .before .before .before .before .before .before .claim .ensures .1) in
+    let q = claimed-row t (c .before .before .before .before) in
     let r = ready-claimed (p .0) (p .1) q in
     (omega (arith, c .before .before .before .before .before .before .before .before .before .before .pre .0, q .begun, q .capacity, q .free), (p .0, r))
 
@@ -566,7 +511,7 @@ read-value-close-row-requires-2 : (t : ℕ) → read-value-lts.Need-close-row-re
 read-value-close-row-requires-2 t c κs =
     let a = c .before .before .before .before .before .before .before .before .before .before .before .before .before .before .before .args in
     let p = c .before .before .before .before .before .before .before .before .before .before .before .before .before .before .before .pre .1 in
-    let q = claimed-next (a .s) (c .before .before .before .before .before .before .before .before .before .t2 .given .0 .0) (c .before .before .before .before .before .before .before .before .before .t2 .given .1) (c .before .before .before .before .before .before .before .before .before .before .before .claim .ensures .0) (c .before .before .before .before .before .before .before .before .before .before .before .claim .ensures .1) in
+    let q = claimed-row t (c .before .before .before .before .before .before .before .before .before) in
     let o = own-row (p .0) (p .1) q in
     let r = ready-claimed (p .0) (p .1) q in
     let l = c .before .before .before .before .read-tuple-contents .kept .1 .1 .1 .0 in
@@ -576,7 +521,7 @@ read-value-read-elements-requires : (t : ℕ) → read-value-lts.Need-read-eleme
 read-value-read-elements-requires t c κs =
     let a = c .before .before .before .before .before .before .before .before .before .before .args in
     let p = c .before .before .before .before .before .before .before .before .before .before .pre .1 in
-    let q = claimed-next (a .s) (c .before .before .before .before .t2 .given .0 .0) (c .before .before .before .before .t2 .given .1) (c .before .before .before .before .before .before .claim .ensures .0) (c .before .before .before .before .before .before .claim .ensures .1) in
+    let q = claimed-row t (c .before .before .before .before) in
     let o = own-row (p .0) (p .1) q in
     let r = ready-claimed (p .0) (p .1) q in
     (o .0, o .1, r .inside, r .short, omega arith, omega arith)
@@ -585,7 +530,7 @@ read-value-read-elements-requires-2 : (t : ℕ) → read-value-lts.Need-read-ele
 read-value-read-elements-requires-2 t c κs =
     let a = c .before .before .before .before .before .before .before .before .before .before .args in
     let p = c .before .before .before .before .before .before .before .before .before .before .pre .1 in
-    let q = claimed-next (a .s) (c .before .before .before .before .t2 .given .0 .0) (c .before .before .before .before .t2 .given .1) (c .before .before .before .before .before .before .claim .ensures .0) (c .before .before .before .before .before .before .claim .ensures .1) in
+    let q = claimed-row t (c .before .before .before .before) in
     let o = own-row (p .0) (p .1) q in
     let r = ready-claimed (p .0) (p .1) q in
     (o .0, o .1, r .inside, r .short, omega arith, omega arith)
@@ -594,7 +539,7 @@ read-value-read-elements-requires-3 : (t : ℕ) → read-value-lts.Need-read-ele
 read-value-read-elements-requires-3 t c κs =
     let a = c .before .before .before .before .before .before .before .before .before .before .args in
     let p = c .before .before .before .before .before .before .before .before .before .before .pre .1 in
-    let q = claimed-next (a .s) (c .before .before .before .before .t2 .given .0 .0) (c .before .before .before .before .t2 .given .1) (c .before .before .before .before .before .before .claim .ensures .0) (c .before .before .before .before .before .before .claim .ensures .1) in
+    let q = claimed-row t (c .before .before .before .before) in
     let o = own-row (p .0) (p .1) q in
     let r = ready-claimed (p .0) (p .1) q in
     (o .0, o .1, r .inside, r .short, omega arith, omega arith)
@@ -612,7 +557,7 @@ read-value-take-below-requires-2 : (t : ℕ) → read-value-lts.Need-take-below-
 read-value-take-below-requires-2 t c κs =
     let a = c .before .before .before .before .before .before .before .before .before .before .args in
     let p = c .before .before .before .before .before .before .before .before .before .before .pre .1 in
-    let q = claimed-next (a .s) (c .before .before .before .before .t2 .given .0 .0) (c .before .before .before .before .t2 .given .1) (c .before .before .before .before .before .before .claim .ensures .0) (c .before .before .before .before .before .before .claim .ensures .1) in
+    let q = claimed-row t (c .before .before .before .before) in
     let r = ready-claimed (p .0) (p .1) q in
     (r .inside, r .short)
 
@@ -626,7 +571,6 @@ read-value-child-at-requires-2 : (t : ℕ) → read-value-lts.Need-child-at-requ
 read-value-child-at-requires-2 t c κs =
     let a = c .before .before .before .before .before .before .before .before .before .before .before .before .before .before .args in
     let p = c .before .before .before .before .before .before .before .before .before .before .before .before .before .before .pre .1 in
-    let q = claimed-next (a .s) (c .before .before .before .before .before .before .before .before .t2 .given .0 .0) (c .before .before .before .before .before .before .before .before .t2 .given .1) (c .before .before .before .before .before .before .before .before .before .before .claim .ensures .0) (c .before .before .before .before .before .before .before .before .before .before .claim .ensures .1) in
     let g = c .before .tag .given in
     let h = taken-number (g .0 .0) (g .0 .1 .0) (g .1) (c .before .before .before .take-below2 .ensures .0) in
     let y = below-taken (a .bytes .now) (c .before .before .before .before .word2 .result) 10 (stateOf (c .before .before .before .before .before .before .before .before .t2 .given .0 .0)) (g .0 .0) (g .0 .1 .0) h in
@@ -636,7 +580,7 @@ read-value-read-value-requires : (t : ℕ) → read-value-lts.Need-read-value-re
 read-value-read-value-requires t c κs =
     let a = c .before .before .before .before .before .before .before .before .before .before .before .before .before .before .before .before .args in
     let p = c .before .before .before .before .before .before .before .before .before .before .before .before .before .before .before .before .pre .1 in
-    let q = claimed-next (a .s) (c .before .before .before .before .before .before .before .before .before .before .t2 .given .0 .0) (c .before .before .before .before .before .before .before .before .before .before .t2 .given .1) (c .before .before .before .before .before .before .before .before .before .before .before .before .claim .ensures .0) (c .before .before .before .before .before .before .before .before .before .before .before .before .claim .ensures .1) in
+    let q = claimed-row t (c .before .before .before .before .before .before .before .before .before .before) in
     let g = c .before .before .before .tag .given in
     let h = taken-number (g .0 .0) (g .0 .1 .0) (g .1) (c .before .before .before .before .before .take-below2 .ensures .0) in
     let m = rw (g .1) at (c .before .before .before .before .before .take-below2 .ensures .1) in
@@ -648,7 +592,7 @@ read-value-close-row-requires-3 : (t : ℕ) → read-value-lts.Need-close-row-re
 read-value-close-row-requires-3 t c κs =
     let a = c .before .before .before .before .before .before .before .before .before .before .before .before .before .before .before .before .before .before .before .before .args in
     let p = c .before .before .before .before .before .before .before .before .before .before .before .before .before .before .before .before .before .before .before .before .pre .1 in
-    let q = claimed-next (a .s) (c .before .before .before .before .before .before .before .before .before .before .before .before .before .before .t2 .given .0 .0) (c .before .before .before .before .before .before .before .before .before .before .before .before .before .before .t2 .given .1) (c .before .before .before .before .before .before .before .before .before .before .before .before .before .before .before .before .claim .ensures .0) (c .before .before .before .before .before .before .before .before .before .before .before .before .before .before .before .before .claim .ensures .1) in
+    let q = claimed-row t (c .before .before .before .before .before .before .before .before .before .before .before .before .before .before) in
     let g = c .before .before .before .before .before .before .before .tag .given in
     let h = taken-number (g .0 .0) (g .0 .1 .0) (g .1) (c .before .before .before .before .before .before .before .before .before .take-below2 .ensures .0) in
     let m = rw (g .1) at (c .before .before .before .before .before .before .before .before .before .take-below2 .ensures .1) in
@@ -681,7 +625,7 @@ read-value-returns-2 t c =
     let a = c .before .before .before .before .before .before .before .before .before .before .before .before .before .args in
     let p = c .before .before .before .before .before .before .before .before .before .before .before .before .before .pre .1 in
     let s = c .before .before .before .before .before .before .before .t2 .given .0 .0 in
-    let q = claimed-next (a .s) s (c .before .before .before .before .before .before .before .t2 .given .1) (c .before .before .before .before .before .before .before .before .before .claim .ensures .0) (c .before .before .before .before .before .before .before .before .before .claim .ensures .1) in
+    let q = claimed-row t (c .before .before .before .before .before .before .before) in
     arm-constant (a .grammar .now) (a .node) (a .bytes .now) (a .rows .now) (a .s) s (p .0) (p .1) q (c .before .before .before .before .match2 .keys1) (c .before .before .read-constant .ensures .0) (c .before .before .read-constant .ensures .1)
 
 read-value-same-length-2 : (t : ℕ) → read-value-lts.Need-same-length-2 (read-value-calls t) (read-value-at t) read-value.Post
@@ -692,7 +636,7 @@ read-value-returns-3 t c =
     let a = c .before .before .before .before .before .before .before .before .before .before .before .before .before .before .args in
     let p = c .before .before .before .before .before .before .before .before .before .before .before .before .before .before .pre .1 in
     let s = c .before .before .before .before .before .before .before .before .t2 .given .0 .0 in
-    let q = claimed-next (a .s) s (c .before .before .before .before .before .before .before .before .t2 .given .1) (c .before .before .before .before .before .before .before .before .before .before .claim .ensures .0) (c .before .before .before .before .before .before .before .before .before .before .claim .ensures .1) in
+    let q = claimed-row t (c .before .before .before .before .before .before .before .before) in
     arm-number (a .grammar .now) (a .node) (a .bytes .now) (a .rows .now) (a .s) s (p .0) (p .1) q uint32 (c .before .before .before .before .before .match2 .keys2) (c .before .before .before .take4 .ensures .0) (c .before .before .read-number .ensures uint32 (a .s .capacity) (a .s .at) refl (subst (λ (m : ℕ). TakenKeeps m (c .before .before .before .take4 .result)) (q .capacity) (c .before .before .before .take4 .ensures .1)))
 
 read-value-same-length-3 : (t : ℕ) → read-value-lts.Need-same-length-3 (read-value-calls t) (read-value-at t) read-value.Post
@@ -703,7 +647,7 @@ read-value-returns-4 t c =
     let a = c .before .before .before .before .before .before .before .before .before .before .before .before .before .before .args in
     let p = c .before .before .before .before .before .before .before .before .before .before .before .before .before .before .pre .1 in
     let s = c .before .before .before .before .before .before .before .before .t2 .given .0 .0 in
-    let q = claimed-next (a .s) s (c .before .before .before .before .before .before .before .before .t2 .given .1) (c .before .before .before .before .before .before .before .before .before .before .claim .ensures .0) (c .before .before .before .before .before .before .before .before .before .before .claim .ensures .1) in
+    let q = claimed-row t (c .before .before .before .before .before .before .before .before) in
     arm-number (a .grammar .now) (a .node) (a .bytes .now) (a .rows .now) (a .s) s (p .0) (p .1) q uint64 (c .before .before .before .before .before .match2 .keys3) (c .before .before .before .take8 .ensures .0) (c .before .before .read-number2 .ensures uint64 (a .s .capacity) (a .s .at) refl (subst (λ (m : ℕ). TakenKeeps m (c .before .before .before .take8 .result)) (q .capacity) (c .before .before .before .take8 .ensures .1)))
 
 read-value-returns-5 : (t : ℕ) → read-value-lts.Need-returns-5 (read-value-calls t) (read-value-at t) read-value.Post
@@ -711,7 +655,7 @@ read-value-returns-5 t c =
     let a = c .before .before .before .before .before .before .before .before .before .before .before .before .before .before .args in
     let p = c .before .before .before .before .before .before .before .before .before .before .before .before .before .before .pre .1 in
     let s = c .before .before .before .before .before .before .before .before .t2 .given .0 .0 in
-    let q = claimed-next (a .s) s (c .before .before .before .before .before .before .before .before .t2 .given .1) (c .before .before .before .before .before .before .before .before .before .before .claim .ensures .0) (c .before .before .before .before .before .before .before .before .before .before .claim .ensures .1) in
+    let q = claimed-row t (c .before .before .before .before .before .before .before .before) in
     let g = c .before .u .given in
     arm-array-stopped (a .grammar .now) (a .node) (a .bytes .now) (a .rows .now) (a .s) s (p .0) (p .1) q (g .0 .0) (g .0 .1 .0) (c .before .before .before .before .before .match2 .keys4) (taken-stopped (g .0 .0) (g .0 .1 .0) (g .1) (c .before .before .before .take-below .ensures .0)) (rw (g .1) at (c .before .before .before .take-below .ensures .1))
 
@@ -723,7 +667,7 @@ read-value-returns-6 t c =
     let a = c .before .before .before .before .before .before .before .before .before .before .before .before .before .before .before .before .before .before .before .before .before .before .before .args in
     let p = c .before .before .before .before .before .before .before .before .before .before .before .before .before .before .before .before .before .before .before .before .before .before .before .pre .1 in
     let s = c .before .before .before .before .before .before .before .before .before .before .before .before .before .before .before .before .before .t2 .given .0 .0 in
-    let q = claimed-next (a .s) s (c .before .before .before .before .before .before .before .before .before .before .before .before .before .before .before .before .before .t2 .given .1) (c .before .before .before .before .before .before .before .before .before .before .before .before .before .before .before .before .before .before .before .claim .ensures .0) (c .before .before .before .before .before .before .before .before .before .before .before .before .before .before .before .before .before .before .before .claim .ensures .1) in
+    let q = claimed-row t (c .before .before .before .before .before .before .before .before .before .before .before .before .before .before .before .before .before) in
     let g = c .before .before .before .before .before .before .before .before .before .before .n .given in
     arm-array (a .grammar .now) (a .node) (a .bytes .now) (a .rows .now) (a .s) s (p .0) (p .1) q (c .before .before .before .before .before .before .before .before .child-at .result) (g .0 .0) (g .0 .1 .0) (c .before .before .before .before .before .before .before .before .before .before .before .before .before .before .match2 .keys4) (c .before .before .before .before .before .before .before .before .child-at .ensures .0) (taken-number (g .0 .0) (g .0 .1 .0) (g .1) (c .before .before .before .before .before .before .before .before .before .before .before .before .take-below .ensures .0)) (rw (g .1) at (c .before .before .before .before .before .before .before .before .before .before .before .before .take-below .ensures .1)) (c .before .before .before .before .before .before .read-array-contents .ensures) (c .before .before .close-row .ensures .0) (c .before .before .close-row .ensures .1)
 
@@ -735,7 +679,7 @@ read-value-returns-7 t c =
     let a = c .before .before .before .before .before .before .before .before .before .before .before .before .before .before .before .before .before .before .args in
     let p = c .before .before .before .before .before .before .before .before .before .before .before .before .before .before .before .before .before .before .pre .1 in
     let s = c .before .before .before .before .before .before .before .before .before .before .before .before .t2 .given .0 .0 in
-    let q = claimed-next (a .s) s (c .before .before .before .before .before .before .before .before .before .before .before .before .t2 .given .1) (c .before .before .before .before .before .before .before .before .before .before .before .before .before .before .claim .ensures .0) (c .before .before .before .before .before .before .before .before .before .before .before .before .before .before .claim .ensures .1) in
+    let q = claimed-row t (c .before .before .before .before .before .before .before .before .before .before .before .before) in
     arm-tuple (a .grammar .now) (a .node) (a .bytes .now) (a .rows .now) (a .s) s (p .0) (p .1) q (c .before .before .before .before .word .result) (c .before .before .before .before .before .before .before .before .before .match2 .keys5) (c .before .before .before .before .word .ensures .0) (c .before .before .before .before .before .before .before .read-tuple-contents .ensures) (c .before .before .close-row2 .ensures .0) (c .before .before .close-row2 .ensures .1)
 
 read-value-same-length-6 : (t : ℕ) → read-value-lts.Need-same-length-6 (read-value-calls t) (read-value-at t) read-value.Post
@@ -746,7 +690,7 @@ read-value-returns-8 t c =
     let a = c .before .before .before .before .before .before .before .before .before .before .before .before .before .args in
     let p = c .before .before .before .before .before .before .before .before .before .before .before .before .before .pre .1 in
     let s = c .before .before .before .before .before .before .before .t2 .given .0 .0 in
-    let q = claimed-next (a .s) s (c .before .before .before .before .before .before .before .t2 .given .1) (c .before .before .before .before .before .before .before .before .before .claim .ensures .0) (c .before .before .before .before .before .before .before .before .before .claim .ensures .1) in
+    let q = claimed-row t (c .before .before .before .before .before .before .before) in
     arm-elements (a .grammar .now) (a .node) (a .bytes .now) (a .rows .now) (a .s) s (p .0) (p .1) q byteElements (c .before .before .before .before .match2 .keys6) (c .before .before .read-elements .ensures byteElements refl refl)
 
 read-value-same-length-7 : (t : ℕ) → read-value-lts.Need-same-length-7 (read-value-calls t) (read-value-at t) read-value.Post
@@ -757,7 +701,7 @@ read-value-returns-9 t c =
     let a = c .before .before .before .before .before .before .before .before .before .before .before .before .before .args in
     let p = c .before .before .before .before .before .before .before .before .before .before .before .before .before .pre .1 in
     let s = c .before .before .before .before .before .before .before .t2 .given .0 .0 in
-    let q = claimed-next (a .s) s (c .before .before .before .before .before .before .before .t2 .given .1) (c .before .before .before .before .before .before .before .before .before .claim .ensures .0) (c .before .before .before .before .before .before .before .before .before .claim .ensures .1) in
+    let q = claimed-row t (c .before .before .before .before .before .before .before) in
     arm-elements (a .grammar .now) (a .node) (a .bytes .now) (a .rows .now) (a .s) s (p .0) (p .1) q uint32s (c .before .before .before .before .match2 .keys7) (c .before .before .read-elements2 .ensures uint32s refl refl)
 
 read-value-same-length-8 : (t : ℕ) → read-value-lts.Need-same-length-8 (read-value-calls t) (read-value-at t) read-value.Post
@@ -768,7 +712,7 @@ read-value-returns-10 t c =
     let a = c .before .before .before .before .before .before .before .before .before .before .before .before .before .args in
     let p = c .before .before .before .before .before .before .before .before .before .before .before .before .before .pre .1 in
     let s = c .before .before .before .before .before .before .before .t2 .given .0 .0 in
-    let q = claimed-next (a .s) s (c .before .before .before .before .before .before .before .t2 .given .1) (c .before .before .before .before .before .before .before .before .before .claim .ensures .0) (c .before .before .before .before .before .before .before .before .before .claim .ensures .1) in
+    let q = claimed-row t (c .before .before .before .before .before .before .before) in
     arm-elements (a .grammar .now) (a .node) (a .bytes .now) (a .rows .now) (a .s) s (p .0) (p .1) q uint64s (c .before .before .before .before .match2 .keys8) (c .before .before .read-elements3 .ensures uint64s refl refl)
 
 read-value-returns-11 : (t : ℕ) → read-value-lts.Need-returns-11 (read-value-calls t) (read-value-at t) read-value.Post
@@ -776,7 +720,7 @@ read-value-returns-11 t c =
     let a = c .before .before .before .before .before .before .before .before .before .before .before .before .before .before .args in
     let p = c .before .before .before .before .before .before .before .before .before .before .before .before .before .before .pre .1 in
     let s = c .before .before .before .before .before .before .before .before .t2 .given .0 .0 in
-    let q = claimed-next (a .s) s (c .before .before .before .before .before .before .before .before .t2 .given .1) (c .before .before .before .before .before .before .before .before .before .before .claim .ensures .0) (c .before .before .before .before .before .before .before .before .before .before .claim .ensures .1) in
+    let q = claimed-row t (c .before .before .before .before .before .before .before .before) in
     let g = c .before .u2 .given in
     arm-case-stopped (a .grammar .now) (a .node) (a .bytes .now) (a .rows .now) (a .s) s (p .0) (p .1) q (c .before .before .before .before .word2 .result) (g .0 .0) (g .0 .1 .0) (c .before .before .before .before .before .match2 .keys9) (c .before .before .before .before .word2 .ensures .0) (taken-stopped (g .0 .0) (g .0 .1 .0) (g .1) (c .before .before .before .take-below2 .ensures .0)) (rw (g .1) at (c .before .before .before .take-below2 .ensures .1))
 
@@ -788,7 +732,7 @@ read-value-returns-12 t c =
     let a = c .before .before .before .before .before .before .before .before .before .before .before .before .before .before .before .before .before .before .before .before .before .before .before .args in
     let p = c .before .before .before .before .before .before .before .before .before .before .before .before .before .before .before .before .before .before .before .before .before .before .before .pre .1 in
     let s = c .before .before .before .before .before .before .before .before .before .before .before .before .before .before .before .before .before .t2 .given .0 .0 in
-    let q = claimed-next (a .s) s (c .before .before .before .before .before .before .before .before .before .before .before .before .before .before .before .before .before .t2 .given .1) (c .before .before .before .before .before .before .before .before .before .before .before .before .before .before .before .before .before .before .before .claim .ensures .0) (c .before .before .before .before .before .before .before .before .before .before .before .before .before .before .before .before .before .before .before .claim .ensures .1) in
+    let q = claimed-row t (c .before .before .before .before .before .before .before .before .before .before .before .before .before .before .before .before .before) in
     let g = c .before .before .before .before .before .before .before .before .before .before .tag .given in
     arm-case (a .grammar .now) (a .node) (a .bytes .now) (a .rows .now) (a .s) s (p .0) (p .1) q (c .before .before .before .before .before .before .before .before .child-at2 .result) (g .0 .0) (c .before .before .before .before .before .before .before .before .before .before .before .before .before .word2 .result) (g .0 .1 .0) (c .before .before .before .before .before .before .before .before .before .before .before .before .before .before .match2 .keys9) (c .before .before .before .before .before .before .before .before .before .before .before .before .before .word2 .ensures .0) (c .before .before .before .before .before .before .before .before .child-at2 .ensures .0) (taken-number (g .0 .0) (g .0 .1 .0) (g .1) (c .before .before .before .before .before .before .before .before .before .before .before .before .take-below2 .ensures .0)) (rw (g .1) at (c .before .before .before .before .before .before .before .before .before .before .before .before .take-below2 .ensures .1)) (c .before .before .before .before .before .before .read-value .ensures) (c .before .before .close-row3 .ensures .0) (c .before .before .close-row3 .ensures .1)
 
@@ -850,36 +794,7 @@ pub +read-array-contents+read-tuple-contents+read-value-spec : {M : Type 1} → 
     (read-tuple-contents-loop-again t)
     (read-tuple-contents-same-length-2 t)
     (read-tuple-contents-returns-2 t))
-    λ t. read-value-lts.spec (
-      claim-reads.Asked,
-      claim-reads.Learnt,
-      read-constant-reads.Asked,
-      read-constant-reads.Learnt,
-      take4-reads.Asked,
-      take4-reads.Learnt,
-      read-number-reads.Asked,
-      read-number-reads.Learnt,
-      take8-reads.Asked,
-      take8-reads.Learnt,
-      take-below-reads.Asked,
-      take-below-reads.Learnt,
-      child-at-reads.Asked,
-      child-at-reads.Learnt,
-      read-array-contents-below t,
-      read-array-contents.Post,
-      close-row-reads.Asked,
-      close-row-reads.Learnt,
-      read-tuple-contents-below t,
-      read-tuple-contents.Post,
-      word-reads.Asked,
-      word-reads.Learnt,
-      read-elements-reads.Asked,
-      read-elements-reads.Learnt,
-      read-value-below t,
-      read-value.Post,
-      at-word-reads.Asked,
-      at-word-reads.Learnt,
-    )
+    λ t. read-value-lts.spec (read-value-calls t)
     (read-value-at t)
     read-value.Post
     (read-value-claim-requires t)

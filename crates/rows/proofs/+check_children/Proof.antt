@@ -10,7 +10,7 @@ use Rattle.refusal.specs.Meaning.{outcomeOf}
 use Rattle.rows.specs.Row.{rowAt}
 use Rattle.rows.specs.Walk.{checkRow, walkRow}
 use Rattle.rows.proofs.Laws.{ends, Passed, row-passed, childrenOf, row-refused, row-accepted, child-missing, child-refused, child-accepted, children-done}
-use Rattle.rows.proofs.Meaning.{children, no-children}
+use Rattle.rows.proofs.Meaning.{children, wanted-refused}
 use borrow.Author.Needs.{needs}
 use borrow.Fn.Kinds.{In}
 use borrow.Fn.PlainCycle.{Measures, is, falls, and}
@@ -68,7 +68,7 @@ returns-2 t c =
     let a = c .before .before .before .before .before .before .before .before .before .args in
     let l = c .before .before .before .before .before .before .loop in
     child-refused (a .rows .now) (a .store .now) (a .parent) (a .end) (l .left) (l .i) (c .before .before .before .before .before .loop-test .taken) (c .before .before .before .before .if1 .left)
-    (row-refused (a .rows .now) (a .store .now) (a .end) (l .i) (c .before .before .before .before .if1 .left) (no-children (c .before .r .given .1) (c .before .before .before .check-row .ensures))) ∙ l .inv .2
+    (row-refused (a .rows .now) (a .store .now) (a .end) (l .i) (c .before .before .before .before .if1 .left) (wanted-refused (c .before .r .given .1) (c .before .before .before .check-row .ensures))) ∙ l .inv .2
 
 enum-known-inner : (t : ℕ) → lts.Need-enum-known-inner (calls t) (here t) check-children.Post Inv-loop μ-loop
 enum-known-inner t c = search needs

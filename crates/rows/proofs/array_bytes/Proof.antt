@@ -5,7 +5,7 @@ use native.Mathlib.Omega.{arith}
 use lib.ListN.{length, take, drop}
 use Rattle.refusal.specs.Outcome.{accepted}
 use Rattle.rows.specs.Locate.{Part, locateArray, given}
-use Rattle.rows.proofs.Meaning.{at, nowhere}
+use Rattle.rows.proofs.Meaning.{at, located-refused}
 use Rattle.rows.proofs.Calls.{locate-within}
 use borrow.Author.Needs.{needs}
 use Rattle.rows.proofs.array_bytes.Statement.{statement}
@@ -53,7 +53,7 @@ part-result-end-2 c = omega (arith, inside c)
 returns : tie.Need-returns
 returns c =
     let s = c .before .before .before .before .before .before .args .store .now in
-    let e = ap given (nowhere (c .before .enum-told .given .1) (c .before .before .before .locate-array .ensures)) in
+    let e = ap given (located-refused (c .before .enum-told .given .1) (c .before .before .before .locate-array .ensures)) in
     record { bytes = ap (λ (p : Part). take (p .size) (drop (p .start) s)) e; block = refl; offset = omega (arith, ap (λ (p : Part). p .start) e) }
 
 returns-2 : tie.Need-returns-2

@@ -9,7 +9,7 @@ use Rattle.refusal.specs.Outcome.{refused}
 use Rattle.rows.specs.Row.{rowWidth, rowAt}
 use Rattle.rows.specs.Walk.{countHolds}
 use Rattle.rows.proofs.Laws.{ends, childrenOf, row-refused, row-accepted, reflects-rows, store-long, rows-missing, root-short, root-walk}
-use Rattle.rows.proofs.Meaning.{children, no-children}
+use Rattle.rows.proofs.Meaning.{children, wanted-refused}
 use borrow.Author.Needs.{needs}
 use Rattle.rows.proofs.check_rows.Statement.{statement}
 use Rattle.rows.proofs.check_rows.Tie as tie
@@ -67,7 +67,7 @@ returns-4 : tie.Need-returns-4
 returns-4 c =
     let a = c .before .before .before .before .before .before .before .before .before .before .before .args in
     let d = c .before .before .before .before .before .before in
-    row-refused (a .rows .now) (a .store .now) (a .n) 0 (there d .0) (no-children (c .before .r .given .1) (c .before .before .before .check-row .ensures))
+    row-refused (a .rows .now) (a .store .now) (a .n) 0 (there d .0) (wanted-refused (c .before .r .given .1) (c .before .before .before .check-row .ensures))
     ∙ root-walk (a .rows .now) (a .n) (a .store .now) (c .before .before .before .before .before .before .before .before .if1 .left) (counted d) (sym (c .before .before .before .before .before .span-at .ensures) ∙ c .before .before .before .before .if3 .left)
 
 returns-5 : tie.Need-returns-5
