@@ -169,10 +169,13 @@ fn close_row(rows: &mut [u64], row: usize, kind: u64, word2: u64, children: Step
     requires { ⌜ (row < 4096) × RowRoom row (now rows) × Counted row children ⌝ }
     ensures { λ r. ⌜ (r ≡ children) × (now (rows .exit) ≡ closed row kind word2 children (now (rows .entry))) ⌝ }
 {
-    if let Step::Next(u) = children {
-        put_row(rows, row, kind, (u.begun - row) as u64, word2, 0);
+    match children {
+        Step::Stopped(u, r) => Step::Stopped(u, r),
+        Step::Next(u) => {
+            put_row(rows, row, kind, (u.begun - row) as u64, word2, 0);
+            Step::Next(u)
+        }
     }
-    children
 }
 
 // A number that was taken, with its row.
@@ -307,7 +310,13 @@ fn read_array_contents(
     while i < count {
         match read_value(grammar, child, bytes, rows, t) {
             Step::Stopped(u, r) => return Step::Stopped(u, r),
-            Step::Next(u) => t = u,
+            Step::Next(u) => {
+                t = State {
+                    at: u.at,
+                    begun: u.begun,
+                    capacity: u.capacity,
+                };
+            }
         }
         i += 1;
     }
@@ -332,7 +341,13 @@ fn read_tuple_contents(
         let child = child_at(grammar, node, i);
         match read_value(grammar, child, bytes, rows, t) {
             Step::Stopped(u, r) => return Step::Stopped(u, r),
-            Step::Next(u) => t = u,
+            Step::Next(u) => {
+                t = State {
+                    at: u.at,
+                    begun: u.begun,
+                    capacity: u.capacity,
+                };
+            }
         }
         i += 1;
     }
