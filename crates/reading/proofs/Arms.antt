@@ -8,11 +8,11 @@ use native.Mathlib.Numerals.{add-one}
 use native.Mathlib.Omega.{arith}
 use lib.ListN.{length}
 use lib.Dec.{ltb}
-use borrow.Author.Tests.{ltb-true}
+use borrow.Author.Tests.{ltb-true, lt-ltb}
 use Rattle.refusal.specs.Outcome.{Outcome, accepted, refused, bind, test}
 use Rattle.refusal.specs.Meaning.{reasonOf}
 use Rattle.refusal.specs.declared.Refusal.{Refusal}
-use Rattle.refusal.proofs.Outcome.{post-accepted}
+use Rattle.refusal.proofs.Outcome.{post-accepted, test-true}
 use Rattle.value.specs.Kinds.{Kind, Number, Elements, width, numberKind, elementWidth, elementsKind, kindOf, constant, number, array, tuple, elements as elementsClass, union}
 use Rattle.value.specs.Tree.{G, Gs, GConstant, GNumber, GArray, GTuple, GNumberArray, GTaggedUnion, seqG, seqV, caseAt, Val, Vals, VConstant, VNumber, VArray, VTuple, VNumberArray, VCase, rowCount, rowCounts}
 use Rattle.value.specs.Step.{Step, yield, next, give, elements}
@@ -54,6 +54,21 @@ claimed-next s t e h k =
       free = ltb-true (s .begun) (s .capacity) (x .0);
       claimed = sym q;
     }
+
+-- the state before t claimed its row
+abbrev pub before : CodeState → ℕ → CodeState
+before t row = record { at = t .at; begun = row; capacity = t .capacity }
+
+module _ (t : CodeState) (row : ℕ) (b : t .begun ≡ row + 1) where
+  pub claimed-before : t .begun ≤ t .capacity → Claimed (before t row) t
+  unfolding claim
+  claimed-before h =
+      let l : row < t .capacity = omega arith in
+      let e : suc row ≡ t .begun = omega arith in
+      record { at = refl; begun = b; capacity = refl; free = l; claimed = test-true _ _ (lt-ltb row (t .capacity) l) ∙ ap (λ (i : ℕ). accepted (record { at = t .at; begun = i })) e }
+
+  pub ready-before : {d rows : List ℕ} → Ready d rows t → Ready d rows (before t row)
+  ready-before r = record { inside = r .inside; short = r .short; few = omega (arith, r .few); most = r .most; room = r .room; byteValues = r .byteValues }
 
 -- a claim that was refused
 pub claim-refused : (d : List ℕ) {entry exit : List ℕ} (g : G) (s t : CodeState) (f : Refusal) {r : CodeStep} → r ≡ Stopped t f → stepOf r ≡ claim (s .capacity) (stateOf s) → StepKeeps (s .capacity) r → Reads rowsOf (readVal (s .capacity) d g (stateOf s)) (s .capacity) (s .begun) (s .at) entry (Stopped t f) exit
@@ -113,6 +128,16 @@ module _ (g : List ℕ) (node : ℕ) (d entry : List ℕ) (s t : CodeState) (n :
 
   whole : {x : Reading Val} {r : CodeStep} {exit : List ℕ} → readVal (s .capacity) d (treeOf g node) (stateOf s) ≡ x → Reads rowsOf x (s .capacity) (s .begun) (s .at) entry r exit → Reads rowsOf (readVal (s .capacity) d (treeOf g node) (stateOf s)) (s .capacity) (s .begun) (s .at) entry r exit
   whole e h = rw e h
+
+  -- what read the body has read the node, and the other way round
+  pub arm-body : {r : CodeStep} {exit : List ℕ} → Reads rowsOf (readBody (t .capacity) d (treeOf g node) (stateOf t)) (t .capacity) (s .begun) (t .at) entry r exit → Reads rowsOf (readVal (s .capacity) d (treeOf g node) (stateOf s)) (s .capacity) (s .begun) (s .at) entry r exit
+  arm-body {r} {exit} h =
+      whole (body (treeOf g node) refl)
+      (subst (λ (p : ℕ). Reads rowsOf (readBody (s .capacity) d (treeOf g node) (stateOf t)) (s .capacity) (s .begun) p entry r exit) (c .at)
+      (subst (λ (m : ℕ). Reads rowsOf (readBody m d (treeOf g node) (stateOf t)) m (s .begun) (t .at) entry r exit) (c .capacity) h))
+
+  pub body-arm : {r : CodeStep} {exit : List ℕ} → Reads rowsOf (readVal (s .capacity) d (treeOf g node) (stateOf s)) (s .capacity) (s .begun) (s .at) entry r exit → Reads rowsOf (readBody (s .capacity) d (treeOf g node) (stateOf t)) (s .capacity) (s .begun) (s .at) entry r exit
+  body-arm h = rw (body (treeOf g node) refl) at h
 
   pub arm-constant : {r : CodeStep} {exit : List ℕ} → kindWord g node ≡ 0 → r ≡ Next t → exit ≡ laid entry (s .begun) (0 ∷ 1 ∷ 0 ∷ 0 ∷ []) → Reads rowsOf (readVal (s .capacity) d (treeOf g node) (stateOf s)) (s .capacity) (s .begun) (s .at) entry r exit
   unfolding readBody nodeTree rowsOf ownRow rowCount

@@ -8,9 +8,9 @@ ghost use Rattle.refusal.specs.Outcome.{accepted, test, reason, byte, map};
 ghost use Rattle.refusal.specs.Meaning.{outcomeOf};
 ghost use Rattle.value.specs.Kinds.{Number, numberKind, Elements, elementsKind, elementWidth};
 ghost use Rattle.value.specs.Tree.{VNumber, VNumberArray};
-ghost use Rattle.value.specs.Reading.{claim as claimOf, takeNumber, takeNumbers, move, start, readVal, readFields};
+ghost use Rattle.value.specs.Reading.{claim as claimOf, takeNumber, takeNumbers, move, start, readBody, readVal, readFields};
 ghost use Rattle.value.specs.Step.{give, elements};
-ghost use Rattle.grammar.specs.Table.{nodeCount, firstWord, countWord, childWord};
+ghost use Rattle.grammar.specs.Table.{nodeCount, kindWord, firstWord, countWord, childWord};
 ghost use Rattle.grammar.specs.Tree.{treeOf, childTrees};
 ghost use Rattle.rows.specs.Layout.{rowsOf, rowsOfAll};
 ghost use Rattle.reading.specs.Meaning.{stateOf, stepOf, takenOf, bodyOf, StepKeeps, TakenKeeps, parsedOf};
@@ -273,22 +273,35 @@ fn read_value(grammar: &[u32], node: usize, bytes: &[u8], rows: &mut [u64], s: S
                 5 => read_elements(bytes, rows, row, 5, 1, t),
                 6 => read_elements(bytes, rows, row, 6, 4, t),
                 7 => read_elements(bytes, rows, row, 7, 8, t),
-                8 => {
-                    let limit = word(grammar, 3 + 3 * node) as u64;
-                    match t.take_below(bytes, limit, refusal::TAG_UNKNOWN) {
-                        Taken::Stopped(u, r) => Step::Stopped(u, r),
-                        Taken::Number(tag, u) => {
-                            let child = child_at(grammar, node, tag as usize);
-                            let read = read_value(grammar, child, bytes, rows, u);
-                            close_row(rows, row, 8, tag, read)
-                        }
-                    }
-                }
+                8 => read_case(grammar, node, bytes, rows, row, t),
                 9..=4294967295 => Step::Stopped(
                     t,
                     refusal::at_word(refusal::NODE_KIND, 1 + 3 * node),
                 ),
             }
+        }
+    }
+}
+
+// Kind 8: the tag, then the value of its case. A function by itself, so that the frame of `read_value` stays small.
+fn read_case(
+    grammar: &[u32],
+    node: usize,
+    bytes: &[u8],
+    rows: &mut [u64],
+    row: usize,
+    s: State,
+) -> Step
+    requires { ⌜ Node (now grammar) node × (kindWord (now grammar) node ≡ 8) × Ready (now bytes) (now rows) s × (s .begun ≡ row + 1) ⌝ }
+    ensures { λ r. ⌜ Reads rowsOf (readBody (s .capacity) (now (bytes .entry)) (treeOf (now (grammar .entry)) node) (stateOf s)) (s .capacity) row (s .at) (now (rows .entry)) r (now (rows .exit)) ⌝ }
+{
+    let limit = word(grammar, 3 + 3 * node) as u64;
+    match s.take_below(bytes, limit, refusal::TAG_UNKNOWN) {
+        Taken::Stopped(u, r) => Step::Stopped(u, r),
+        Taken::Number(tag, u) => {
+            let child = child_at(grammar, node, tag as usize);
+            let read = read_value(grammar, child, bytes, rows, u);
+            close_row(rows, row, 8, tag, read)
         }
     }
 }

@@ -6,28 +6,32 @@ use native.Mathlib.Omega.{arith}
 use Rattle.refusal.proofs.Tests.{next-key}
 use Rattle.value.specs.Kinds.{uint32, uint64, bytes as byteElements, uint32s, uint64s}
 use Rattle.value.specs.Tree.{Gs}
-use Rattle.value.specs.Step.{both, elements}
+use Rattle.value.specs.Step.{yield, both, elements}
 use Rattle.value.specs.Reading.{readVal, readFields}
 use Rattle.grammar.specs.Table.{firstWord, countWord}
 use Rattle.grammar.specs.Tree.{treeOf, childTrees}
 use Rattle.grammar.proofs.Tree.{tree-valid}
 use Rattle.reading.specs.Meaning.{stateOf, TakenKeeps}
+use Rattle.reading.specs.Reads.{Ready, takeBelow}
 use Rattle.reading.proofs.Loop.{room-kept, Remaining, remaining-start, remaining-stopped, remaining-next, remaining-done, few-elements, few-fields, elements-next, elements-none, fields-next, fields-none}
 use Rattle.reading.proofs.Laws.{node-inside, taken-number, taken-stopped}
-use Rattle.reading.proofs.Arms.{Claimed, claimed-next, claim-refused, below-taken, own-row, ready-claimed, ready-below, row-room, array-count, counted-elements, counted-fields, counted-value, arm-constant, arm-number, arm-elements, arm-array-stopped, arm-case-stopped, arm-array, arm-tuple, arm-case}
+use Rattle.reading.proofs.Arms.{Claimed, before, claimed-next, claimed-before, ready-before, claim-refused, below-taken, own-row, ready-claimed, ready-below, row-room, array-count, counted-elements, counted-fields, counted-value, arm-constant, arm-number, arm-elements, arm-array-stopped, arm-case-stopped, arm-array, arm-tuple, arm-case, arm-body, body-arm}
 use borrow.Author.Needs.{needs}
 use Prim.Native.Nat.{ℕ, _<_}
 use borrow.Fn.Kinds.{In}
 use borrow.Fn.PlainCycle.{Measures, is, falls, and}
 use Rattle.reading.proofs.read_array_contents.Reads as read-array-contents
 use Rattle.reading.proofs.read_array_contents.Kinds as read-array-contents-kinds
-use Rattle.reading.proofs.+read_array_contents+read_tuple_contents+read_value.Lts-read_array_contents as read-array-contents-lts
+use Rattle.reading.proofs.+read_array_contents+read_case+read_tuple_contents+read_value.Lts-read_array_contents as read-array-contents-lts
+use Rattle.reading.proofs.read_case.Reads as read-case
+use Rattle.reading.proofs.read_case.Kinds as read-case-kinds
+use Rattle.reading.proofs.+read_array_contents+read_case+read_tuple_contents+read_value.Lts-read_case as read-case-lts
 use Rattle.reading.proofs.read_tuple_contents.Reads as read-tuple-contents
 use Rattle.reading.proofs.read_tuple_contents.Kinds as read-tuple-contents-kinds
-use Rattle.reading.proofs.+read_array_contents+read_tuple_contents+read_value.Lts-read_tuple_contents as read-tuple-contents-lts
+use Rattle.reading.proofs.+read_array_contents+read_case+read_tuple_contents+read_value.Lts-read_tuple_contents as read-tuple-contents-lts
 use Rattle.reading.proofs.read_value.Reads as read-value
 use Rattle.reading.proofs.read_value.Kinds as read-value-kinds
-use Rattle.reading.proofs.+read_array_contents+read_tuple_contents+read_value.Lts-read_value as read-value-lts
+use Rattle.reading.proofs.+read_array_contents+read_case+read_tuple_contents+read_value.Lts-read_value as read-value-lts
 use Rattle.reading.proofs.State.claim.Reads as claim-reads
 use Rattle.reading.proofs.State.take4.Reads as take4-reads
 use Rattle.reading.proofs.State.take8.Reads as take8-reads
@@ -39,11 +43,14 @@ use Rattle.reading.proofs.read_elements.Reads as read-elements-reads
 use Rattle.reading.proofs.read_number.Reads as read-number-reads
 use Rattle.reading.proofs.word.Reads as word-reads
 use Rattle.refusal.proofs.at_word.Reads as at-word-reads
-use Rattle.reading.proofs.+read_array_contents+read_tuple_contents+read_value.{statement}
-use Rattle.reading.proofs.+read_array_contents+read_tuple_contents+read_value.Tie.{close}
+use Rattle.reading.proofs.+read_array_contents+read_case+read_tuple_contents+read_value.{statement}
+use Rattle.reading.proofs.+read_array_contents+read_case+read_tuple_contents+read_value.Tie.{close}
 
 abbrev μ-read-array-contents : Measures 3 read-array-contents-kinds.ps ℕ
 μ-read-array-contents κs a = 2 * (a .1 .1 .1 .1 .1 .0 .capacity - a .1 .1 .1 .1 .1 .0 .begun) + 1
+
+abbrev μ-read-case : Measures 3 read-case-kinds.ps ℕ
+μ-read-case κs a = 2 * (a .1 .1 .1 .1 .1 .0 .capacity - a .1 .1 .1 .1 .1 .0 .begun) + 1
 
 abbrev μ-read-tuple-contents : Measures 3 read-tuple-contents-kinds.ps ℕ
 μ-read-tuple-contents κs a = 2 * (a .1 .1 .1 .1 .0 .capacity - a .1 .1 .1 .1 .0 .begun) + 1
@@ -66,6 +73,13 @@ read-array-contents-below t =
     read-array-contents-kinds.ps
     (falls 3 read-array-contents-kinds.ps _<_ μ-read-array-contents t)
     read-array-contents.Pre
+
+abbrev read-case-at : ℕ → In 3 read-case-kinds.ps
+read-case-at t = and 3 read-case-kinds.ps (is 3 read-case-kinds.ps μ-read-case t) read-case.Pre
+
+abbrev read-case-below : ℕ → In 3 read-case-kinds.ps
+read-case-below t =
+    and 3 read-case-kinds.ps (falls 3 read-case-kinds.ps _<_ μ-read-case t) read-case.Pre
 
 abbrev read-tuple-contents-at : ℕ → In 3 read-tuple-contents-kinds.ps
 read-tuple-contents-at t =
@@ -94,11 +108,14 @@ read-value-below t =
 abbrev read-array-contents-calls : ℕ → read-array-contents-lts.Claims
 read-array-contents-calls t = (read-value-below t, read-value.Post)
 
+abbrev read-case-calls : ℕ → read-case-lts.Claims
+read-case-calls t = (word-reads.Asked, word-reads.Learnt, take-below-reads.Asked, take-below-reads.Learnt, child-at-reads.Asked, child-at-reads.Learnt, read-value-below t, read-value.Post, close-row-reads.Asked, close-row-reads.Learnt)
+
 abbrev read-tuple-contents-calls : ℕ → read-tuple-contents-lts.Claims
 read-tuple-contents-calls t = (word-reads.Asked, word-reads.Learnt, child-at-reads.Asked, child-at-reads.Learnt, read-value-below t, read-value.Post)
 
 abbrev read-value-calls : ℕ → read-value-lts.Claims
-read-value-calls t = (claim-reads.Asked, claim-reads.Learnt, read-constant-reads.Asked, read-constant-reads.Learnt, take4-reads.Asked, take4-reads.Learnt, read-number-reads.Asked, read-number-reads.Learnt, take8-reads.Asked, take8-reads.Learnt, take-below-reads.Asked, take-below-reads.Learnt, child-at-reads.Asked, child-at-reads.Learnt, read-array-contents-below t, read-array-contents.Post, close-row-reads.Asked, close-row-reads.Learnt, read-tuple-contents-below t, read-tuple-contents.Post, word-reads.Asked, word-reads.Learnt, read-elements-reads.Asked, read-elements-reads.Learnt, read-value-below t, read-value.Post, at-word-reads.Asked, at-word-reads.Learnt)
+read-value-calls t = (claim-reads.Asked, claim-reads.Learnt, read-constant-reads.Asked, read-constant-reads.Learnt, take4-reads.Asked, take4-reads.Learnt, read-number-reads.Asked, read-number-reads.Learnt, take8-reads.Asked, take8-reads.Learnt, take-below-reads.Asked, take-below-reads.Learnt, child-at-reads.Asked, child-at-reads.Learnt, read-array-contents-below t, read-array-contents.Post, close-row-reads.Asked, close-row-reads.Learnt, read-tuple-contents-below t, read-tuple-contents.Post, word-reads.Asked, word-reads.Learnt, read-elements-reads.Asked, read-elements-reads.Learnt, read-case-below t, read-case.Post, at-word-reads.Asked, at-word-reads.Learnt)
 
 abbrev read-array-contents-Inv-loop : read-array-contents-lts.InvT-loop
 read-array-contents-Inv-loop grammar child bytes rows₀ count t₀ i₀ rows t i = (i ≤ count) × Remaining bytes rows₀ t₀ (elements count (readVal (t₀ .capacity) bytes (treeOf grammar child)) (stateOf t₀)) rows t (elements (count - i) (readVal (t₀ .capacity) bytes (treeOf grammar child)) (stateOf t))
@@ -208,6 +225,87 @@ read-array-contents-returns-2 t c =
     let a = c .before .before .before .before .before .args in
     let l = c .before .loop in
     remaining-done (l .inv .1) (elements-none (a .s .capacity) (a .bytes .now) (treeOf (a .grammar .now) (a .child)) (stateOf (l .t)) (a .count) (l .i) (c .loop-test .left))
+
+-- the row of the case was claimed before, and what its tag says of the state behind it
+case-claimed : (t : ℕ) (c : read-case-lts.After-tag (read-case-calls t) (read-case-at t) read-case.Post) → Claimed (before (c .before .before .before .before .before .before .before .args .s) (c .before .before .before .before .before .before .before .args .row)) (c .before .before .before .before .before .before .before .args .s)
+case-claimed t c =
+    let a = c .before .before .before .before .before .before .before .args in
+    let p = c .before .before .before .before .before .before .before .pre .1 in
+    claimed-before (a .s) (a .row) (p .3) (p .2 .few)
+
+tag-taken : (t : ℕ) (c : read-case-lts.After-tag (read-case-calls t) (read-case-at t) read-case.Post) → yield (c .tag .given .0 .0) (stateOf (c .tag .given .0 .1 .0)) ≡ takeBelow (c .before .before .before .before .before .before .before .args .bytes .now) (c .before .before .before .word .result) 10 (stateOf (c .before .before .before .before .before .before .before .args .s))
+tag-taken t c = taken-number (c .tag .given .0 .0) (c .tag .given .0 .1 .0) (c .tag .given .1) (c .before .before .take-below .ensures .0)
+
+tag-behind : (t : ℕ) (c : read-case-lts.After-tag (read-case-calls t) (read-case-at t) read-case.Post) → (c .tag .given .0 .1 .0 .begun ≡ c .before .before .before .before .before .before .before .args .s .begun) × (c .tag .given .0 .0 < c .before .before .before .word .result)
+tag-behind t c =
+    let y = below-taken (c .before .before .before .before .before .before .before .args .bytes .now) (c .before .before .before .word .result) 10 (stateOf (c .before .before .before .before .before .before .before .args .s)) (c .tag .given .0 .0) (c .tag .given .0 .1 .0) (tag-taken t c) in
+    (y .1, y .2)
+
+tag-ready : (t : ℕ) (c : read-case-lts.After-tag (read-case-calls t) (read-case-at t) read-case.Post) → Ready (c .before .before .before .before .before .before .before .args .bytes .now) (c .before .before .before .before .before .before .before .args .rows .now) (c .tag .given .0 .1 .0)
+tag-ready t c =
+    let a = c .before .before .before .before .before .before .before .args in
+    let p = c .before .before .before .before .before .before .before .pre .1 in
+    ready-below (p .0) (ready-before (a .s) (a .row) (p .3) (p .2)) (case-claimed t c) (c .before .before .before .word .result) 10 (c .tag .given .0 .0) (c .tag .given .0 .1 .0) (tag-taken t c) (rw (c .tag .given .1) at (c .before .before .take-below .ensures .1))
+
+read-case-mul-word : (t : ℕ) → read-case-lts.Need-mul-word (read-case-calls t) (read-case-at t) read-case.Post
+read-case-mul-word t c = search needs
+
+read-case-add-word : (t : ℕ) → read-case-lts.Need-add-word (read-case-calls t) (read-case-at t) read-case.Post
+read-case-add-word t c = search needs
+
+read-case-word-requires : (t : ℕ) → read-case-lts.Need-word-requires (read-case-calls t) (read-case-at t) read-case.Post
+read-case-word-requires t c κs = search needs
+
+read-case-take-below-requires : (t : ℕ) → read-case-lts.Need-take-below-requires (read-case-calls t) (read-case-at t) read-case.Post
+read-case-take-below-requires t c κs = search needs
+
+read-case-enum-known-u : (t : ℕ) → read-case-lts.Need-enum-known-u (read-case-calls t) (read-case-at t) read-case.Post
+read-case-enum-known-u t c = search needs
+
+read-case-enum-known-tag : (t : ℕ) → read-case-lts.Need-enum-known-tag (read-case-calls t) (read-case-at t) read-case.Post
+read-case-enum-known-tag t c = search needs
+
+read-case-child-at-requires : (t : ℕ) → read-case-lts.Need-child-at-requires (read-case-calls t) (read-case-at t) read-case.Post
+read-case-child-at-requires t c κs = (c .before .before .before .before .before .before .before .before .pre .1 .0, omega (arith, tag-behind t (c .before) .1, c .before .before .before .before .word .ensures .0))
+
+read-case-read-value-requires : (t : ℕ) → read-case-lts.Need-read-value-requires (read-case-calls t) (read-case-at t) read-case.Post
+read-case-read-value-requires t c κs =
+    let p = c .before .before .before .before .before .before .before .before .before .before .pre in
+    let k = rw (c .before .before .before .tag .given .1) at (c .before .before .before .before .before .take-below .ensures .1) in
+    (omega (arith, p .0, tag-behind t (c .before .before .before) .0, k), (record { passes = p .1 .0 .passes; below = c .before .child-at .ensures .1; words = p .1 .0 .words }, tag-ready t (c .before .before .before)))
+
+read-case-close-row-requires : (t : ℕ) → read-case-lts.Need-close-row-requires (read-case-calls t) (read-case-at t) read-case.Post
+read-case-close-row-requires t c κs =
+    let a = c .before .before .before .before .before .before .before .before .before .before .before .before .before .before .args in
+    let p = c .before .before .before .before .before .before .before .before .before .before .before .before .before .before .pre .1 in
+    let q = case-claimed t (c .before .before .before .before .before .before .before) in
+    let o = own-row (p .0) (ready-before (a .s) (a .row) (p .3) (p .2)) q in
+    let l = c .before .before .before .read-value .kept .1 .1 .1 .0 in
+    (o .0, row-room (a .s .capacity) (a .row) _ (room-kept (a .s .capacity) (a .rows .now) _ l (p .2 .room)) (q .free), counted-value (c .before .before .before .before .before .before .before .tag .given .0 .1 .0) (treeOf (a .grammar .now) (c .before .before .before .before .before .child-at .result)) (c .before .before .before .read-value .result) (tag-ready t (c .before .before .before .before .before .before .before)) (omega (arith, tag-behind t (c .before .before .before .before .before .before .before) .0, p .3)) (c .before .before .before .read-value .ensures))
+
+read-case-returns : (t : ℕ) → read-case-lts.Need-returns (read-case-calls t) (read-case-at t) read-case.Post
+read-case-returns t c =
+    let a = c .before .before .before .before .before .before .before .before .args in
+    let p = c .before .before .before .before .before .before .before .before .pre .1 in
+    let g = c .before .u .given in
+    let r = ready-before (a .s) (a .row) (p .3) (p .2) in
+    let q = claimed-before (a .s) (a .row) (p .3) (p .2 .few) in
+    body-arm (a .grammar .now) (a .node) (a .bytes .now) (a .rows .now) (before (a .s) (a .row)) (a .s) (p .0) r q
+    (arm-case-stopped (a .grammar .now) (a .node) (a .bytes .now) (a .rows .now) (before (a .s) (a .row)) (a .s) (p .0) r q (c .before .before .before .before .word .result) (g .0 .0) (g .0 .1 .0) (p .1) (c .before .before .before .before .word .ensures .0) (taken-stopped (g .0 .0) (g .0 .1 .0) (g .1) (c .before .before .before .take-below .ensures .0)) (rw (g .1) at (c .before .before .before .take-below .ensures .1)))
+
+read-case-same-length : (t : ℕ) → read-case-lts.Need-same-length (read-case-calls t) (read-case-at t) read-case.Post
+read-case-same-length t c = search needs
+
+read-case-returns-2 : (t : ℕ) → read-case-lts.Need-returns-2 (read-case-calls t) (read-case-at t) read-case.Post
+read-case-returns-2 t c =
+    let a = c .before .before .before .before .before .before .before .before .before .before .before .before .before .before .before .before .before .args in
+    let p = c .before .before .before .before .before .before .before .before .before .before .before .before .before .before .before .before .before .pre .1 in
+    let g = c .before .before .before .before .before .before .before .before .before .before .tag .given in
+    let r = ready-before (a .s) (a .row) (p .3) (p .2) in
+    let q = case-claimed t (c .before .before .before .before .before .before .before .before .before .before) in
+    let n = c .before .before .before .before .before .before .before .before .before .before .before .before .before .word in
+    body-arm (a .grammar .now) (a .node) (a .bytes .now) (a .rows .now) (before (a .s) (a .row)) (a .s) (p .0) r q
+    (arm-case (a .grammar .now) (a .node) (a .bytes .now) (a .rows .now) (before (a .s) (a .row)) (a .s) (p .0) r q (c .before .before .before .before .before .before .before .before .child-at .result) (g .0 .0) (n .result) (g .0 .1 .0) (p .1) (n .ensures .0) (c .before .before .before .before .before .before .before .before .child-at .ensures .0) (tag-taken t (c .before .before .before .before .before .before .before .before .before .before)) (rw (g .1) at (c .before .before .before .before .before .before .before .before .before .before .before .before .take-below .ensures .1)) (c .before .before .before .before .before .before .read-value .ensures) (c .before .before .close-row .ensures .0) (c .before .before .close-row .ensures .1))
 
 abbrev read-tuple-contents-Inv-loop : read-tuple-contents-lts.InvT-loop
 read-tuple-contents-Inv-loop grammar node bytes rows₀ count t₀ i₀ rows t i = (i ≤ count) × (count ≡ countWord grammar node) × Remaining bytes rows₀ t₀ (readFields (t₀ .capacity) bytes (childTrees grammar (treeOf grammar) (firstWord grammar node) (countWord grammar node)) (stateOf t₀)) rows t (readFields (t₀ .capacity) bytes (childTrees grammar (treeOf grammar) (firstWord grammar node + i) (countWord grammar node - i)) (stateOf t))
@@ -544,63 +642,11 @@ read-value-read-elements-requires-3 t c κs =
     let r = ready-claimed (p .0) (p .1) q in
     (o .0, o .1, r .inside, r .short, omega arith, omega arith)
 
-read-value-mul-word-2 : (t : ℕ) → read-value-lts.Need-mul-word-2 (read-value-calls t) (read-value-at t) read-value.Post
-read-value-mul-word-2 t c = search needs
-
-read-value-add-word-2 : (t : ℕ) → read-value-lts.Need-add-word-2 (read-value-calls t) (read-value-at t) read-value.Post
-read-value-add-word-2 t c = search needs
-
-read-value-word-requires-2 : (t : ℕ) → read-value-lts.Need-word-requires-2 (read-value-calls t) (read-value-at t) read-value.Post
-read-value-word-requires-2 t c κs = search needs
-
-read-value-take-below-requires-2 : (t : ℕ) → read-value-lts.Need-take-below-requires-2 (read-value-calls t) (read-value-at t) read-value.Post
-read-value-take-below-requires-2 t c κs =
-    let a = c .before .before .before .before .before .before .before .before .before .before .args in
+read-value-read-case-requires : (t : ℕ) → read-value-lts.Need-read-case-requires (read-value-calls t) (read-value-at t) read-value.Post
+read-value-read-case-requires t c κs =
     let p = c .before .before .before .before .before .before .before .before .before .before .pre .1 in
     let q = claimed-row t (c .before .before .before .before) in
-    let r = ready-claimed (p .0) (p .1) q in
-    (r .inside, r .short)
-
-read-value-enum-known-u-2 : (t : ℕ) → read-value-lts.Need-enum-known-u-2 (read-value-calls t) (read-value-at t) read-value.Post
-read-value-enum-known-u-2 t c = search needs
-
-read-value-enum-known-tag : (t : ℕ) → read-value-lts.Need-enum-known-tag (read-value-calls t) (read-value-at t) read-value.Post
-read-value-enum-known-tag t c = search needs
-
-read-value-child-at-requires-2 : (t : ℕ) → read-value-lts.Need-child-at-requires-2 (read-value-calls t) (read-value-at t) read-value.Post
-read-value-child-at-requires-2 t c κs =
-    let a = c .before .before .before .before .before .before .before .before .before .before .before .before .before .before .args in
-    let p = c .before .before .before .before .before .before .before .before .before .before .before .before .before .before .pre .1 in
-    let g = c .before .tag .given in
-    let h = taken-number (g .0 .0) (g .0 .1 .0) (g .1) (c .before .before .before .take-below2 .ensures .0) in
-    let y = below-taken (a .bytes .now) (c .before .before .before .before .word2 .result) 10 (stateOf (c .before .before .before .before .before .before .before .before .t2 .given .0 .0)) (g .0 .0) (g .0 .1 .0) h in
-    (p .0, omega (arith, y .2, c .before .before .before .before .word2 .ensures .0))
-
-read-value-read-value-requires : (t : ℕ) → read-value-lts.Need-read-value-requires (read-value-calls t) (read-value-at t) read-value.Post
-read-value-read-value-requires t c κs =
-    let a = c .before .before .before .before .before .before .before .before .before .before .before .before .before .before .before .before .args in
-    let p = c .before .before .before .before .before .before .before .before .before .before .before .before .before .before .before .before .pre .1 in
-    let q = claimed-row t (c .before .before .before .before .before .before .before .before .before .before) in
-    let g = c .before .before .before .tag .given in
-    let h = taken-number (g .0 .0) (g .0 .1 .0) (g .1) (c .before .before .before .before .before .take-below2 .ensures .0) in
-    let m = rw (g .1) at (c .before .before .before .before .before .take-below2 .ensures .1) in
-    let y = below-taken (a .bytes .now) (c .before .before .before .before .before .before .word2 .result) 10 (stateOf (c .before .before .before .before .before .before .before .before .before .before .t2 .given .0 .0)) (g .0 .0) (g .0 .1 .0) h in
-    let r = ready-below (p .0) (p .1) q (c .before .before .before .before .before .before .word2 .result) 10 (g .0 .0) (g .0 .1 .0) h m in
-    (omega (arith, c .before .before .before .before .before .before .before .before .before .before .before .before .before .before .before .before .pre .0, y .1, m, q .begun, q .capacity, q .free), (record { passes = p .0 .passes; below = c .before .child-at2 .ensures .1; words = p .0 .words }, r))
-
-read-value-close-row-requires-3 : (t : ℕ) → read-value-lts.Need-close-row-requires-3 (read-value-calls t) (read-value-at t) read-value.Post
-read-value-close-row-requires-3 t c κs =
-    let a = c .before .before .before .before .before .before .before .before .before .before .before .before .before .before .before .before .before .before .before .before .args in
-    let p = c .before .before .before .before .before .before .before .before .before .before .before .before .before .before .before .before .before .before .before .before .pre .1 in
-    let q = claimed-row t (c .before .before .before .before .before .before .before .before .before .before .before .before .before .before) in
-    let g = c .before .before .before .before .before .before .before .tag .given in
-    let h = taken-number (g .0 .0) (g .0 .1 .0) (g .1) (c .before .before .before .before .before .before .before .before .before .take-below2 .ensures .0) in
-    let m = rw (g .1) at (c .before .before .before .before .before .before .before .before .before .take-below2 .ensures .1) in
-    let y = below-taken (a .bytes .now) (c .before .before .before .before .before .before .before .before .before .before .word2 .result) 10 (stateOf (c .before .before .before .before .before .before .before .before .before .before .before .before .before .before .t2 .given .0 .0)) (g .0 .0) (g .0 .1 .0) h in
-    let r = ready-below (p .0) (p .1) q (c .before .before .before .before .before .before .before .before .before .before .word2 .result) 10 (g .0 .0) (g .0 .1 .0) h m in
-    let o = own-row (p .0) (p .1) q in
-    let l = c .before .before .before .read-value .kept .1 .1 .1 .0 in
-    (o .0, row-room (a .s .capacity) (a .s .begun) _ (room-kept (a .s .capacity) (a .rows .now) _ l (p .1 .room)) (q .free), counted-value (g .0 .1 .0) (treeOf (a .grammar .now) (c .before .before .before .before .before .child-at2 .result)) (c .before .before .before .read-value .result) r (omega (arith, y .1, q .begun)) (c .before .before .before .read-value .ensures))
+    (omega (arith, c .before .before .before .before .before .before .before .before .before .before .pre .0, q .begun, q .capacity, q .free), (p .0, c .before .match2 .keys9, ready-claimed (p .0) (p .1) q, q .begun))
 
 read-value-mul-at-word : (t : ℕ) → read-value-lts.Need-mul-at-word (read-value-calls t) (read-value-at t) read-value.Post
 read-value-mul-at-word t c = search needs
@@ -715,39 +761,30 @@ read-value-returns-10 t c =
     let q = claimed-row t (c .before .before .before .before .before .before .before) in
     arm-elements (a .grammar .now) (a .node) (a .bytes .now) (a .rows .now) (a .s) s (p .0) (p .1) q uint64s (c .before .before .before .before .match2 .keys8) (c .before .before .read-elements3 .ensures uint64s refl refl)
 
-read-value-returns-11 : (t : ℕ) → read-value-lts.Need-returns-11 (read-value-calls t) (read-value-at t) read-value.Post
-read-value-returns-11 t c =
-    let a = c .before .before .before .before .before .before .before .before .before .before .before .before .before .before .args in
-    let p = c .before .before .before .before .before .before .before .before .before .before .before .before .before .before .pre .1 in
-    let s = c .before .before .before .before .before .before .before .before .t2 .given .0 .0 in
-    let q = claimed-row t (c .before .before .before .before .before .before .before .before) in
-    let g = c .before .u2 .given in
-    arm-case-stopped (a .grammar .now) (a .node) (a .bytes .now) (a .rows .now) (a .s) s (p .0) (p .1) q (c .before .before .before .before .word2 .result) (g .0 .0) (g .0 .1 .0) (c .before .before .before .before .before .match2 .keys9) (c .before .before .before .before .word2 .ensures .0) (taken-stopped (g .0 .0) (g .0 .1 .0) (g .1) (c .before .before .before .take-below2 .ensures .0)) (rw (g .1) at (c .before .before .before .take-below2 .ensures .1))
-
 read-value-same-length-9 : (t : ℕ) → read-value-lts.Need-same-length-9 (read-value-calls t) (read-value-at t) read-value.Post
 read-value-same-length-9 t c = search needs
 
+read-value-returns-11 : (t : ℕ) → read-value-lts.Need-returns-11 (read-value-calls t) (read-value-at t) read-value.Post
+read-value-returns-11 t c =
+    let a = c .before .before .before .before .before .before .before .before .before .before .before .before .before .args in
+    let p = c .before .before .before .before .before .before .before .before .before .before .before .before .before .pre .1 in
+    let s = c .before .before .before .before .before .before .before .t2 .given .0 .0 in
+    let q = claimed-row t (c .before .before .before .before .before .before .before) in
+    arm-body (a .grammar .now) (a .node) (a .bytes .now) (a .rows .now) (a .s) s (p .0) (p .1) q (c .before .before .read-case .ensures)
+
 read-value-returns-12 : (t : ℕ) → read-value-lts.Need-returns-12 (read-value-calls t) (read-value-at t) read-value.Post
 read-value-returns-12 t c =
-    let a = c .before .before .before .before .before .before .before .before .before .before .before .before .before .before .before .before .before .before .before .before .before .before .before .args in
-    let p = c .before .before .before .before .before .before .before .before .before .before .before .before .before .before .before .before .before .before .before .before .before .before .before .pre .1 in
-    let s = c .before .before .before .before .before .before .before .before .before .before .before .before .before .before .before .before .before .t2 .given .0 .0 in
-    let q = claimed-row t (c .before .before .before .before .before .before .before .before .before .before .before .before .before .before .before .before .before) in
-    let g = c .before .before .before .before .before .before .before .before .before .before .tag .given in
-    arm-case (a .grammar .now) (a .node) (a .bytes .now) (a .rows .now) (a .s) s (p .0) (p .1) q (c .before .before .before .before .before .before .before .before .child-at2 .result) (g .0 .0) (c .before .before .before .before .before .before .before .before .before .before .before .before .before .word2 .result) (g .0 .1 .0) (c .before .before .before .before .before .before .before .before .before .before .before .before .before .before .match2 .keys9) (c .before .before .before .before .before .before .before .before .before .before .before .before .before .word2 .ensures .0) (c .before .before .before .before .before .before .before .before .child-at2 .ensures .0) (taken-number (g .0 .0) (g .0 .1 .0) (g .1) (c .before .before .before .before .before .before .before .before .before .before .before .before .take-below2 .ensures .0)) (rw (g .1) at (c .before .before .before .before .before .before .before .before .before .before .before .before .take-below2 .ensures .1)) (c .before .before .before .before .before .before .read-value .ensures) (c .before .before .close-row3 .ensures .0) (c .before .before .close-row3 .ensures .1)
-
-read-value-returns-13 : (t : ℕ) → read-value-lts.Need-returns-13 (read-value-calls t) (read-value-at t) read-value.Post
-read-value-returns-13 t c =
     let a = c .before .before .before .before .before .before .before .before .before .before .args in
     let r = c .before .match2 .rest in
     let h = next-key (next-key (next-key (next-key (next-key (next-key (next-key (next-key (next-key zero-le (r .0 .0 .0 .0 .0 .0 .0 .0 .1)) (r .0 .0 .0 .0 .0 .0 .0 .1)) (r .0 .0 .0 .0 .0 .0 .1)) (r .0 .0 .0 .0 .0 .1)) (r .0 .0 .0 .0 .1)) (r .0 .0 .0 .1)) (r .0 .0 .1)) (r .0 .1)) (r .1) in
     let k = node-inside (a .grammar .now) (a .node) (c .before .before .before .before .before .before .before .before .before .before .pre .1 .0) .2 in
     absurd (omega arith)
 
-pub +read-array-contents+read-tuple-contents+read-value-spec : {M : Type 1} → statement M
-+read-array-contents+read-tuple-contents+read-value-spec =
+pub +read-array-contents+read-case+read-tuple-contents+read-value-spec : {M : Type 1} → statement M
++read-array-contents+read-case+read-tuple-contents+read-value-spec =
     close
     μ-read-array-contents
+    μ-read-case
     μ-read-tuple-contents
     μ-read-value
     (λ t. read-array-contents-lts.spec
@@ -767,6 +804,21 @@ pub +read-array-contents+read-tuple-contents+read-value-spec : {M : Type 1} → 
     (read-array-contents-loop-again t)
     (read-array-contents-same-length-2 t)
     (read-array-contents-returns-2 t))
+    (λ t. read-case-lts.spec (read-case-calls t)
+    (read-case-at t)
+    read-case.Post
+    (read-case-mul-word t)
+    (read-case-add-word t)
+    (read-case-word-requires t)
+    (read-case-take-below-requires t)
+    (read-case-enum-known-u t)
+    (read-case-enum-known-tag t)
+    (read-case-child-at-requires t)
+    (read-case-read-value-requires t)
+    (read-case-close-row-requires t)
+    (read-case-returns t)
+    (read-case-same-length t)
+    (read-case-returns-2 t))
     (λ t. read-tuple-contents-lts.spec (
       word-reads.Asked,
       word-reads.Learnt,
@@ -825,15 +877,7 @@ pub +read-array-contents+read-tuple-contents+read-value-spec : {M : Type 1} → 
     (read-value-read-elements-requires t)
     (read-value-read-elements-requires-2 t)
     (read-value-read-elements-requires-3 t)
-    (read-value-mul-word-2 t)
-    (read-value-add-word-2 t)
-    (read-value-word-requires-2 t)
-    (read-value-take-below-requires-2 t)
-    (read-value-enum-known-u-2 t)
-    (read-value-enum-known-tag t)
-    (read-value-child-at-requires-2 t)
-    (read-value-read-value-requires t)
-    (read-value-close-row-requires-3 t)
+    (read-value-read-case-requires t)
     (read-value-mul-at-word t)
     (read-value-add-at-word t)
     (read-value-at-word-requires t)
@@ -855,7 +899,6 @@ pub +read-array-contents+read-tuple-contents+read-value-spec : {M : Type 1} → 
     (read-value-returns-9 t)
     (read-value-same-length-8 t)
     (read-value-returns-10 t)
-    (read-value-returns-11 t)
     (read-value-same-length-9 t)
+    (read-value-returns-11 t)
     (read-value-returns-12 t)
-    (read-value-returns-13 t)
