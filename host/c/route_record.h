@@ -119,7 +119,7 @@ route_answer route_locate_array(const uint64_t *rows, size_t rows_len, size_t n,
  * an 8-byte count of elements and the elements; kind 4, its fields in order; kind 8, an 8-byte tag
  * and the value of that case. Each number is least byte first. A call reads a value of node 0 of
  * the grammar and gives in `first` its row count n, in `second` the first byte behind it. It uses
- * less than 128 KiB of stack, on grammars as deep as 256 nodes can be. */
+ * less than 64 KiB of stack, on grammars as deep as 256 nodes can be. */
 
 /* Reads from byte index on. The rows lent are rows_len divided by 4, rounded down, at most 4096;
  * none with rows_len 0. Changes only rows 0 to n - 1, which stand for the value, with the record as

@@ -8,11 +8,11 @@ use native.Mathlib.Numerals.{add-one}
 use native.Mathlib.Omega.{arith}
 use lib.ListN.{length}
 use lib.Dec.{ltb}
-use borrow.Author.Tests.{ltb-true, lt-ltb}
+use borrow.Author.Tests.{ltb-true}
 use Rattle.refusal.specs.Outcome.{Outcome, accepted, refused, bind, test}
 use Rattle.refusal.specs.Meaning.{reasonOf}
 use Rattle.refusal.specs.declared.Refusal.{Refusal}
-use Rattle.refusal.proofs.Outcome.{post-accepted, test-true}
+use Rattle.refusal.proofs.Outcome.{post-accepted}
 use Rattle.value.specs.Kinds.{Kind, Number, Elements, width, numberKind, elementWidth, elementsKind, kindOf, constant, number, array, tuple, elements as elementsClass, union}
 use Rattle.value.specs.Tree.{G, Gs, GConstant, GNumber, GArray, GTuple, GNumberArray, GTaggedUnion, seqG, seqV, caseAt, Val, Vals, VConstant, VNumber, VArray, VTuple, VNumberArray, VCase, rowCount, rowCounts}
 use Rattle.value.specs.Step.{Step, yield, next, give, elements}
@@ -30,8 +30,9 @@ use Rattle.reading.specs.declared.State.{State as CodeState}
 use Rattle.reading.specs.declared.Step.{Step as CodeStep}
 use Rattle.reading.specs.declared.Step.the-variants.{Next, Stopped}
 use Rattle.reading.specs.Meaning.{stateOf, stepOf, StepKeeps}
-use Rattle.reading.specs.Reads.{laid, Room, RowRoom, Ready, Node, Reads, closed, Counted, takeBelow}
+use Rattle.reading.specs.Reads.{laid, Room, RowRoom, Ready, Node, Parent, Reads, closed, Counted, takeBelow}
 use Rattle.reading.proofs.Laws.{take-moves, test-accepted, reads-stopped, reads-next, node-inside}
+use Rattle.reading.proofs.Loop.{room-kept}
 use Rattle.reading.proofs.Cycle.{went-on, reads-close, array-body, case-body}
 
 -- the row of the value that starts at s is claimed, and t is the state behind it
@@ -55,21 +56,6 @@ claimed-next s t e h k =
       claimed = sym q;
     }
 
--- the state before t claimed its row
-abbrev pub before : CodeState → ℕ → CodeState
-before t row = record { at = t .at; begun = row; capacity = t .capacity }
-
-module _ (t : CodeState) (row : ℕ) (b : t .begun ≡ row + 1) where
-  pub claimed-before : t .begun ≤ t .capacity → Claimed (before t row) t
-  unfolding claim
-  claimed-before h =
-      let l : row < t .capacity = omega arith in
-      let e : suc row ≡ t .begun = omega arith in
-      record { at = refl; begun = b; capacity = refl; free = l; claimed = test-true _ _ (lt-ltb row (t .capacity) l) ∙ ap (λ (i : ℕ). accepted (record { at = t .at; begun = i })) e }
-
-  pub ready-before : {d rows : List ℕ} → Ready d rows t → Ready d rows (before t row)
-  ready-before r = record { inside = r .inside; short = r .short; few = omega (arith, r .few); most = r .most; room = r .room; byteValues = r .byteValues }
-
 -- a claim that was refused
 pub claim-refused : (d : List ℕ) {entry exit : List ℕ} (g : G) (s t : CodeState) (f : Refusal) {r : CodeStep} → r ≡ Stopped t f → stepOf r ≡ claim (s .capacity) (stateOf s) → StepKeeps (s .capacity) r → Reads rowsOf (readVal (s .capacity) d g (stateOf s)) (s .capacity) (s .begun) (s .at) entry (Stopped t f) exit
 claim-refused d g s t f e h k = reads-stopped t f (ap (λ (x : Outcome Stop State). bind x (readBody (s .capacity) d g)) (ap stepOf (sym e) ∙ h)) (rw e at k)
@@ -88,19 +74,19 @@ below-taken d limit code s n u h = go (takeNumber d 8 s) refl h
         let w : stateOf u ≡ move 8 s = ap (λ (w : Step State ℕ). w .state) (x .1) ∙ m .0 in
         (ap (λ (y : State). y .at) w, ap (λ (y : State). y .begun) w, subst (λ (i : ℕ). i < limit) (sym v) (ltb-true (t .value) limit (x .0)), m .1)
 
--- a parent's row before its children's, where `begun` counts them all
-module _ (row begun word2 p : ℕ) where
-  own-array : (vs : Vals) → begun ≡ row + 1 + rowCounts vs → length (seqV vs) ≡ word2 → rowsOf (VArray vs) p ≡ (3 ∷ (begun - row) ∷ word2 ∷ 0 ∷ []) ++ rowsOfAll vs (p + 8)
+-- a parent's row before its children's
+module _ (span word2 p : ℕ) where
+  own-array : (vs : Vals) → span ≡ 1 + rowCounts vs → length (seqV vs) ≡ word2 → rowsOf (VArray vs) p ≡ (3 ∷ span ∷ word2 ∷ 0 ∷ []) ++ rowsOfAll vs (p + 8)
   unfolding rowsOf ownRow rowCount
-  own-array vs b l = let z : begun - row ≡ 1 + rowCounts vs = omega arith in rw (z, l)
+  own-array vs b l = rw (b, l)
 
-  own-tuple : (vs : Vals) → begun ≡ row + 1 + rowCounts vs → length (seqV vs) ≡ word2 → rowsOf (VTuple vs) p ≡ (4 ∷ (begun - row) ∷ word2 ∷ 0 ∷ []) ++ rowsOfAll vs p
+  own-tuple : (vs : Vals) → span ≡ 1 + rowCounts vs → length (seqV vs) ≡ word2 → rowsOf (VTuple vs) p ≡ (4 ∷ span ∷ word2 ∷ 0 ∷ []) ++ rowsOfAll vs p
   unfolding rowsOf ownRow rowCount
-  own-tuple vs b l = let z : begun - row ≡ 1 + rowCounts vs = omega arith in rw (z, l)
+  own-tuple vs b l = rw (b, l)
 
-  own-case : (v : Val) → begun ≡ row + 1 + rowCount v → rowsOf (VCase word2 v) p ≡ (8 ∷ (begun - row) ∷ word2 ∷ 0 ∷ []) ++ rowsOf v (p + 8)
+  own-case : (v : Val) → span ≡ 1 + rowCount v → rowsOf (VCase word2 v) p ≡ (8 ∷ span ∷ word2 ∷ 0 ∷ []) ++ rowsOf v (p + 8)
   unfolding rowsOf ownRow rowCount
-  own-case v b = let z : begun - row ≡ 1 + rowCount v = omega arith in rw z
+  own-case v b = rw b
 
 array-rows : (vs : Vals) → rowCount (VArray vs) ≡ 1 + rowCounts vs
 unfolding rowCount
@@ -117,11 +103,13 @@ case-rows tag v = refl
 own-fits : (v : Val) (row p capacity : ℕ) → row + rowCount v ≤ capacity → rowWidth * row + length (rowsOf v p) ≤ rowWidth * capacity
 own-fits v row p capacity h = rw (length-rowsOf v p) (omega arith)
 
-module _ (g : List ℕ) (node : ℕ) (d entry : List ℕ) (s t : CodeState) (n : Node g node) (ready : Ready d entry s) (c : Claimed s t) where
-  -- the tree of the node, by the value of its kind word
-  node-tree : (w : ℕ) (k : Kind) → kindWord g node ≡ w → kindOf w ≡ k → treeOf g node ≡ nodeTree k (childTrees g (treeOf g) (firstWord g node) (countWord g node))
-  node-tree w k e f = tree-node g (n .passes) node (n .below) ∙ ap (λ (x : Kind). nodeTree x (childTrees g (treeOf g) (firstWord g node) (countWord g node))) (ap kindOf e ∙ f)
+-- the tree of a node, by the value of its kind word
+node-tree : (g : List ℕ) (node : ℕ) → Node g node → (w : ℕ) (k : Kind) → kindWord g node ≡ w → kindOf w ≡ k → treeOf g node ≡ nodeTree k (childTrees g (treeOf g) (firstWord g node) (countWord g node))
+node-tree g node n w k e f = tree-node g (n .passes) node (n .below) ∙ ap (λ (x : Kind). nodeTree x (childTrees g (treeOf g) (firstWord g node) (countWord g node))) (ap kindOf e ∙ f)
 
+-- Kinds that are read at once.
+
+module _ (g : List ℕ) (node : ℕ) (d entry : List ℕ) (s t : CodeState) (n : Node g node) (ready : Ready d entry s) (c : Claimed s t) where
   -- reading the node is reading its body behind the claimed row
   body : (x : G) → treeOf g node ≡ x → readVal (s .capacity) d (treeOf g node) (stateOf s) ≡ readBody (s .capacity) d x (stateOf t)
   body x e = ap (λ (o : Outcome Stop State). bind o (readBody (s .capacity) d (treeOf g node))) (c .claimed) ∙ ap (λ (y : G). readBody (s .capacity) d y (stateOf t)) e
@@ -129,131 +117,149 @@ module _ (g : List ℕ) (node : ℕ) (d entry : List ℕ) (s t : CodeState) (n :
   whole : {x : Reading Val} {r : CodeStep} {exit : List ℕ} → readVal (s .capacity) d (treeOf g node) (stateOf s) ≡ x → Reads rowsOf x (s .capacity) (s .begun) (s .at) entry r exit → Reads rowsOf (readVal (s .capacity) d (treeOf g node) (stateOf s)) (s .capacity) (s .begun) (s .at) entry r exit
   whole e h = rw e h
 
-  -- what read the body has read the node, and the other way round
+  -- what read the body has read the node
   pub arm-body : {r : CodeStep} {exit : List ℕ} → Reads rowsOf (readBody (t .capacity) d (treeOf g node) (stateOf t)) (t .capacity) (s .begun) (t .at) entry r exit → Reads rowsOf (readVal (s .capacity) d (treeOf g node) (stateOf s)) (s .capacity) (s .begun) (s .at) entry r exit
   arm-body {r} {exit} h =
       whole (body (treeOf g node) refl)
       (subst (λ (p : ℕ). Reads rowsOf (readBody (s .capacity) d (treeOf g node) (stateOf t)) (s .capacity) (s .begun) p entry r exit) (c .at)
       (subst (λ (m : ℕ). Reads rowsOf (readBody m d (treeOf g node) (stateOf t)) m (s .begun) (t .at) entry r exit) (c .capacity) h))
 
-  pub body-arm : {r : CodeStep} {exit : List ℕ} → Reads rowsOf (readVal (s .capacity) d (treeOf g node) (stateOf s)) (s .capacity) (s .begun) (s .at) entry r exit → Reads rowsOf (readBody (s .capacity) d (treeOf g node) (stateOf t)) (s .capacity) (s .begun) (s .at) entry r exit
-  body-arm h = rw (body (treeOf g node) refl) at h
-
   pub arm-constant : {r : CodeStep} {exit : List ℕ} → kindWord g node ≡ 0 → r ≡ Next t → exit ≡ laid entry (s .begun) (0 ∷ 1 ∷ 0 ∷ 0 ∷ []) → Reads rowsOf (readVal (s .capacity) d (treeOf g node) (stateOf s)) (s .capacity) (s .begun) (s .at) entry r exit
   unfolding readBody nodeTree rowsOf ownRow rowCount
-  arm-constant e q h = rw q (whole (body GConstant (node-tree 0 constant e (other-kinds .0))) (reads-next t VConstant refl (c .capacity) h))
+  arm-constant e q h = rw q (whole (body GConstant (node-tree g node n 0 constant e (other-kinds .0))) (reads-next t VConstant refl (c .capacity) h))
 
   pub arm-number : (k : Number) {x : Reading ℕ} {r : CodeStep} {exit : List ℕ} → kindWord g node ≡ numberKind k → x ≡ takeNumber d (width k) (stateOf t) → Reads rowsOf (give (VNumber k) x) (s .capacity) (s .begun) (s .at) entry r exit → Reads rowsOf (readVal (s .capacity) d (treeOf g node) (stateOf s)) (s .capacity) (s .begun) (s .at) entry r exit
   unfolding readBody nodeTree
-  arm-number k e q h = whole (body (GNumber k) (node-tree (numberKind k) (number k) e (number-kind k)) ∙ ap (give (VNumber k)) (sym q)) h
+  arm-number k e q h = whole (body (GNumber k) (node-tree g node n (numberKind k) (number k) e (number-kind k)) ∙ ap (give (VNumber k)) (sym q)) h
 
   pub arm-elements : (k : Elements) {r : CodeStep} {exit : List ℕ} → kindWord g node ≡ elementsKind k → Reads rowsOf (give (VNumberArray k) (takeNumbers d (elementWidth k) (stateOf t))) (t .capacity) (s .begun) (t .at) entry r exit → Reads rowsOf (readVal (s .capacity) d (treeOf g node) (stateOf s)) (s .capacity) (s .begun) (s .at) entry r exit
   unfolding readBody nodeTree
   arm-elements k {r} {exit} e h =
-      whole (body (GNumberArray k) (node-tree (elementsKind k) (elementsClass k) e (elements-kind k)))
+      whole (body (GNumberArray k) (node-tree g node n (elementsKind k) (elementsClass k) e (elements-kind k)))
       (subst (λ (p : ℕ). Reads rowsOf (give (VNumberArray k) (takeNumbers d (elementWidth k) (stateOf t))) (s .capacity) (s .begun) p entry r exit) (c .at)
       (subst (λ (m : ℕ). Reads rowsOf (give (VNumberArray k) (takeNumbers d (elementWidth k) (stateOf t))) m (s .begun) (t .at) entry r exit) (c .capacity) h))
 
-  -- the capacity and the rows of s, for what is laid from its row on
-  lent : Room (s .capacity) entry
-  lent = ready .room
-
-  -- a head below its limit that was refused
-  pub arm-head-stopped : (x : G) (limit code : ℕ) (k : ℕ → State → Reading Val) (u : CodeState) (f : Refusal) {exit : List ℕ} → treeOf g node ≡ x → next (takeBelow d limit code (stateOf t)) k ≡ readBody (s .capacity) d x (stateOf t) → refused (record { why = reasonOf f; state = stateOf u }) ≡ takeBelow d limit code (stateOf t) → u .capacity ≡ t .capacity → Reads rowsOf (readVal (s .capacity) d (treeOf g node) (stateOf s)) (s .capacity) (s .begun) (s .at) entry (Stopped u f) exit
-  arm-head-stopped x limit code k u f e b h q = reads-stopped u f (ap (λ (y : Reading ℕ). next y k) h ∙ b ∙ sym (body x e)) (q ∙ c .capacity)
-
-  array-tree : kindWord g node ≡ 3 → treeOf g node ≡ GArray (treeOf g (childWord g (firstWord g node + 0)))
-  unfolding nodeTree childTrees
-  array-tree e =
-      let r = node-inside g node n .3 .0 in
-      let k : kindOf (kindWord g node) ≡ array = ap kindOf e ∙ other-kinds .1 in
-      let o : countWord g node ≡ 1 = subst (λ (x : Kind). CountRule x (firstWord g node) (countWord g node)) k r in
-      node-tree 3 array e (other-kinds .1) ∙ rw (o, add-zero (firstWord g node))
-
-  -- where the children of the claimed row start
-  module _ (u : CodeState) (m : u .capacity ≡ t .capacity) (a : u .at ≡ t .at + 8) (b : u .begun ≡ t .begun) where
-    moved : {A : Type 0} {rowsAt : A → ℕ → List ℕ} (x : ℕ → Reading A) {read : CodeStep} {mid : List ℕ} → Reads rowsAt (x (u .capacity)) (u .capacity) (u .begun) (u .at) entry read mid → Reads rowsAt (x (s .capacity)) (s .capacity) (suc (s .begun)) (s .at + 8) entry read mid
-    moved {A} {rowsAt} x {read} {mid} h =
-        let e : u .at ≡ s .at + 8 = a ∙ ap (λ (i : ℕ). i + 8) (c .at) in
-        let f : u .begun ≡ suc (s .begun) = b ∙ c .begun ∙ add-one (s .begun) in
-        subst (λ (i : ℕ). Reads rowsAt (x (s .capacity)) (s .capacity) (suc (s .begun)) i entry read mid) e
-        (subst (λ (i : ℕ). Reads rowsAt (x (s .capacity)) (s .capacity) i (u .at) entry read mid) f
-        (subst (λ (i : ℕ). Reads rowsAt (x i) i (u .begun) (u .at) entry read mid) (m ∙ c .capacity) h))
-
-  pub arm-array : (child count : ℕ) (u : CodeState) {read r : CodeStep} {mid exit : List ℕ} → kindWord g node ≡ 3 → child ≡ childWord g (firstWord g node + 0) → yield count (stateOf u) ≡ takeBelow d (t .capacity - t .begun + 1) 8 (stateOf t) → u .capacity ≡ t .capacity → Reads rowsOfAll (elements count (readVal (u .capacity) d (treeOf g child)) (stateOf u)) (u .capacity) (u .begun) (u .at) entry read mid → r ≡ read → exit ≡ closed (s .begun) 3 count read mid → Reads rowsOf (readVal (s .capacity) d (treeOf g node) (stateOf s)) (s .capacity) (s .begun) (s .at) entry r exit
-  arm-array child count u {read} {r} {mid} {exit} k e h m i q o =
-      let tree = treeOf g child in
-      let w : treeOf g node ≡ GArray tree = array-tree k ∙ ap (λ (j : ℕ). GArray (treeOf g j)) (sym e) in
-      let y = below-taken d (t .capacity - t .begun + 1) 8 (stateOf t) count u h in
-      let l : t .capacity - t .begun + 1 ≡ free (s .capacity) (stateOf t) + 1 = ap (λ (j : ℕ). j - t .begun + 1) (c .capacity) in
-      let x : readVal (s .capacity) d (treeOf g node) (stateOf s) ≡ give VArray (elements count (readVal (s .capacity) d tree) (stateOf u)) =
-      body (GArray tree) w ∙ sym (array-body (s .capacity) d (stateOf t) tree) ∙ ap (λ (z : Reading ℕ). next z (λ n v. give VArray (elements n (readVal (s .capacity) d tree) v))) (ap (λ (j : ℕ). takeBelow d j 8 (stateOf t)) (sym l) ∙ sym h) in
-      let inside : u .at ≤ length d = omega (arith, y .0, y .3) in
-      let close = reads-close {x = elements count (readVal (s .capacity) d tree) (stateOf u)} {row = s .begun} {p = s .at} VArray 3 count lent read (λ v z.
-      let f = agrees-accepted (agrees-elements tree (λ s′ l′. agrees (s .capacity) d tree s′ l′) count (stateOf u) inside) v z in
-      let n′ = post-accepted (rw z at (elements-count count (readVal (s .capacity) d tree) (stateOf u))) in
-      let b : v .state .begun ≡ s .begun + 1 + rowCounts (v .value) = omega (arith, f .1, y .1, c .begun) in
-      (own-array (s .begun) (v .state .begun) count (s .at) (v .value) b n′, own-fits (VArray (v .value)) (s .begun) (s .at) (s .capacity) (rw (array-rows (v .value)) (omega (arith, f .2, y .1, c .begun, c .free)))))
-      (moved u m (y .0) (y .1) (λ j. elements count (readVal j d tree) (stateOf u)) i) in
-      whole x (rw (q, o) close)
-
-  tuple-tree : kindWord g node ≡ 4 → treeOf g node ≡ GTuple (childTrees g (treeOf g) (firstWord g node) (countWord g node))
-  unfolding nodeTree
-  tuple-tree e = node-tree 4 tuple e (other-kinds .2)
-
-  pub arm-tuple : (count : ℕ) {read r : CodeStep} {mid exit : List ℕ} → kindWord g node ≡ 4 → count ≡ countWord g node → Reads rowsOfAll (readFields (t .capacity) d (childTrees g (treeOf g) (firstWord g node) (countWord g node)) (stateOf t)) (t .capacity) (t .begun) (t .at) entry read mid → r ≡ read → exit ≡ closed (s .begun) 4 count read mid → Reads rowsOf (readVal (s .capacity) d (treeOf g node) (stateOf s)) (s .capacity) (s .begun) (s .at) entry r exit
-  unfolding readBody
-  arm-tuple count {read} {r} {mid} {exit} k e i q o =
-      let gs = childTrees g (treeOf g) (firstWord g node) (countWord g node) in
-      let inside : t .at ≤ length d = omega (arith, c .at, ready .inside) in
-      let j : Reads rowsOfAll (readFields (s .capacity) d gs (stateOf t)) (s .capacity) (suc (s .begun)) (s .at) entry read mid =
-      subst (λ (z : ℕ). Reads rowsOfAll (readFields (s .capacity) d gs (stateOf t)) (s .capacity) (suc (s .begun)) z entry read mid) (c .at)
-      (subst (λ (z : ℕ). Reads rowsOfAll (readFields (s .capacity) d gs (stateOf t)) (s .capacity) z (t .at) entry read mid) (c .begun ∙ add-one (s .begun))
-      (subst (λ (z : ℕ). Reads rowsOfAll (readFields z d gs (stateOf t)) z (t .begun) (t .at) entry read mid) (c .capacity) i)) in
-      let close = reads-close {x = readFields (s .capacity) d gs (stateOf t)} {row = s .begun} {p = s .at} VTuple 4 count lent read (λ v z.
-      let f = agrees-accepted (agrees-fields (s .capacity) d gs (stateOf t) inside) v z in
-      let n′ : length (seqV (v .value)) ≡ count = post-accepted (rw z at (fields-count (s .capacity) d gs (stateOf t))) ∙ trees-length g (treeOf g) (countWord g node) (firstWord g node) ∙ sym e in
-      let b : v .state .begun ≡ s .begun + 1 + rowCounts (v .value) = omega (arith, f .1, c .begun) in
-      (own-tuple (s .begun) (v .state .begun) count (s .at) (v .value) b n′, own-fits (VTuple (v .value)) (s .begun) (s .at) (s .capacity) (rw (tuple-rows (v .value)) (omega (arith, f .2, c .begun, c .free)))))
-      j in
-      whole (body (GTuple gs) (tuple-tree k)) (rw (q, o) close)
-
-  union-tree : kindWord g node ≡ 8 → treeOf g node ≡ GTaggedUnion (childTrees g (treeOf g) (firstWord g node) (countWord g node))
-  unfolding nodeTree
-  union-tree e = node-tree 8 union e (other-kinds .3)
-
-  pub arm-case : (child tag limit : ℕ) (u : CodeState) {read r : CodeStep} {mid exit : List ℕ} → kindWord g node ≡ 8 → limit ≡ countWord g node → child ≡ childWord g (firstWord g node + tag) → yield tag (stateOf u) ≡ takeBelow d limit 10 (stateOf t) → u .capacity ≡ t .capacity → Reads rowsOf (readVal (u .capacity) d (treeOf g child) (stateOf u)) (u .capacity) (u .begun) (u .at) entry read mid → r ≡ read → exit ≡ closed (s .begun) 8 tag read mid → Reads rowsOf (readVal (s .capacity) d (treeOf g node) (stateOf s)) (s .capacity) (s .begun) (s .at) entry r exit
-  arm-case child tag limit u {read} {r} {mid} {exit} k n′ e h m i q o =
-      let gs = childTrees g (treeOf g) (firstWord g node) (countWord g node) in
-      let y = below-taken d limit 10 (stateOf t) tag u h in
-      let l : limit ≡ length (seqG gs) = n′ ∙ sym (trees-length g (treeOf g) (countWord g node) (firstWord g node)) in
-      let tree : caseAt gs tag ≡ treeOf g child = trees-at g (treeOf g) (countWord g node) (firstWord g node) tag (omega (arith, y .2)) ∙ ap (treeOf g) (sym e) in
-      let x : readVal (s .capacity) d (treeOf g node) (stateOf s) ≡ give (VCase tag) (readVal (s .capacity) d (treeOf g child) (stateOf u)) =
-      body (GTaggedUnion gs) (union-tree k) ∙ sym (case-body (s .capacity) d (stateOf t) gs) ∙ ap (λ (z : Reading ℕ). next z (λ c′ v. give (VCase c′) (readVal (s .capacity) d (caseAt gs c′) v))) (ap (λ (j : ℕ). takeBelow d j 10 (stateOf t)) (sym l) ∙ sym h) ∙ ap (λ (z : G). give (VCase tag) (readVal (s .capacity) d z (stateOf u))) tree in
-      let inside : u .at ≤ length d = omega (arith, y .0, y .3) in
-      let close = reads-close {x = readVal (s .capacity) d (treeOf g child) (stateOf u)} {row = s .begun} {p = s .at} (VCase tag) 8 tag lent read (λ v z.
-      let f = agrees-accepted (agrees (s .capacity) d (treeOf g child) (stateOf u) inside) v z in
-      let b : v .state .begun ≡ s .begun + 1 + rowCount (v .value) = omega (arith, f .1, y .1, c .begun) in
-      (own-case (s .begun) (v .state .begun) tag (s .at) (v .value) b, own-fits (VCase tag (v .value)) (s .begun) (s .at) (s .capacity) (rw (case-rows tag (v .value)) (omega (arith, f .2, y .1, c .begun, c .free)))))
-      (moved u m (y .0) (y .1) (λ j. readVal j d (treeOf g child) (stateOf u)) i) in
-      whole x (rw (q, o) close)
-
-  pub arm-array-stopped : (u : CodeState) (f : Refusal) {exit : List ℕ} → kindWord g node ≡ 3 → refused (record { why = reasonOf f; state = stateOf u }) ≡ takeBelow d (t .capacity - t .begun + 1) 8 (stateOf t) → u .capacity ≡ t .capacity → Reads rowsOf (readVal (s .capacity) d (treeOf g node) (stateOf s)) (s .capacity) (s .begun) (s .at) entry (Stopped u f) exit
-  arm-array-stopped u f k h m =
-      let tree = treeOf g (childWord g (firstWord g node + 0)) in
-      let l : t .capacity - t .begun + 1 ≡ free (s .capacity) (stateOf t) + 1 = ap (λ (j : ℕ). j - t .begun + 1) (c .capacity) in
-      arm-head-stopped (GArray tree) (free (s .capacity) (stateOf t) + 1) 8 (λ n v. give VArray (elements n (readVal (s .capacity) d tree) v)) u f (array-tree k) (array-body (s .capacity) d (stateOf t) tree) (h ∙ ap (λ (j : ℕ). takeBelow d j 8 (stateOf t)) l) m
-
-  pub arm-case-stopped : (limit : ℕ) (u : CodeState) (f : Refusal) {exit : List ℕ} → kindWord g node ≡ 8 → limit ≡ countWord g node → refused (record { why = reasonOf f; state = stateOf u }) ≡ takeBelow d limit 10 (stateOf t) → u .capacity ≡ t .capacity → Reads rowsOf (readVal (s .capacity) d (treeOf g node) (stateOf s)) (s .capacity) (s .begun) (s .at) entry (Stopped u f) exit
-  arm-case-stopped limit u f k e h m =
-      let gs = childTrees g (treeOf g) (firstWord g node) (countWord g node) in
-      let l : limit ≡ length (seqG gs) = e ∙ sym (trees-length g (treeOf g) (countWord g node) (firstWord g node)) in
-      arm-head-stopped (GTaggedUnion gs) (length (seqG gs)) 10 (λ c′ v. give (VCase c′) (readVal (s .capacity) d (caseAt gs c′) v)) u f (union-tree k) (case-body (s .capacity) d (stateOf t) gs) (h ∙ ap (λ (j : ℕ). takeBelow d j 10 (stateOf t)) l) m
-
--- What the readers of the cycle ask of each other.
+-- Arrays, tuples and cases.
 
 pub row-room : (capacity row : ℕ) (rows : List ℕ) → Room capacity rows → row < capacity → RowRoom row rows
 row-room capacity row rows r h = ⊎-elim (λ (e : rows ≡ []). inl e) (λ (f : rowWidth * capacity ≤ length rows). inr (omega arith)) r
+
+module _ {g d entry : List ℕ} {node w row : ℕ} {s : CodeState} (p : Parent g d entry node w row s) where
+  own-free : row < s .capacity
+  own-free = omega (arith, p .claimed, p .ready .few)
+
+  pub parent-row : row < 4096
+  parent-row = omega (arith, own-free, p .ready .most)
+
+  -- its row is lent, or none is, also once its children are read
+  pub parent-room : (rows : List ℕ) → length rows ≡ length entry → RowRoom row rows
+  parent-room rows l = row-room (s .capacity) row rows (room-kept (s .capacity) entry rows l (p .ready .room)) own-free
+
+  body-tree : (x : G) → treeOf g node ≡ x → readBody (s .capacity) d (treeOf g node) (stateOf s) ≡ readBody (s .capacity) d x (stateOf s)
+  body-tree x e = ap (λ (y : G). readBody (s .capacity) d y (stateOf s)) e
+
+  -- the row of the parent before the rows of its children, which are `more` and start where the rows of A do
+  closed-rows : {A : Type 0} {rowsAt : A → ℕ → List ℕ} (x : Reading A) (f : A → Val) (count : A → ℕ) (kind word2 q : ℕ) {read r : CodeStep} {mid exit : List ℕ} → ((a : A) → rowCount (f a) ≡ 1 + count a) → ((t : Step State A) → x ≡ accepted t → (t .state .begun ≡ s .begun + count (t .value)) × (count (t .value) ≤ s .capacity - s .begun) × ((span : ℕ) → span ≡ 1 + count (t .value) → rowsOf (f (t .value)) (s .at) ≡ (kind ∷ span ∷ word2 ∷ 0 ∷ []) ++ rowsAt (t .value) q)) → Reads rowsAt x (s .capacity) (suc row) q entry read mid → r ≡ read → exit ≡ closed row kind word2 read mid → Reads rowsOf (give f x) (s .capacity) row (s .at) entry r exit
+  closed-rows x f count kind word2 q {read} e own h i o =
+      rw (i, o) (reads-close {x = x} {row = row} {p = s .at} f kind word2 (p .ready .room) read (λ t z.
+      let y = own t z in
+      let b : t .state .begun - row ≡ 1 + count (t .value) = omega (arith, y .0, p .claimed) in
+      (y .2 (t .state .begun - row) b, own-fits (f (t .value)) row (s .at) (s .capacity) (rw (e (t .value)) (omega (arith, y .1, p .claimed, own-free)))))
+      h)
+
+  -- a head below its limit
+  module _ (limit code n : ℕ) (u : CodeState) (h : yield n (stateOf u) ≡ takeBelow d limit code (stateOf s)) (m : u .capacity ≡ s .capacity) where
+    pub head-begun : u .begun ≡ s .begun
+    head-begun = below-taken d limit code (stateOf s) n u h .1
+
+    pub head-below : n < limit
+    head-below = below-taken d limit code (stateOf s) n u h .2
+
+    pub head-ready : Ready d entry u
+    head-ready =
+        let y = below-taken d limit code (stateOf s) n u h in
+        record { inside = omega (arith, y .0, y .3); short = p .ready .short; few = omega (arith, y .1, m, p .ready .few); most = omega (arith, m, p .ready .most); room = subst (λ (i : ℕ). Room i entry) (sym m) (p .ready .room); byteValues = p .ready .byteValues }
+
+    -- what was read behind it, by the state before
+    moved : {A : Type 0} {rowsAt : A → ℕ → List ℕ} (x : ℕ → Reading A) {read : CodeStep} {mid : List ℕ} → Reads rowsAt (x (u .capacity)) (u .capacity) (u .begun) (u .at) entry read mid → Reads rowsAt (x (s .capacity)) (s .capacity) (suc row) (s .at + 8) entry read mid
+    moved {A} {rowsAt} x {read} {mid} r =
+        let y = below-taken d limit code (stateOf s) n u h in
+        let f : u .begun ≡ suc row = omega (arith, y .1, p .claimed) in
+        subst (λ (i : ℕ). Reads rowsAt (x (s .capacity)) (s .capacity) (suc row) i entry read mid) (y .0)
+        (subst (λ (i : ℕ). Reads rowsAt (x (s .capacity)) (s .capacity) i (u .at) entry read mid) f
+        (subst (λ (i : ℕ). Reads rowsAt (x i) i (u .begun) (u .at) entry read mid) m r))
+
+  -- a head that was refused
+  head-stopped : (x : G) (limit code : ℕ) (k : ℕ → State → Reading Val) (u : CodeState) (f : Refusal) {exit : List ℕ} → treeOf g node ≡ x → next (takeBelow d limit code (stateOf s)) k ≡ readBody (s .capacity) d x (stateOf s) → refused (record { why = reasonOf f; state = stateOf u }) ≡ takeBelow d limit code (stateOf s) → u .capacity ≡ s .capacity → Reads rowsOf (readBody (s .capacity) d (treeOf g node) (stateOf s)) (s .capacity) row (s .at) entry (Stopped u f) exit
+  head-stopped x limit code k u f e b h q = reads-stopped u f (ap (λ (y : Reading ℕ). next y k) h ∙ b ∙ sym (body-tree x e)) q
+
+pub array-count : (g : List ℕ) (node : ℕ) → Node g node → kindWord g node ≡ 3 → countWord g node ≡ 1
+array-count g node n e = subst (λ (x : Kind). CountRule x (firstWord g node) (countWord g node)) (ap kindOf e ∙ other-kinds .1) (node-inside g node n .3 .0)
+
+module _ {g d entry : List ℕ} {node row : ℕ} {s : CodeState} (p : Parent g d entry node 3 row s) where
+  array-tree : treeOf g node ≡ GArray (treeOf g (childWord g (firstWord g node + 0)))
+  unfolding nodeTree childTrees
+  array-tree = node-tree g node (p .node) 3 array (p .kind) (other-kinds .1) ∙ rw (array-count g node (p .node) (p .kind), add-zero (firstWord g node))
+
+  pub arm-array : (child count : ℕ) (u : CodeState) {read r : CodeStep} {mid exit : List ℕ} → child ≡ childWord g (firstWord g node + 0) → yield count (stateOf u) ≡ takeBelow d (s .capacity - s .begun + 1) 8 (stateOf s) → u .capacity ≡ s .capacity → Reads rowsOfAll (elements count (readVal (u .capacity) d (treeOf g child)) (stateOf u)) (u .capacity) (u .begun) (u .at) entry read mid → r ≡ read → exit ≡ closed row 3 count read mid → Reads rowsOf (readBody (s .capacity) d (treeOf g node) (stateOf s)) (s .capacity) row (s .at) entry r exit
+  arm-array child count u e h m i q o =
+      let tree = treeOf g child in
+      let t : treeOf g node ≡ GArray tree = array-tree ∙ ap (λ (j : ℕ). GArray (treeOf g j)) (sym e) in
+      let y = below-taken d (s .capacity - s .begun + 1) 8 (stateOf s) count u h in
+      let x : readBody (s .capacity) d (treeOf g node) (stateOf s) ≡ give VArray (elements count (readVal (s .capacity) d tree) (stateOf u)) =
+      body-tree p (GArray tree) t ∙ sym (array-body (s .capacity) d (stateOf s) tree) ∙ ap (λ (z : Reading ℕ). next z (λ n v. give VArray (elements n (readVal (s .capacity) d tree) v))) (sym h) in
+      rw x (closed-rows p (elements count (readVal (s .capacity) d tree) (stateOf u)) VArray rowCounts 3 count (s .at + 8) array-rows (λ v z.
+      let f = agrees-accepted (agrees-elements tree (λ s′ l′. agrees (s .capacity) d tree s′ l′) count (stateOf u) (omega (arith, y .0, y .3))) v z in
+      let n = post-accepted (rw z at (elements-count count (readVal (s .capacity) d tree) (stateOf u))) in
+      (omega (arith, f .1, y .1), omega (arith, f .2, y .1), λ span b. own-array span count (s .at) (v .value) b n))
+      (moved p (s .capacity - s .begun + 1) 8 count u h m (λ j. elements count (readVal j d tree) (stateOf u)) i) q o)
+
+  pub arm-array-stopped : (u : CodeState) (f : Refusal) {exit : List ℕ} → refused (record { why = reasonOf f; state = stateOf u }) ≡ takeBelow d (s .capacity - s .begun + 1) 8 (stateOf s) → u .capacity ≡ s .capacity → Reads rowsOf (readBody (s .capacity) d (treeOf g node) (stateOf s)) (s .capacity) row (s .at) entry (Stopped u f) exit
+  arm-array-stopped u f h m =
+      let tree = treeOf g (childWord g (firstWord g node + 0)) in
+      head-stopped p (GArray tree) (s .capacity - s .begun + 1) 8 (λ n v. give VArray (elements n (readVal (s .capacity) d tree) v)) u f array-tree (array-body (s .capacity) d (stateOf s) tree) h m
+
+module _ {g d entry : List ℕ} {node row : ℕ} {s : CodeState} (p : Parent g d entry node 4 row s) where
+  tuple-tree : treeOf g node ≡ GTuple (childTrees g (treeOf g) (firstWord g node) (countWord g node))
+  unfolding nodeTree
+  tuple-tree = node-tree g node (p .node) 4 tuple (p .kind) (other-kinds .2)
+
+  pub arm-tuple : (count : ℕ) {read r : CodeStep} {mid exit : List ℕ} → count ≡ countWord g node → Reads rowsOfAll (readFields (s .capacity) d (childTrees g (treeOf g) (firstWord g node) (countWord g node)) (stateOf s)) (s .capacity) (s .begun) (s .at) entry read mid → r ≡ read → exit ≡ closed row 4 count read mid → Reads rowsOf (readBody (s .capacity) d (treeOf g node) (stateOf s)) (s .capacity) row (s .at) entry r exit
+  unfolding readBody
+  arm-tuple count {read} {r} {mid} e i q o =
+      let gs = childTrees g (treeOf g) (firstWord g node) (countWord g node) in
+      let b : s .begun ≡ suc row = omega (arith, p .claimed) in
+      rw (body-tree p (GTuple gs) tuple-tree) (closed-rows p (readFields (s .capacity) d gs (stateOf s)) VTuple rowCounts 4 count (s .at) tuple-rows (λ v z.
+      let f = agrees-accepted (agrees-fields (s .capacity) d gs (stateOf s) (p .ready .inside)) v z in
+      let n : length (seqV (v .value)) ≡ count = post-accepted (rw z at (fields-count (s .capacity) d gs (stateOf s))) ∙ trees-length g (treeOf g) (countWord g node) (firstWord g node) ∙ sym e in
+      (f .1, f .2, λ span l. own-tuple span count (s .at) (v .value) l n))
+      (subst (λ (z : ℕ). Reads rowsOfAll (readFields (s .capacity) d gs (stateOf s)) (s .capacity) z (s .at) entry read mid) b i) q o)
+
+module _ {g d entry : List ℕ} {node row : ℕ} {s : CodeState} (p : Parent g d entry node 8 row s) where
+  union-tree : treeOf g node ≡ GTaggedUnion (childTrees g (treeOf g) (firstWord g node) (countWord g node))
+  unfolding nodeTree
+  union-tree = node-tree g node (p .node) 8 union (p .kind) (other-kinds .3)
+
+  pub arm-case : (child tag limit : ℕ) (u : CodeState) {read r : CodeStep} {mid exit : List ℕ} → limit ≡ countWord g node → child ≡ childWord g (firstWord g node + tag) → yield tag (stateOf u) ≡ takeBelow d limit 10 (stateOf s) → u .capacity ≡ s .capacity → Reads rowsOf (readVal (u .capacity) d (treeOf g child) (stateOf u)) (u .capacity) (u .begun) (u .at) entry read mid → r ≡ read → exit ≡ closed row 8 tag read mid → Reads rowsOf (readBody (s .capacity) d (treeOf g node) (stateOf s)) (s .capacity) row (s .at) entry r exit
+  arm-case child tag limit u n e h m i q o =
+      let gs = childTrees g (treeOf g) (firstWord g node) (countWord g node) in
+      let y = below-taken d limit 10 (stateOf s) tag u h in
+      let l : limit ≡ length (seqG gs) = n ∙ sym (trees-length g (treeOf g) (countWord g node) (firstWord g node)) in
+      let tree : caseAt gs tag ≡ treeOf g child = trees-at g (treeOf g) (countWord g node) (firstWord g node) tag (omega (arith, y .2)) ∙ ap (treeOf g) (sym e) in
+      let x : readBody (s .capacity) d (treeOf g node) (stateOf s) ≡ give (VCase tag) (readVal (s .capacity) d (treeOf g child) (stateOf u)) =
+      body-tree p (GTaggedUnion gs) union-tree ∙ sym (case-body (s .capacity) d (stateOf s) gs) ∙ ap (λ (z : Reading ℕ). next z (λ c v. give (VCase c) (readVal (s .capacity) d (caseAt gs c) v))) (ap (λ (j : ℕ). takeBelow d j 10 (stateOf s)) (sym l) ∙ sym h) ∙ ap (λ (z : G). give (VCase tag) (readVal (s .capacity) d z (stateOf u))) tree in
+      rw x (closed-rows p (readVal (s .capacity) d (treeOf g child) (stateOf u)) (VCase tag) rowCount 8 tag (s .at + 8) (case-rows tag) (λ v z.
+      let f = agrees-accepted (agrees (s .capacity) d (treeOf g child) (stateOf u) (omega (arith, y .0, y .3))) v z in
+      (omega (arith, f .1, y .1), omega (arith, f .2, y .1), λ span b. own-case span tag (s .at) (v .value) b))
+      (moved p limit 10 tag u h m (λ j. readVal j d (treeOf g child) (stateOf u)) i) q o)
+
+  pub arm-case-stopped : (limit : ℕ) (u : CodeState) (f : Refusal) {exit : List ℕ} → limit ≡ countWord g node → refused (record { why = reasonOf f; state = stateOf u }) ≡ takeBelow d limit 10 (stateOf s) → u .capacity ≡ s .capacity → Reads rowsOf (readBody (s .capacity) d (treeOf g node) (stateOf s)) (s .capacity) row (s .at) entry (Stopped u f) exit
+  arm-case-stopped limit u f e h m =
+      let gs = childTrees g (treeOf g) (firstWord g node) (countWord g node) in
+      let l : limit ≡ length (seqG gs) = e ∙ sym (trees-length g (treeOf g) (countWord g node) (firstWord g node)) in
+      head-stopped p (GTaggedUnion gs) (length (seqG gs)) 10 (λ c v. give (VCase c) (readVal (s .capacity) d (caseAt gs c) v)) u f union-tree (case-body (s .capacity) d (stateOf s) gs) (h ∙ ap (λ (j : ℕ). takeBelow d j 10 (stateOf s)) l) m
+
+-- What the readers of the cycle ask of each other.
 
 module _ {g : List ℕ} {node : ℕ} {d entry : List ℕ} {s t : CodeState} (n : Node g node) (ready : Ready d entry s) (c : Claimed s t) where
   pub own-row : (s .begun < 4096) × RowRoom (s .begun) entry
@@ -262,13 +268,8 @@ module _ {g : List ℕ} {node : ℕ} {d entry : List ℕ} {s t : CodeState} (n :
   pub ready-claimed : Ready d entry t
   ready-claimed = record { inside = omega (arith, c .at, ready .inside); short = ready .short; few = omega (arith, c .begun, c .capacity, c .free); most = omega (arith, c .capacity, ready .most); room = subst (λ (m : ℕ). Room m entry) (sym (c .capacity)) (ready .room); byteValues = ready .byteValues }
 
-  pub ready-below : (limit code m : ℕ) (u : CodeState) → yield m (stateOf u) ≡ takeBelow d limit code (stateOf t) → u .capacity ≡ t .capacity → Ready d entry u
-  ready-below limit code m u h k =
-      let y = below-taken d limit code (stateOf t) m u h in
-      record { inside = omega (arith, y .0, y .3); short = ready .short; few = omega (arith, y .1, k, c .begun, c .capacity, c .free); most = omega (arith, k, c .capacity, ready .most); room = subst (λ (i : ℕ). Room i entry) (sym (k ∙ c .capacity)) (ready .room); byteValues = ready .byteValues }
-
-pub array-count : (g : List ℕ) (node : ℕ) → Node g node → kindWord g node ≡ 3 → countWord g node ≡ 1
-array-count g node n e = subst (λ (x : Kind). CountRule x (firstWord g node) (countWord g node)) (ap kindOf e ∙ other-kinds .1) (node-inside g node n .3 .0)
+  pub parent-claimed : {w : ℕ} → kindWord g node ≡ w → Parent g d entry node w (s .begun) t
+  parent-claimed k = record { node = n; kind = k; ready = ready-claimed; claimed = c .begun }
 
 -- children that were read are counted behind the row of their parent
 pub counted-elements : {d entry mid : List ℕ} {row : ℕ} (u : CodeState) (g : G) (m : ℕ) (read : CodeStep) → Ready d entry u → row < u .begun → Reads rowsOfAll (elements m (readVal (u .capacity) d g) (stateOf u)) (u .capacity) (u .begun) (u .at) entry read mid → Counted row read

@@ -9,7 +9,7 @@ use Rattle.packed.specs.Packed.{Bytes, Below, put}
 use lib.Dec.{ltb}
 use Rattle.value.specs.Step.{Step, yield, next}
 use Rattle.value.specs.Reading.{State, Reading, stop, takeNumber}
-use Rattle.grammar.specs.Table.{nodeCount}
+use Rattle.grammar.specs.Table.{nodeCount, kindWord}
 use Rattle.grammar.specs.Rule.{Passes}
 use Rattle.rows.specs.Row.{rowWidth}
 use Rattle.reading.specs.declared.State.{State as CodeState}
@@ -40,6 +40,13 @@ pub record Node (t : List ℕ) (k : ℕ) : Type 0 where
   pub passes : Passes t
   pub below : k < nodeCount t
   pub words : Below (2 ^ 32) t
+
+-- node k is of kind w, its value has claimed row `row`, and s is the state behind
+pub record Parent (g d rows : List ℕ) (k w row : ℕ) (s : CodeState) : Type 0 where
+  pub node : Node g k
+  pub kind : kindWord g k ≡ w
+  pub ready : Ready d rows s
+  pub claimed : s .begun ≡ row + 1
 
 -- the code's answer r and the rows at exit, beside the reading x of what starts at byte p and has its rows from `row` on:
 -- the same outcome, and what was read is laid over the rows at entry

@@ -10,12 +10,12 @@ ghost use Rattle.value.specs.Kinds.{Number, numberKind, Elements, elementsKind,
 ghost use Rattle.value.specs.Tree.{VNumber, VNumberArray};
 ghost use Rattle.value.specs.Reading.{claim as claimOf, takeNumber, takeNumbers, move, start, readBody, readVal, readFields};
 ghost use Rattle.value.specs.Step.{give, elements};
-ghost use Rattle.grammar.specs.Table.{nodeCount, kindWord, firstWord, countWord, childWord};
+ghost use Rattle.grammar.specs.Table.{nodeCount, firstWord, countWord, childWord};
 ghost use Rattle.grammar.specs.Tree.{treeOf, childTrees};
 ghost use Rattle.rows.specs.Layout.{rowsOf, rowsOfAll};
 ghost use Rattle.reading.specs.Meaning.{stateOf, stepOf, takenOf, bodyOf, StepKeeps, TakenKeeps, parsedOf};
 ghost use Rattle.reading.specs.Calls.{capacityOf, parseValOf, demarshallOf, countsOf, Parses, admitOf, Admitted, parsedStep};
-ghost use Rattle.reading.specs.Reads.{laid, RowRoom, Ready, Node, Reads, closed, Counted, takeBelow};
+ghost use Rattle.reading.specs.Reads.{laid, RowRoom, Ready, Node, Parent, Reads, closed, Counted, takeBelow};
 use packed::UnpackedU32;
 use packed::UnpackedU64;
 use refusal::Answer;
@@ -240,7 +240,8 @@ fn read_constant(rows: &mut [u64], row: usize, s: State) -> Step
     Step::Next(s)
 }
 
-// The value that starts at s and stands for a node.
+// The value that starts at s and stands for a node. Arrays, tuples and cases are functions by themselves, also because the
+// compiler then lets them share one frame.
 fn read_value(grammar: &[u32], node: usize, bytes: &[u8], rows: &mut [u64], s: State) -> Step
     requires { ⌜ Node (now grammar) node × Ready (now bytes) (now rows) s ⌝ }
     ensures { λ r. ⌜ Reads rowsOf (readVal (s .capacity) (now (bytes .entry)) (treeOf (now (grammar .entry)) node) (stateOf s)) (s .capacity) (s .begun) (s .at) (now (rows .entry)) r (now (rows .exit)) ⌝ }
@@ -254,22 +255,8 @@ fn read_value(grammar: &[u32], node: usize, bytes: &[u8], rows: &mut [u64], s: S
                 0 => read_constant(rows, row, t),
                 1 => read_number(rows, row, 1, t.take4(bytes)),
                 2 => read_number(rows, row, 2, t.take8(bytes)),
-                3 => {
-                    let limit = (t.capacity - t.begun + 1) as u64;
-                    match t.take_below(bytes, limit, refusal::ROWS_EXHAUSTED) {
-                        Taken::Stopped(u, r) => Step::Stopped(u, r),
-                        Taken::Number(n, u) => {
-                            let child = child_at(grammar, node, 0);
-                            let read = read_array_contents(grammar, child, bytes, rows, n, u);
-                            close_row(rows, row, 3, n, read)
-                        }
-                    }
-                }
-                4 => {
-                    let read = read_tuple_contents(grammar, node, bytes, rows, t);
-                    let count = word(grammar, 3 + 3 * node);
-                    close_row(rows, row, 4, count as u64, read)
-                }
+                3 => read_array(grammar, node, bytes, rows, row, t),
+                4 => read_tuple(grammar, node, bytes, rows, row, t),
                 5 => read_elements(bytes, rows, row, 5, 1, t),
                 6 => read_elements(bytes, rows, row, 6, 4, t),
                 7 => read_elements(bytes, rows, row, 7, 8, t),
@@ -283,7 +270,47 @@ fn read_value(grammar: &[u32], node: usize, bytes: &[u8], rows: &mut [u64], s: S
     }
 }
 
-// Kind 8: the tag, then the value of its case. A function by itself, so that the frame of `read_value` stays small.
+// Kind 3: the count, at most the rows left, then the elements.
+fn read_array(
+    grammar: &[u32],
+    node: usize,
+    bytes: &[u8],
+    rows: &mut [u64],
+    row: usize,
+    s: State,
+) -> Step
+    requires { ⌜ Parent (now grammar) (now bytes) (now rows) node 3 row s ⌝ }
+    ensures { λ r. ⌜ Reads rowsOf (readBody (s .capacity) (now (bytes .entry)) (treeOf (now (grammar .entry)) node) (stateOf s)) (s .capacity) row (s .at) (now (rows .entry)) r (now (rows .exit)) ⌝ }
+{
+    let limit = (s.capacity - s.begun + 1) as u64;
+    match s.take_below(bytes, limit, refusal::ROWS_EXHAUSTED) {
+        Taken::Stopped(u, r) => Step::Stopped(u, r),
+        Taken::Number(count, u) => {
+            let child = child_at(grammar, node, 0);
+            let read = read_array_contents(grammar, child, bytes, rows, count, u);
+            close_row(rows, row, 3, count, read)
+        }
+    }
+}
+
+// Kind 4: the fields.
+fn read_tuple(
+    grammar: &[u32],
+    node: usize,
+    bytes: &[u8],
+    rows: &mut [u64],
+    row: usize,
+    s: State,
+) -> Step
+    requires { ⌜ Parent (now grammar) (now bytes) (now rows) node 4 row s ⌝ }
+    ensures { λ r. ⌜ Reads rowsOf (readBody (s .capacity) (now (bytes .entry)) (treeOf (now (grammar .entry)) node) (stateOf s)) (s .capacity) row (s .at) (now (rows .entry)) r (now (rows .exit)) ⌝ }
+{
+    let read = read_tuple_contents(grammar, node, bytes, rows, s);
+    let count = word(grammar, 3 + 3 * node);
+    close_row(rows, row, 4, count as u64, read)
+}
+
+// Kind 8: the tag, then the value of its case.
 fn read_case(
     grammar: &[u32],
     node: usize,
@@ -292,7 +319,7 @@ fn read_case(
     row: usize,
     s: State,
 ) -> Step
-    requires { ⌜ Node (now grammar) node × (kindWord (now grammar) node ≡ 8) × Ready (now bytes) (now rows) s × (s .begun ≡ row + 1) ⌝ }
+    requires { ⌜ Parent (now grammar) (now bytes) (now rows) node 8 row s ⌝ }
     ensures { λ r. ⌜ Reads rowsOf (readBody (s .capacity) (now (bytes .entry)) (treeOf (now (grammar .entry)) node) (stateOf s)) (s .capacity) row (s .at) (now (rows .entry)) r (now (rows .exit)) ⌝ }
 {
     let limit = word(grammar, 3 + 3 * node) as u64;

@@ -9,7 +9,7 @@ use route_record::{Parsed, Place, Refusal};
 type Answer = Result<Parsed, Refusal>;
 
 /// The bytes of stack within which a reading stays.
-const STACK: usize = 128 * 1_024;
+const STACK: usize = 64 * 1_024;
 
 /// 256 nodes, each but the last of this kind with the next as its one child, and a uint32.
 fn chain(kind: u32) -> Vec<u32> {

@@ -5,7 +5,7 @@
 //! each number is least byte first. The record is the store of the rows. Rows are four words each;
 //! a slice has as many rows as its words divided by 4, rounded down, at most 4,096.
 //!
-//! A call uses less than 128 KiB of stack, on grammars as deep as 256 nodes can be.
+//! A call uses less than 64 KiB of stack, on grammars as deep as 256 nodes can be.
 
 use crate::ffi::{self, Answer};
 use crate::refusal::Refusal;

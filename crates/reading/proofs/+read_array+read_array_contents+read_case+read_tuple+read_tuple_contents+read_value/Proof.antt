@@ -1,4 +1,5 @@
--- The readers of the cycle meet their contracts. The measure is the rows still free: twice for a value, one more for contents.
+-- The readers of the cycle meet their contracts. The measure is the rows still free: three times for a value, two more for an array,
+-- a tuple or a case, one more for contents.
 use mathlib.Core.Path.{_≡_, refl, ap, sym, subst, _∙_}
 use Prim.Native.Nat.{_+_, _-_, _*_, _≤_, zero-le}
 use native.Mathlib.Nat.{sub-zero, add-zero}
@@ -15,23 +16,29 @@ use Rattle.reading.specs.Meaning.{stateOf, TakenKeeps}
 use Rattle.reading.specs.Reads.{Ready, takeBelow}
 use Rattle.reading.proofs.Loop.{room-kept, Remaining, remaining-start, remaining-stopped, remaining-next, remaining-done, few-elements, few-fields, elements-next, elements-none, fields-next, fields-none}
 use Rattle.reading.proofs.Laws.{node-inside, taken-number, taken-stopped}
-use Rattle.reading.proofs.Arms.{Claimed, before, claimed-next, claimed-before, ready-before, claim-refused, below-taken, own-row, ready-claimed, ready-below, row-room, array-count, counted-elements, counted-fields, counted-value, arm-constant, arm-number, arm-elements, arm-array-stopped, arm-case-stopped, arm-array, arm-tuple, arm-case, arm-body, body-arm}
+use Rattle.reading.proofs.Arms.{Claimed, claimed-next, claim-refused, own-row, ready-claimed, parent-claimed, parent-row, parent-room, head-begun, head-below, head-ready, array-count, counted-elements, counted-fields, counted-value, arm-body, arm-constant, arm-number, arm-elements, arm-array, arm-array-stopped, arm-tuple, arm-case, arm-case-stopped}
 use borrow.Author.Needs.{needs}
 use Prim.Native.Nat.{ℕ, _<_}
 use borrow.Fn.Kinds.{In}
 use borrow.Fn.PlainCycle.{Measures, is, falls, and}
+use Rattle.reading.proofs.read_array.Reads as read-array
+use Rattle.reading.proofs.read_array.Kinds as read-array-kinds
+use Rattle.reading.proofs.+read_array+read_array_contents+read_case+read_tuple+read_tuple_contents+read_value.Lts-read_array as read-array-lts
 use Rattle.reading.proofs.read_array_contents.Reads as read-array-contents
 use Rattle.reading.proofs.read_array_contents.Kinds as read-array-contents-kinds
-use Rattle.reading.proofs.+read_array_contents+read_case+read_tuple_contents+read_value.Lts-read_array_contents as read-array-contents-lts
+use Rattle.reading.proofs.+read_array+read_array_contents+read_case+read_tuple+read_tuple_contents+read_value.Lts-read_array_contents as read-array-contents-lts
 use Rattle.reading.proofs.read_case.Reads as read-case
 use Rattle.reading.proofs.read_case.Kinds as read-case-kinds
-use Rattle.reading.proofs.+read_array_contents+read_case+read_tuple_contents+read_value.Lts-read_case as read-case-lts
+use Rattle.reading.proofs.+read_array+read_array_contents+read_case+read_tuple+read_tuple_contents+read_value.Lts-read_case as read-case-lts
+use Rattle.reading.proofs.read_tuple.Reads as read-tuple
+use Rattle.reading.proofs.read_tuple.Kinds as read-tuple-kinds
+use Rattle.reading.proofs.+read_array+read_array_contents+read_case+read_tuple+read_tuple_contents+read_value.Lts-read_tuple as read-tuple-lts
 use Rattle.reading.proofs.read_tuple_contents.Reads as read-tuple-contents
 use Rattle.reading.proofs.read_tuple_contents.Kinds as read-tuple-contents-kinds
-use Rattle.reading.proofs.+read_array_contents+read_case+read_tuple_contents+read_value.Lts-read_tuple_contents as read-tuple-contents-lts
+use Rattle.reading.proofs.+read_array+read_array_contents+read_case+read_tuple+read_tuple_contents+read_value.Lts-read_tuple_contents as read-tuple-contents-lts
 use Rattle.reading.proofs.read_value.Reads as read-value
 use Rattle.reading.proofs.read_value.Kinds as read-value-kinds
-use Rattle.reading.proofs.+read_array_contents+read_case+read_tuple_contents+read_value.Lts-read_value as read-value-lts
+use Rattle.reading.proofs.+read_array+read_array_contents+read_case+read_tuple+read_tuple_contents+read_value.Lts-read_value as read-value-lts
 use Rattle.reading.proofs.State.claim.Reads as claim-reads
 use Rattle.reading.proofs.State.take4.Reads as take4-reads
 use Rattle.reading.proofs.State.take8.Reads as take8-reads
@@ -43,20 +50,34 @@ use Rattle.reading.proofs.read_elements.Reads as read-elements-reads
 use Rattle.reading.proofs.read_number.Reads as read-number-reads
 use Rattle.reading.proofs.word.Reads as word-reads
 use Rattle.refusal.proofs.at_word.Reads as at-word-reads
-use Rattle.reading.proofs.+read_array_contents+read_case+read_tuple_contents+read_value.{statement}
-use Rattle.reading.proofs.+read_array_contents+read_case+read_tuple_contents+read_value.Tie.{close}
+use Rattle.reading.proofs.+read_array+read_array_contents+read_case+read_tuple+read_tuple_contents+read_value.{statement}
+use Rattle.reading.proofs.+read_array+read_array_contents+read_case+read_tuple+read_tuple_contents+read_value.Tie.{close}
+
+abbrev μ-read-array : Measures 3 read-array-kinds.ps ℕ
+μ-read-array κs a = 3 * (a .1 .1 .1 .1 .1 .0 .capacity - a .1 .1 .1 .1 .1 .0 .begun) + 2
 
 abbrev μ-read-array-contents : Measures 3 read-array-contents-kinds.ps ℕ
-μ-read-array-contents κs a = 2 * (a .1 .1 .1 .1 .1 .0 .capacity - a .1 .1 .1 .1 .1 .0 .begun) + 1
+μ-read-array-contents κs a = 3 * (a .1 .1 .1 .1 .1 .0 .capacity - a .1 .1 .1 .1 .1 .0 .begun) + 1
 
 abbrev μ-read-case : Measures 3 read-case-kinds.ps ℕ
-μ-read-case κs a = 2 * (a .1 .1 .1 .1 .1 .0 .capacity - a .1 .1 .1 .1 .1 .0 .begun) + 1
+μ-read-case κs a = 3 * (a .1 .1 .1 .1 .1 .0 .capacity - a .1 .1 .1 .1 .1 .0 .begun) + 2
+
+abbrev μ-read-tuple : Measures 3 read-tuple-kinds.ps ℕ
+μ-read-tuple κs a = 3 * (a .1 .1 .1 .1 .1 .0 .capacity - a .1 .1 .1 .1 .1 .0 .begun) + 2
 
 abbrev μ-read-tuple-contents : Measures 3 read-tuple-contents-kinds.ps ℕ
-μ-read-tuple-contents κs a = 2 * (a .1 .1 .1 .1 .0 .capacity - a .1 .1 .1 .1 .0 .begun) + 1
+μ-read-tuple-contents κs a = 3 * (a .1 .1 .1 .1 .0 .capacity - a .1 .1 .1 .1 .0 .begun) + 1
 
 abbrev μ-read-value : Measures 3 read-value-kinds.ps ℕ
-μ-read-value κs a = 2 * (a .1 .1 .1 .1 .0 .capacity - a .1 .1 .1 .1 .0 .begun)
+μ-read-value κs a = 3 * (a .1 .1 .1 .1 .0 .capacity - a .1 .1 .1 .1 .0 .begun)
+
+abbrev read-array-at : ℕ → In 3 read-array-kinds.ps
+read-array-at t =
+    and 3 read-array-kinds.ps (is 3 read-array-kinds.ps μ-read-array t) read-array.Pre
+
+abbrev read-array-below : ℕ → In 3 read-array-kinds.ps
+read-array-below t =
+    and 3 read-array-kinds.ps (falls 3 read-array-kinds.ps _<_ μ-read-array t) read-array.Pre
 
 abbrev read-array-contents-at : ℕ → In 3 read-array-contents-kinds.ps
 read-array-contents-at t =
@@ -80,6 +101,14 @@ read-case-at t = and 3 read-case-kinds.ps (is 3 read-case-kinds.ps μ-read-case 
 abbrev read-case-below : ℕ → In 3 read-case-kinds.ps
 read-case-below t =
     and 3 read-case-kinds.ps (falls 3 read-case-kinds.ps _<_ μ-read-case t) read-case.Pre
+
+abbrev read-tuple-at : ℕ → In 3 read-tuple-kinds.ps
+read-tuple-at t =
+    and 3 read-tuple-kinds.ps (is 3 read-tuple-kinds.ps μ-read-tuple t) read-tuple.Pre
+
+abbrev read-tuple-below : ℕ → In 3 read-tuple-kinds.ps
+read-tuple-below t =
+    and 3 read-tuple-kinds.ps (falls 3 read-tuple-kinds.ps _<_ μ-read-tuple t) read-tuple.Pre
 
 abbrev read-tuple-contents-at : ℕ → In 3 read-tuple-contents-kinds.ps
 read-tuple-contents-at t =
@@ -105,17 +134,81 @@ abbrev read-value-below : ℕ → In 3 read-value-kinds.ps
 read-value-below t =
     and 3 read-value-kinds.ps (falls 3 read-value-kinds.ps _<_ μ-read-value t) read-value.Pre
 
+abbrev read-array-calls : ℕ → read-array-lts.Claims
+read-array-calls t = (take-below-reads.Asked, take-below-reads.Learnt, child-at-reads.Asked, child-at-reads.Learnt, read-array-contents-below t, read-array-contents.Post, close-row-reads.Asked, close-row-reads.Learnt)
+
 abbrev read-array-contents-calls : ℕ → read-array-contents-lts.Claims
 read-array-contents-calls t = (read-value-below t, read-value.Post)
 
 abbrev read-case-calls : ℕ → read-case-lts.Claims
 read-case-calls t = (word-reads.Asked, word-reads.Learnt, take-below-reads.Asked, take-below-reads.Learnt, child-at-reads.Asked, child-at-reads.Learnt, read-value-below t, read-value.Post, close-row-reads.Asked, close-row-reads.Learnt)
 
+abbrev read-tuple-calls : ℕ → read-tuple-lts.Claims
+read-tuple-calls t = (read-tuple-contents-below t, read-tuple-contents.Post, word-reads.Asked, word-reads.Learnt, close-row-reads.Asked, close-row-reads.Learnt)
+
 abbrev read-tuple-contents-calls : ℕ → read-tuple-contents-lts.Claims
 read-tuple-contents-calls t = (word-reads.Asked, word-reads.Learnt, child-at-reads.Asked, child-at-reads.Learnt, read-value-below t, read-value.Post)
 
 abbrev read-value-calls : ℕ → read-value-lts.Claims
-read-value-calls t = (claim-reads.Asked, claim-reads.Learnt, read-constant-reads.Asked, read-constant-reads.Learnt, take4-reads.Asked, take4-reads.Learnt, read-number-reads.Asked, read-number-reads.Learnt, take8-reads.Asked, take8-reads.Learnt, take-below-reads.Asked, take-below-reads.Learnt, child-at-reads.Asked, child-at-reads.Learnt, read-array-contents-below t, read-array-contents.Post, close-row-reads.Asked, close-row-reads.Learnt, read-tuple-contents-below t, read-tuple-contents.Post, word-reads.Asked, word-reads.Learnt, read-elements-reads.Asked, read-elements-reads.Learnt, read-case-below t, read-case.Post, at-word-reads.Asked, at-word-reads.Learnt)
+read-value-calls t = (claim-reads.Asked, claim-reads.Learnt, read-constant-reads.Asked, read-constant-reads.Learnt, take4-reads.Asked, take4-reads.Learnt, read-number-reads.Asked, read-number-reads.Learnt, take8-reads.Asked, take8-reads.Learnt, read-array-below t, read-array.Post, read-tuple-below t, read-tuple.Post, read-elements-reads.Asked, read-elements-reads.Learnt, read-case-below t, read-case.Post, at-word-reads.Asked, at-word-reads.Learnt)
+
+-- a count was taken
+count-taken : (t : ℕ) (c : read-array-lts.After-count (read-array-calls t) (read-array-at t) read-array.Post) → yield (c .count .given .0 .0) (stateOf (c .count .given .0 .1 .0)) ≡ takeBelow (c .before .before .before .before .before .before .before .args .bytes .now) (c .before .before .before .before .before .before .before .args .s .capacity - c .before .before .before .before .before .before .before .args .s .begun + 1) 8 (stateOf (c .before .before .before .before .before .before .before .args .s))
+count-taken t c = taken-number (c .count .given .0 .0) (c .count .given .0 .1 .0) (c .count .given .1) (c .before .before .take-below .ensures .0)
+
+count-keeps : (t : ℕ) (c : read-array-lts.After-count (read-array-calls t) (read-array-at t) read-array.Post) → c .count .given .0 .1 .0 .capacity ≡ c .before .before .before .before .before .before .before .args .s .capacity
+count-keeps t c = rw (c .count .given .1) at (c .before .before .take-below .ensures .1)
+
+count-ready : (t : ℕ) (c : read-array-lts.After-count (read-array-calls t) (read-array-at t) read-array.Post) → Ready (c .before .before .before .before .before .before .before .args .bytes .now) (c .before .before .before .before .before .before .before .args .rows .now) (c .count .given .0 .1 .0)
+count-ready t c = head-ready (c .before .before .before .before .before .before .before .pre .1) _ 8 (c .count .given .0 .0) (c .count .given .0 .1 .0) (count-taken t c) (count-keeps t c)
+
+count-begun : (t : ℕ) (c : read-array-lts.After-count (read-array-calls t) (read-array-at t) read-array.Post) → c .count .given .0 .1 .0 .begun ≡ c .before .before .before .before .before .before .before .args .s .begun
+count-begun t c = head-begun (c .before .before .before .before .before .before .before .pre .1) _ 8 (c .count .given .0 .0) (c .count .given .0 .1 .0) (count-taken t c) (count-keeps t c)
+
+read-array-sub-limit : (t : ℕ) → read-array-lts.Need-sub-limit (read-array-calls t) (read-array-at t) read-array.Post
+read-array-sub-limit t c = search needs
+
+read-array-add-limit : (t : ℕ) → read-array-lts.Need-add-limit (read-array-calls t) (read-array-at t) read-array.Post
+read-array-add-limit t c = search needs
+
+read-array-take-below-requires : (t : ℕ) → read-array-lts.Need-take-below-requires (read-array-calls t) (read-array-at t) read-array.Post
+read-array-take-below-requires t c κs = search needs
+
+read-array-enum-known-u : (t : ℕ) → read-array-lts.Need-enum-known-u (read-array-calls t) (read-array-at t) read-array.Post
+read-array-enum-known-u t c = search needs
+
+read-array-enum-known-count : (t : ℕ) → read-array-lts.Need-enum-known-count (read-array-calls t) (read-array-at t) read-array.Post
+read-array-enum-known-count t c = search needs
+
+read-array-child-at-requires : (t : ℕ) → read-array-lts.Need-child-at-requires (read-array-calls t) (read-array-at t) read-array.Post
+read-array-child-at-requires t c κs =
+    let p = c .before .before .before .before .before .before .before .before .pre .1 in
+    (p .node, omega (arith, array-count (c .before .before .before .before .before .before .before .before .args .grammar .now) (c .before .before .before .before .before .before .before .before .args .node) (p .node) (p .kind)))
+
+read-array-read-array-contents-requires : (t : ℕ) → read-array-lts.Need-read-array-contents-requires (read-array-calls t) (read-array-at t) read-array.Post
+read-array-read-array-contents-requires t c κs =
+    let p = c .before .before .before .before .before .before .before .before .before .before .pre in
+    (omega (arith, p .0, count-begun t (c .before .before .before), count-keeps t (c .before .before .before)), (record { passes = p .1 .node .passes; below = c .before .child-at .ensures .1; words = p .1 .node .words }, count-ready t (c .before .before .before)))
+
+read-array-close-row-requires : (t : ℕ) → read-array-lts.Need-close-row-requires (read-array-calls t) (read-array-at t) read-array.Post
+read-array-close-row-requires t c κs =
+    let p = c .before .before .before .before .before .before .before .before .before .before .before .before .before .before .pre .1 in
+    let r = c .before .before .before .read-array-contents in
+    (parent-row p, parent-room p _ (r .kept .1 .1 .1 .0), counted-elements (c .before .before .before .before .before .before .before .count .given .0 .1 .0) (treeOf (c .before .before .before .before .before .before .before .before .before .before .before .before .before .before .args .grammar .now) (c .before .before .before .before .before .child-at .result)) (c .before .before .before .before .before .before .before .count .given .0 .0) (r .result) (count-ready t (c .before .before .before .before .before .before .before)) (omega (arith, count-begun t (c .before .before .before .before .before .before .before), p .claimed)) (r .ensures))
+
+read-array-returns : (t : ℕ) → read-array-lts.Need-returns (read-array-calls t) (read-array-at t) read-array.Post
+read-array-returns t c =
+    let g = c .before .u .given in
+    arm-array-stopped (c .before .before .before .before .before .before .before .before .pre .1) (g .0 .0) (g .0 .1 .0) (taken-stopped (g .0 .0) (g .0 .1 .0) (g .1) (c .before .before .before .take-below .ensures .0)) (rw (g .1) at (c .before .before .before .take-below .ensures .1))
+
+read-array-same-length : (t : ℕ) → read-array-lts.Need-same-length (read-array-calls t) (read-array-at t) read-array.Post
+read-array-same-length t c = search needs
+
+read-array-returns-2 : (t : ℕ) → read-array-lts.Need-returns-2 (read-array-calls t) (read-array-at t) read-array.Post
+read-array-returns-2 t c =
+    let g = c .before .before .before .before .before .before .before .before .before .before .count .given in
+    let h = c .before .before .before .before .before .before .before .before .child-at in
+    arm-array (c .before .before .before .before .before .before .before .before .before .before .before .before .before .before .before .before .before .pre .1) (h .result) (g .0 .0) (g .0 .1 .0) (h .ensures .0) (count-taken t (c .before .before .before .before .before .before .before .before .before .before)) (count-keeps t (c .before .before .before .before .before .before .before .before .before .before)) (c .before .before .before .before .before .before .read-array-contents .ensures) (c .before .before .close-row .ensures .0) (c .before .before .close-row .ensures .1)
 
 abbrev read-array-contents-Inv-loop : read-array-contents-lts.InvT-loop
 read-array-contents-Inv-loop grammar child bytes rows₀ count t₀ i₀ rows t i = (i ≤ count) × Remaining bytes rows₀ t₀ (elements count (readVal (t₀ .capacity) bytes (treeOf grammar child)) (stateOf t₀)) rows t (elements (count - i) (readVal (t₀ .capacity) bytes (treeOf grammar child)) (stateOf t))
@@ -226,26 +319,18 @@ read-array-contents-returns-2 t c =
     let l = c .before .loop in
     remaining-done (l .inv .1) (elements-none (a .s .capacity) (a .bytes .now) (treeOf (a .grammar .now) (a .child)) (stateOf (l .t)) (a .count) (l .i) (c .loop-test .left))
 
--- the row of the case was claimed before, and what its tag says of the state behind it
-case-claimed : (t : ℕ) (c : read-case-lts.After-tag (read-case-calls t) (read-case-at t) read-case.Post) → Claimed (before (c .before .before .before .before .before .before .before .args .s) (c .before .before .before .before .before .before .before .args .row)) (c .before .before .before .before .before .before .before .args .s)
-case-claimed t c =
-    let a = c .before .before .before .before .before .before .before .args in
-    let p = c .before .before .before .before .before .before .before .pre .1 in
-    claimed-before (a .s) (a .row) (p .3) (p .2 .few)
-
+-- a tag was taken
 tag-taken : (t : ℕ) (c : read-case-lts.After-tag (read-case-calls t) (read-case-at t) read-case.Post) → yield (c .tag .given .0 .0) (stateOf (c .tag .given .0 .1 .0)) ≡ takeBelow (c .before .before .before .before .before .before .before .args .bytes .now) (c .before .before .before .word .result) 10 (stateOf (c .before .before .before .before .before .before .before .args .s))
 tag-taken t c = taken-number (c .tag .given .0 .0) (c .tag .given .0 .1 .0) (c .tag .given .1) (c .before .before .take-below .ensures .0)
 
-tag-behind : (t : ℕ) (c : read-case-lts.After-tag (read-case-calls t) (read-case-at t) read-case.Post) → (c .tag .given .0 .1 .0 .begun ≡ c .before .before .before .before .before .before .before .args .s .begun) × (c .tag .given .0 .0 < c .before .before .before .word .result)
-tag-behind t c =
-    let y = below-taken (c .before .before .before .before .before .before .before .args .bytes .now) (c .before .before .before .word .result) 10 (stateOf (c .before .before .before .before .before .before .before .args .s)) (c .tag .given .0 .0) (c .tag .given .0 .1 .0) (tag-taken t c) in
-    (y .1, y .2)
+tag-keeps : (t : ℕ) (c : read-case-lts.After-tag (read-case-calls t) (read-case-at t) read-case.Post) → c .tag .given .0 .1 .0 .capacity ≡ c .before .before .before .before .before .before .before .args .s .capacity
+tag-keeps t c = rw (c .tag .given .1) at (c .before .before .take-below .ensures .1)
 
 tag-ready : (t : ℕ) (c : read-case-lts.After-tag (read-case-calls t) (read-case-at t) read-case.Post) → Ready (c .before .before .before .before .before .before .before .args .bytes .now) (c .before .before .before .before .before .before .before .args .rows .now) (c .tag .given .0 .1 .0)
-tag-ready t c =
-    let a = c .before .before .before .before .before .before .before .args in
-    let p = c .before .before .before .before .before .before .before .pre .1 in
-    ready-below (p .0) (ready-before (a .s) (a .row) (p .3) (p .2)) (case-claimed t c) (c .before .before .before .word .result) 10 (c .tag .given .0 .0) (c .tag .given .0 .1 .0) (tag-taken t c) (rw (c .tag .given .1) at (c .before .before .take-below .ensures .1))
+tag-ready t c = head-ready (c .before .before .before .before .before .before .before .pre .1) _ 10 (c .tag .given .0 .0) (c .tag .given .0 .1 .0) (tag-taken t c) (tag-keeps t c)
+
+tag-begun : (t : ℕ) (c : read-case-lts.After-tag (read-case-calls t) (read-case-at t) read-case.Post) → c .tag .given .0 .1 .0 .begun ≡ c .before .before .before .before .before .before .before .args .s .begun
+tag-begun t c = head-begun (c .before .before .before .before .before .before .before .pre .1) _ 10 (c .tag .given .0 .0) (c .tag .given .0 .1 .0) (tag-taken t c) (tag-keeps t c)
 
 read-case-mul-word : (t : ℕ) → read-case-lts.Need-mul-word (read-case-calls t) (read-case-at t) read-case.Post
 read-case-mul-word t c = search needs
@@ -266,46 +351,66 @@ read-case-enum-known-tag : (t : ℕ) → read-case-lts.Need-enum-known-tag (read
 read-case-enum-known-tag t c = search needs
 
 read-case-child-at-requires : (t : ℕ) → read-case-lts.Need-child-at-requires (read-case-calls t) (read-case-at t) read-case.Post
-read-case-child-at-requires t c κs = (c .before .before .before .before .before .before .before .before .pre .1 .0, omega (arith, tag-behind t (c .before) .1, c .before .before .before .before .word .ensures .0))
+read-case-child-at-requires t c κs =
+    let p = c .before .before .before .before .before .before .before .before .pre .1 in
+    let k = c .before in
+    (p .node, omega (arith, head-below p _ 10 (k .tag .given .0 .0) (k .tag .given .0 .1 .0) (tag-taken t k) (tag-keeps t k), c .before .before .before .before .word .ensures .0))
 
 read-case-read-value-requires : (t : ℕ) → read-case-lts.Need-read-value-requires (read-case-calls t) (read-case-at t) read-case.Post
 read-case-read-value-requires t c κs =
     let p = c .before .before .before .before .before .before .before .before .before .before .pre in
-    let k = rw (c .before .before .before .tag .given .1) at (c .before .before .before .before .before .take-below .ensures .1) in
-    (omega (arith, p .0, tag-behind t (c .before .before .before) .0, k), (record { passes = p .1 .0 .passes; below = c .before .child-at .ensures .1; words = p .1 .0 .words }, tag-ready t (c .before .before .before)))
+    (omega (arith, p .0, tag-begun t (c .before .before .before), tag-keeps t (c .before .before .before)), (record { passes = p .1 .node .passes; below = c .before .child-at .ensures .1; words = p .1 .node .words }, tag-ready t (c .before .before .before)))
 
 read-case-close-row-requires : (t : ℕ) → read-case-lts.Need-close-row-requires (read-case-calls t) (read-case-at t) read-case.Post
 read-case-close-row-requires t c κs =
-    let a = c .before .before .before .before .before .before .before .before .before .before .before .before .before .before .args in
     let p = c .before .before .before .before .before .before .before .before .before .before .before .before .before .before .pre .1 in
-    let q = case-claimed t (c .before .before .before .before .before .before .before) in
-    let o = own-row (p .0) (ready-before (a .s) (a .row) (p .3) (p .2)) q in
-    let l = c .before .before .before .read-value .kept .1 .1 .1 .0 in
-    (o .0, row-room (a .s .capacity) (a .row) _ (room-kept (a .s .capacity) (a .rows .now) _ l (p .2 .room)) (q .free), counted-value (c .before .before .before .before .before .before .before .tag .given .0 .1 .0) (treeOf (a .grammar .now) (c .before .before .before .before .before .child-at .result)) (c .before .before .before .read-value .result) (tag-ready t (c .before .before .before .before .before .before .before)) (omega (arith, tag-behind t (c .before .before .before .before .before .before .before) .0, p .3)) (c .before .before .before .read-value .ensures))
+    let r = c .before .before .before .read-value in
+    (parent-row p, parent-room p _ (r .kept .1 .1 .1 .0), counted-value (c .before .before .before .before .before .before .before .tag .given .0 .1 .0) (treeOf (c .before .before .before .before .before .before .before .before .before .before .before .before .before .before .args .grammar .now) (c .before .before .before .before .before .child-at .result)) (r .result) (tag-ready t (c .before .before .before .before .before .before .before)) (omega (arith, tag-begun t (c .before .before .before .before .before .before .before), p .claimed)) (r .ensures))
 
 read-case-returns : (t : ℕ) → read-case-lts.Need-returns (read-case-calls t) (read-case-at t) read-case.Post
 read-case-returns t c =
-    let a = c .before .before .before .before .before .before .before .before .args in
-    let p = c .before .before .before .before .before .before .before .before .pre .1 in
     let g = c .before .u .given in
-    let r = ready-before (a .s) (a .row) (p .3) (p .2) in
-    let q = claimed-before (a .s) (a .row) (p .3) (p .2 .few) in
-    body-arm (a .grammar .now) (a .node) (a .bytes .now) (a .rows .now) (before (a .s) (a .row)) (a .s) (p .0) r q
-    (arm-case-stopped (a .grammar .now) (a .node) (a .bytes .now) (a .rows .now) (before (a .s) (a .row)) (a .s) (p .0) r q (c .before .before .before .before .word .result) (g .0 .0) (g .0 .1 .0) (p .1) (c .before .before .before .before .word .ensures .0) (taken-stopped (g .0 .0) (g .0 .1 .0) (g .1) (c .before .before .before .take-below .ensures .0)) (rw (g .1) at (c .before .before .before .take-below .ensures .1)))
+    let n = c .before .before .before .before .word in
+    arm-case-stopped (c .before .before .before .before .before .before .before .before .pre .1) (n .result) (g .0 .0) (g .0 .1 .0) (n .ensures .0) (taken-stopped (g .0 .0) (g .0 .1 .0) (g .1) (c .before .before .before .take-below .ensures .0)) (rw (g .1) at (c .before .before .before .take-below .ensures .1))
 
 read-case-same-length : (t : ℕ) → read-case-lts.Need-same-length (read-case-calls t) (read-case-at t) read-case.Post
 read-case-same-length t c = search needs
 
 read-case-returns-2 : (t : ℕ) → read-case-lts.Need-returns-2 (read-case-calls t) (read-case-at t) read-case.Post
 read-case-returns-2 t c =
-    let a = c .before .before .before .before .before .before .before .before .before .before .before .before .before .before .before .before .before .args in
-    let p = c .before .before .before .before .before .before .before .before .before .before .before .before .before .before .before .before .before .pre .1 in
     let g = c .before .before .before .before .before .before .before .before .before .before .tag .given in
-    let r = ready-before (a .s) (a .row) (p .3) (p .2) in
-    let q = case-claimed t (c .before .before .before .before .before .before .before .before .before .before) in
+    let h = c .before .before .before .before .before .before .before .before .child-at in
     let n = c .before .before .before .before .before .before .before .before .before .before .before .before .before .word in
-    body-arm (a .grammar .now) (a .node) (a .bytes .now) (a .rows .now) (before (a .s) (a .row)) (a .s) (p .0) r q
-    (arm-case (a .grammar .now) (a .node) (a .bytes .now) (a .rows .now) (before (a .s) (a .row)) (a .s) (p .0) r q (c .before .before .before .before .before .before .before .before .child-at .result) (g .0 .0) (n .result) (g .0 .1 .0) (p .1) (n .ensures .0) (c .before .before .before .before .before .before .before .before .child-at .ensures .0) (tag-taken t (c .before .before .before .before .before .before .before .before .before .before)) (rw (g .1) at (c .before .before .before .before .before .before .before .before .before .before .before .before .take-below .ensures .1)) (c .before .before .before .before .before .before .read-value .ensures) (c .before .before .close-row .ensures .0) (c .before .before .close-row .ensures .1))
+    arm-case (c .before .before .before .before .before .before .before .before .before .before .before .before .before .before .before .before .before .pre .1) (h .result) (g .0 .0) (n .result) (g .0 .1 .0) (n .ensures .0) (h .ensures .0) (tag-taken t (c .before .before .before .before .before .before .before .before .before .before)) (tag-keeps t (c .before .before .before .before .before .before .before .before .before .before)) (c .before .before .before .before .before .before .read-value .ensures) (c .before .before .close-row .ensures .0) (c .before .before .close-row .ensures .1)
+
+read-tuple-read-tuple-contents-requires : (t : ℕ) → read-tuple-lts.Need-read-tuple-contents-requires (read-tuple-calls t) (read-tuple-at t) read-tuple.Post
+read-tuple-read-tuple-contents-requires t c κs =
+    let p = c .before .before .before .before .pre in
+    (omega (arith, p .0), (p .1 .node, p .1 .ready))
+
+read-tuple-mul-word : (t : ℕ) → read-tuple-lts.Need-mul-word (read-tuple-calls t) (read-tuple-at t) read-tuple.Post
+read-tuple-mul-word t c = search needs
+
+read-tuple-add-word : (t : ℕ) → read-tuple-lts.Need-add-word (read-tuple-calls t) (read-tuple-at t) read-tuple.Post
+read-tuple-add-word t c = search needs
+
+read-tuple-word-requires : (t : ℕ) → read-tuple-lts.Need-word-requires (read-tuple-calls t) (read-tuple-at t) read-tuple.Post
+read-tuple-word-requires t c κs = search needs
+
+read-tuple-close-row-requires : (t : ℕ) → read-tuple-lts.Need-close-row-requires (read-tuple-calls t) (read-tuple-at t) read-tuple.Post
+read-tuple-close-row-requires t c κs =
+    let a = c .before .before .before .before .before .before .before .before .before .args in
+    let p = c .before .before .before .before .before .before .before .before .before .pre .1 in
+    let r = c .before .before .before .before .read-tuple-contents in
+    (parent-row p, parent-room p _ (r .kept .1 .1 .1 .0), counted-fields (a .s) _ (r .result) (p .ready) (omega (arith, p .claimed)) (r .ensures))
+
+read-tuple-same-length : (t : ℕ) → read-tuple-lts.Need-same-length (read-tuple-calls t) (read-tuple-at t) read-tuple.Post
+read-tuple-same-length t c = search needs
+
+read-tuple-returns : (t : ℕ) → read-tuple-lts.Need-returns (read-tuple-calls t) (read-tuple-at t) read-tuple.Post
+read-tuple-returns t c =
+    let n = c .before .before .before .before .word in
+    arm-tuple (c .before .before .before .before .before .before .before .before .before .before .before .before .pre .1) (n .result) (n .ensures .0) (c .before .before .before .before .before .before .before .read-tuple-contents .ensures) (c .before .before .close-row .ensures .0) (c .before .before .close-row .ensures .1)
 
 abbrev read-tuple-contents-Inv-loop : read-tuple-contents-lts.InvT-loop
 read-tuple-contents-Inv-loop grammar node bytes rows₀ count t₀ i₀ rows t i = (i ≤ count) × (count ≡ countWord grammar node) × Remaining bytes rows₀ t₀ (readFields (t₀ .capacity) bytes (childTrees grammar (treeOf grammar) (firstWord grammar node) (countWord grammar node)) (stateOf t₀)) rows t (readFields (t₀ .capacity) bytes (childTrees grammar (treeOf grammar) (firstWord grammar node + i) (countWord grammar node - i)) (stateOf t))
@@ -526,94 +631,17 @@ read-value-read-number-requires-2 t c κs =
     let q = claimed-row t (c .before .before .before .before .before) in
     own-row (p .0) (p .1) q
 
-read-value-sub-limit : (t : ℕ) → read-value-lts.Need-sub-limit (read-value-calls t) (read-value-at t) read-value.Post
-read-value-sub-limit t c =
-    let a = c .before .before .before .before .before .before .before .before .before .before .args in
-    let p = c .before .before .before .before .before .before .before .before .before .before .pre .1 in
+read-value-read-array-requires : (t : ℕ) → read-value-lts.Need-read-array-requires (read-value-calls t) (read-value-at t) read-value.Post
+read-value-read-array-requires t c κs =
+    let p = c .before .before .before .before .before .before .before .before .before .before .pre in
     let q = claimed-row t (c .before .before .before .before) in
-    ready-claimed (p .0) (p .1) q .few
+    (omega (arith, p .0, q .begun, q .capacity, q .free), parent-claimed (p .1 .0) (p .1 .1) q (c .before .match2 .keys4))
 
-read-value-add-limit : (t : ℕ) → read-value-lts.Need-add-limit (read-value-calls t) (read-value-at t) read-value.Post
-read-value-add-limit t c =
-    let a = c .before .before .before .before .before .before .before .before .before .before .args in
-    let p = c .before .before .before .before .before .before .before .before .before .before .pre .1 in
+read-value-read-tuple-requires : (t : ℕ) → read-value-lts.Need-read-tuple-requires (read-value-calls t) (read-value-at t) read-value.Post
+read-value-read-tuple-requires t c κs =
+    let p = c .before .before .before .before .before .before .before .before .before .before .pre in
     let q = claimed-row t (c .before .before .before .before) in
-    omega (arith, ready-claimed (p .0) (p .1) q .most)
-
-read-value-take-below-requires : (t : ℕ) → read-value-lts.Need-take-below-requires (read-value-calls t) (read-value-at t) read-value.Post
-read-value-take-below-requires t c κs =
-    let a = c .before .before .before .before .before .before .before .before .before .before .args in
-    let p = c .before .before .before .before .before .before .before .before .before .before .pre .1 in
-    let q = claimed-row t (c .before .before .before .before) in
-    let r = ready-claimed (p .0) (p .1) q in
-    (r .inside, r .short)
-
-read-value-enum-known-u : (t : ℕ) → read-value-lts.Need-enum-known-u (read-value-calls t) (read-value-at t) read-value.Post
-read-value-enum-known-u t c = search needs
-
-read-value-enum-known-n : (t : ℕ) → read-value-lts.Need-enum-known-n (read-value-calls t) (read-value-at t) read-value.Post
-read-value-enum-known-n t c = search needs
-
-read-value-child-at-requires : (t : ℕ) → read-value-lts.Need-child-at-requires (read-value-calls t) (read-value-at t) read-value.Post
-read-value-child-at-requires t c κs =
-    let a = c .before .before .before .before .before .before .before .before .before .before .before .before .before .before .args in
-    let p = c .before .before .before .before .before .before .before .before .before .before .before .before .before .before .pre .1 in
-    (p .0, omega (arith, array-count (a .grammar .now) (a .node) (p .0) (c .before .before .before .before .before .match2 .keys4)))
-
-read-value-read-array-contents-requires :
-    (t : ℕ) → read-value-lts.Need-read-array-contents-requires (read-value-calls t) (read-value-at t) read-value.Post
-read-value-read-array-contents-requires t c κs =
-    let a = c .before .before .before .before .before .before .before .before .before .before .before .before .before .before .before .before .args in
-    let p = c .before .before .before .before .before .before .before .before .before .before .before .before .before .before .before .before .pre .1 in
-    let q = claimed-row t (c .before .before .before .before .before .before .before .before .before .before) in
-    let g = c .before .before .before .n .given in
-    let h = taken-number (g .0 .0) (g .0 .1 .0) (g .1) (c .before .before .before .before .before .take-below .ensures .0) in
-    let m = rw (g .1) at (c .before .before .before .before .before .take-below .ensures .1) in
-    let y = below-taken (a .bytes .now) (c .before .before .before .before .before .before .before .before .before .before .t2 .given .0 .0 .capacity - c .before .before .before .before .before .before .before .before .before .before .t2 .given .0 .0 .begun + 1) 8 (stateOf (c .before .before .before .before .before .before .before .before .before .before .t2 .given .0 .0)) (g .0 .0) (g .0 .1 .0) h in
-    let r = ready-below (p .0) (p .1) q (c .before .before .before .before .before .before .before .before .before .before .t2 .given .0 .0 .capacity - c .before .before .before .before .before .before .before .before .before .before .t2 .given .0 .0 .begun + 1) 8 (g .0 .0) (g .0 .1 .0) h m in
-    (omega (arith, c .before .before .before .before .before .before .before .before .before .before .before .before .before .before .before .before .pre .0, y .1, m, q .begun, q .capacity, q .free), (record { passes = p .0 .passes; below = c .before .child-at .ensures .1; words = p .0 .words }, r))
-
-read-value-close-row-requires : (t : ℕ) → read-value-lts.Need-close-row-requires (read-value-calls t) (read-value-at t) read-value.Post
-read-value-close-row-requires t c κs =
-    let a = c .before .before .before .before .before .before .before .before .before .before .before .before .before .before .before .before .before .before .before .before .args in
-    let p = c .before .before .before .before .before .before .before .before .before .before .before .before .before .before .before .before .before .before .before .before .pre .1 in
-    let q = claimed-row t (c .before .before .before .before .before .before .before .before .before .before .before .before .before .before) in
-    let g = c .before .before .before .before .before .before .before .n .given in
-    let h = taken-number (g .0 .0) (g .0 .1 .0) (g .1) (c .before .before .before .before .before .before .before .before .before .take-below .ensures .0) in
-    let m = rw (g .1) at (c .before .before .before .before .before .before .before .before .before .take-below .ensures .1) in
-    let y = below-taken (a .bytes .now) (c .before .before .before .before .before .before .before .before .before .before .before .before .before .before .t2 .given .0 .0 .capacity - c .before .before .before .before .before .before .before .before .before .before .before .before .before .before .t2 .given .0 .0 .begun + 1) 8 (stateOf (c .before .before .before .before .before .before .before .before .before .before .before .before .before .before .t2 .given .0 .0)) (g .0 .0) (g .0 .1 .0) h in
-    let r = ready-below (p .0) (p .1) q (c .before .before .before .before .before .before .before .before .before .before .before .before .before .before .t2 .given .0 .0 .capacity - c .before .before .before .before .before .before .before .before .before .before .before .before .before .before .t2 .given .0 .0 .begun + 1) 8 (g .0 .0) (g .0 .1 .0) h m in
-    let o = own-row (p .0) (p .1) q in
-    let l = c .before .before .before .read-array-contents .kept .1 .1 .1 .0 in
-    (o .0, row-room (a .s .capacity) (a .s .begun) _ (room-kept (a .s .capacity) (a .rows .now) _ l (p .1 .room)) (q .free), counted-elements (g .0 .1 .0) (treeOf (a .grammar .now) (c .before .before .before .before .before .child-at .result)) (g .0 .0) (c .before .before .before .read-array-contents .result) r (omega (arith, y .1, q .begun)) (c .before .before .before .read-array-contents .ensures))
-
-read-value-read-tuple-contents-requires :
-    (t : ℕ) → read-value-lts.Need-read-tuple-contents-requires (read-value-calls t) (read-value-at t) read-value.Post
-read-value-read-tuple-contents-requires t c κs =
-    let a = c .before .before .before .before .before .before .before .before .before .before .args in
-    let p = c .before .before .before .before .before .before .before .before .before .before .pre .1 in
-    let q = claimed-row t (c .before .before .before .before) in
-    let r = ready-claimed (p .0) (p .1) q in
-    (omega (arith, c .before .before .before .before .before .before .before .before .before .before .pre .0, q .begun, q .capacity, q .free), (p .0, r))
-
-read-value-mul-word : (t : ℕ) → read-value-lts.Need-mul-word (read-value-calls t) (read-value-at t) read-value.Post
-read-value-mul-word t c = search needs
-
-read-value-add-word : (t : ℕ) → read-value-lts.Need-add-word (read-value-calls t) (read-value-at t) read-value.Post
-read-value-add-word t c = search needs
-
-read-value-word-requires : (t : ℕ) → read-value-lts.Need-word-requires (read-value-calls t) (read-value-at t) read-value.Post
-read-value-word-requires t c κs = search needs
-
-read-value-close-row-requires-2 : (t : ℕ) → read-value-lts.Need-close-row-requires-2 (read-value-calls t) (read-value-at t) read-value.Post
-read-value-close-row-requires-2 t c κs =
-    let a = c .before .before .before .before .before .before .before .before .before .before .before .before .before .before .before .args in
-    let p = c .before .before .before .before .before .before .before .before .before .before .before .before .before .before .before .pre .1 in
-    let q = claimed-row t (c .before .before .before .before .before .before .before .before .before) in
-    let o = own-row (p .0) (p .1) q in
-    let r = ready-claimed (p .0) (p .1) q in
-    let l = c .before .before .before .before .read-tuple-contents .kept .1 .1 .1 .0 in
-    (o .0, row-room (a .s .capacity) (a .s .begun) _ (room-kept (a .s .capacity) (a .rows .now) _ l (p .1 .room)) (q .free), counted-fields (c .before .before .before .before .before .before .before .before .before .t2 .given .0 .0) _ (c .before .before .before .before .read-tuple-contents .result) r (omega (arith, q .begun)) (c .before .before .before .before .read-tuple-contents .ensures))
+    (omega (arith, p .0, q .begun, q .capacity, q .free), parent-claimed (p .1 .0) (p .1 .1) q (c .before .match2 .keys5))
 
 read-value-read-elements-requires : (t : ℕ) → read-value-lts.Need-read-elements-requires (read-value-calls t) (read-value-at t) read-value.Post
 read-value-read-elements-requires t c κs =
@@ -644,9 +672,9 @@ read-value-read-elements-requires-3 t c κs =
 
 read-value-read-case-requires : (t : ℕ) → read-value-lts.Need-read-case-requires (read-value-calls t) (read-value-at t) read-value.Post
 read-value-read-case-requires t c κs =
-    let p = c .before .before .before .before .before .before .before .before .before .before .pre .1 in
+    let p = c .before .before .before .before .before .before .before .before .before .before .pre in
     let q = claimed-row t (c .before .before .before .before) in
-    (omega (arith, c .before .before .before .before .before .before .before .before .before .before .pre .0, q .begun, q .capacity, q .free), (p .0, c .before .match2 .keys9, ready-claimed (p .0) (p .1) q, q .begun))
+    (omega (arith, p .0, q .begun, q .capacity, q .free), parent-claimed (p .1 .0) (p .1 .1) q (c .before .match2 .keys9))
 
 read-value-mul-at-word : (t : ℕ) → read-value-lts.Need-mul-at-word (read-value-calls t) (read-value-at t) read-value.Post
 read-value-mul-at-word t c = search needs
@@ -696,43 +724,31 @@ read-value-returns-4 t c =
     let q = claimed-row t (c .before .before .before .before .before .before .before .before) in
     arm-number (a .grammar .now) (a .node) (a .bytes .now) (a .rows .now) (a .s) s (p .0) (p .1) q uint64 (c .before .before .before .before .before .match2 .keys3) (c .before .before .before .take8 .ensures .0) (c .before .before .read-number2 .ensures uint64 (a .s .capacity) (a .s .at) refl (subst (λ (m : ℕ). TakenKeeps m (c .before .before .before .take8 .result)) (q .capacity) (c .before .before .before .take8 .ensures .1)))
 
-read-value-returns-5 : (t : ℕ) → read-value-lts.Need-returns-5 (read-value-calls t) (read-value-at t) read-value.Post
-read-value-returns-5 t c =
-    let a = c .before .before .before .before .before .before .before .before .before .before .before .before .before .before .args in
-    let p = c .before .before .before .before .before .before .before .before .before .before .before .before .before .before .pre .1 in
-    let s = c .before .before .before .before .before .before .before .before .t2 .given .0 .0 in
-    let q = claimed-row t (c .before .before .before .before .before .before .before .before) in
-    let g = c .before .u .given in
-    arm-array-stopped (a .grammar .now) (a .node) (a .bytes .now) (a .rows .now) (a .s) s (p .0) (p .1) q (g .0 .0) (g .0 .1 .0) (c .before .before .before .before .before .match2 .keys4) (taken-stopped (g .0 .0) (g .0 .1 .0) (g .1) (c .before .before .before .take-below .ensures .0)) (rw (g .1) at (c .before .before .before .take-below .ensures .1))
-
 read-value-same-length-4 : (t : ℕ) → read-value-lts.Need-same-length-4 (read-value-calls t) (read-value-at t) read-value.Post
 read-value-same-length-4 t c = search needs
 
-read-value-returns-6 : (t : ℕ) → read-value-lts.Need-returns-6 (read-value-calls t) (read-value-at t) read-value.Post
-read-value-returns-6 t c =
-    let a = c .before .before .before .before .before .before .before .before .before .before .before .before .before .before .before .before .before .before .before .before .before .before .before .args in
-    let p = c .before .before .before .before .before .before .before .before .before .before .before .before .before .before .before .before .before .before .before .before .before .before .before .pre .1 in
-    let s = c .before .before .before .before .before .before .before .before .before .before .before .before .before .before .before .before .before .t2 .given .0 .0 in
-    let q = claimed-row t (c .before .before .before .before .before .before .before .before .before .before .before .before .before .before .before .before .before) in
-    let g = c .before .before .before .before .before .before .before .before .before .before .n .given in
-    arm-array (a .grammar .now) (a .node) (a .bytes .now) (a .rows .now) (a .s) s (p .0) (p .1) q (c .before .before .before .before .before .before .before .before .child-at .result) (g .0 .0) (g .0 .1 .0) (c .before .before .before .before .before .before .before .before .before .before .before .before .before .before .match2 .keys4) (c .before .before .before .before .before .before .before .before .child-at .ensures .0) (taken-number (g .0 .0) (g .0 .1 .0) (g .1) (c .before .before .before .before .before .before .before .before .before .before .before .before .take-below .ensures .0)) (rw (g .1) at (c .before .before .before .before .before .before .before .before .before .before .before .before .take-below .ensures .1)) (c .before .before .before .before .before .before .read-array-contents .ensures) (c .before .before .close-row .ensures .0) (c .before .before .close-row .ensures .1)
+read-value-returns-5 : (t : ℕ) → read-value-lts.Need-returns-5 (read-value-calls t) (read-value-at t) read-value.Post
+read-value-returns-5 t c =
+    let a = c .before .before .before .before .before .before .before .before .before .before .before .before .before .args in
+    let p = c .before .before .before .before .before .before .before .before .before .before .before .before .before .pre .1 in
+    let q = claimed-row t (c .before .before .before .before .before .before .before) in
+    arm-body (a .grammar .now) (a .node) (a .bytes .now) (a .rows .now) (a .s) (c .before .before .before .before .before .before .before .t2 .given .0 .0) (p .0) (p .1) q (c .before .before .read-array .ensures)
 
 read-value-same-length-5 : (t : ℕ) → read-value-lts.Need-same-length-5 (read-value-calls t) (read-value-at t) read-value.Post
 read-value-same-length-5 t c = search needs
 
-read-value-returns-7 : (t : ℕ) → read-value-lts.Need-returns-7 (read-value-calls t) (read-value-at t) read-value.Post
-read-value-returns-7 t c =
-    let a = c .before .before .before .before .before .before .before .before .before .before .before .before .before .before .before .before .before .before .args in
-    let p = c .before .before .before .before .before .before .before .before .before .before .before .before .before .before .before .before .before .before .pre .1 in
-    let s = c .before .before .before .before .before .before .before .before .before .before .before .before .t2 .given .0 .0 in
-    let q = claimed-row t (c .before .before .before .before .before .before .before .before .before .before .before .before) in
-    arm-tuple (a .grammar .now) (a .node) (a .bytes .now) (a .rows .now) (a .s) s (p .0) (p .1) q (c .before .before .before .before .word .result) (c .before .before .before .before .before .before .before .before .before .match2 .keys5) (c .before .before .before .before .word .ensures .0) (c .before .before .before .before .before .before .before .read-tuple-contents .ensures) (c .before .before .close-row2 .ensures .0) (c .before .before .close-row2 .ensures .1)
+read-value-returns-6 : (t : ℕ) → read-value-lts.Need-returns-6 (read-value-calls t) (read-value-at t) read-value.Post
+read-value-returns-6 t c =
+    let a = c .before .before .before .before .before .before .before .before .before .before .before .before .before .args in
+    let p = c .before .before .before .before .before .before .before .before .before .before .before .before .before .pre .1 in
+    let q = claimed-row t (c .before .before .before .before .before .before .before) in
+    arm-body (a .grammar .now) (a .node) (a .bytes .now) (a .rows .now) (a .s) (c .before .before .before .before .before .before .before .t2 .given .0 .0) (p .0) (p .1) q (c .before .before .read-tuple .ensures)
 
 read-value-same-length-6 : (t : ℕ) → read-value-lts.Need-same-length-6 (read-value-calls t) (read-value-at t) read-value.Post
 read-value-same-length-6 t c = search needs
 
-read-value-returns-8 : (t : ℕ) → read-value-lts.Need-returns-8 (read-value-calls t) (read-value-at t) read-value.Post
-read-value-returns-8 t c =
+read-value-returns-7 : (t : ℕ) → read-value-lts.Need-returns-7 (read-value-calls t) (read-value-at t) read-value.Post
+read-value-returns-7 t c =
     let a = c .before .before .before .before .before .before .before .before .before .before .before .before .before .args in
     let p = c .before .before .before .before .before .before .before .before .before .before .before .before .before .pre .1 in
     let s = c .before .before .before .before .before .before .before .t2 .given .0 .0 in
@@ -742,8 +758,8 @@ read-value-returns-8 t c =
 read-value-same-length-7 : (t : ℕ) → read-value-lts.Need-same-length-7 (read-value-calls t) (read-value-at t) read-value.Post
 read-value-same-length-7 t c = search needs
 
-read-value-returns-9 : (t : ℕ) → read-value-lts.Need-returns-9 (read-value-calls t) (read-value-at t) read-value.Post
-read-value-returns-9 t c =
+read-value-returns-8 : (t : ℕ) → read-value-lts.Need-returns-8 (read-value-calls t) (read-value-at t) read-value.Post
+read-value-returns-8 t c =
     let a = c .before .before .before .before .before .before .before .before .before .before .before .before .before .args in
     let p = c .before .before .before .before .before .before .before .before .before .before .before .before .before .pre .1 in
     let s = c .before .before .before .before .before .before .before .t2 .given .0 .0 in
@@ -753,8 +769,8 @@ read-value-returns-9 t c =
 read-value-same-length-8 : (t : ℕ) → read-value-lts.Need-same-length-8 (read-value-calls t) (read-value-at t) read-value.Post
 read-value-same-length-8 t c = search needs
 
-read-value-returns-10 : (t : ℕ) → read-value-lts.Need-returns-10 (read-value-calls t) (read-value-at t) read-value.Post
-read-value-returns-10 t c =
+read-value-returns-9 : (t : ℕ) → read-value-lts.Need-returns-9 (read-value-calls t) (read-value-at t) read-value.Post
+read-value-returns-9 t c =
     let a = c .before .before .before .before .before .before .before .before .before .before .before .before .before .args in
     let p = c .before .before .before .before .before .before .before .before .before .before .before .before .before .pre .1 in
     let s = c .before .before .before .before .before .before .before .t2 .given .0 .0 in
@@ -764,29 +780,44 @@ read-value-returns-10 t c =
 read-value-same-length-9 : (t : ℕ) → read-value-lts.Need-same-length-9 (read-value-calls t) (read-value-at t) read-value.Post
 read-value-same-length-9 t c = search needs
 
-read-value-returns-11 : (t : ℕ) → read-value-lts.Need-returns-11 (read-value-calls t) (read-value-at t) read-value.Post
-read-value-returns-11 t c =
+read-value-returns-10 : (t : ℕ) → read-value-lts.Need-returns-10 (read-value-calls t) (read-value-at t) read-value.Post
+read-value-returns-10 t c =
     let a = c .before .before .before .before .before .before .before .before .before .before .before .before .before .args in
     let p = c .before .before .before .before .before .before .before .before .before .before .before .before .before .pre .1 in
-    let s = c .before .before .before .before .before .before .before .t2 .given .0 .0 in
     let q = claimed-row t (c .before .before .before .before .before .before .before) in
-    arm-body (a .grammar .now) (a .node) (a .bytes .now) (a .rows .now) (a .s) s (p .0) (p .1) q (c .before .before .read-case .ensures)
+    arm-body (a .grammar .now) (a .node) (a .bytes .now) (a .rows .now) (a .s) (c .before .before .before .before .before .before .before .t2 .given .0 .0) (p .0) (p .1) q (c .before .before .read-case .ensures)
 
-read-value-returns-12 : (t : ℕ) → read-value-lts.Need-returns-12 (read-value-calls t) (read-value-at t) read-value.Post
-read-value-returns-12 t c =
+read-value-returns-11 : (t : ℕ) → read-value-lts.Need-returns-11 (read-value-calls t) (read-value-at t) read-value.Post
+read-value-returns-11 t c =
     let a = c .before .before .before .before .before .before .before .before .before .before .args in
     let r = c .before .match2 .rest in
     let h = next-key (next-key (next-key (next-key (next-key (next-key (next-key (next-key (next-key zero-le (r .0 .0 .0 .0 .0 .0 .0 .0 .1)) (r .0 .0 .0 .0 .0 .0 .0 .1)) (r .0 .0 .0 .0 .0 .0 .1)) (r .0 .0 .0 .0 .0 .1)) (r .0 .0 .0 .0 .1)) (r .0 .0 .0 .1)) (r .0 .0 .1)) (r .0 .1)) (r .1) in
     let k = node-inside (a .grammar .now) (a .node) (c .before .before .before .before .before .before .before .before .before .before .pre .1 .0) .2 in
     absurd (omega arith)
 
-pub +read-array-contents+read-case+read-tuple-contents+read-value-spec : {M : Type 1} → statement M
-+read-array-contents+read-case+read-tuple-contents+read-value-spec =
+pub +read-array+read-array-contents+read-case+read-tuple+read-tuple-contents+read-value-spec : {M : Type 1} → statement M
++read-array+read-array-contents+read-case+read-tuple+read-tuple-contents+read-value-spec =
     close
+    μ-read-array
     μ-read-array-contents
     μ-read-case
+    μ-read-tuple
     μ-read-tuple-contents
     μ-read-value
+    (λ t. read-array-lts.spec (read-array-calls t)
+    (read-array-at t)
+    read-array.Post
+    (read-array-sub-limit t)
+    (read-array-add-limit t)
+    (read-array-take-below-requires t)
+    (read-array-enum-known-u t)
+    (read-array-enum-known-count t)
+    (read-array-child-at-requires t)
+    (read-array-read-array-contents-requires t)
+    (read-array-close-row-requires t)
+    (read-array-returns t)
+    (read-array-same-length t)
+    (read-array-returns-2 t))
     (λ t. read-array-contents-lts.spec
     (read-value-below t, read-value.Post)
     (read-array-contents-at t)
@@ -819,6 +850,16 @@ pub +read-array-contents+read-case+read-tuple-contents+read-value-spec : {M : Ty
     (read-case-returns t)
     (read-case-same-length t)
     (read-case-returns-2 t))
+    (λ t. read-tuple-lts.spec (read-tuple-calls t)
+    (read-tuple-at t)
+    read-tuple.Post
+    (read-tuple-read-tuple-contents-requires t)
+    (read-tuple-mul-word t)
+    (read-tuple-add-word t)
+    (read-tuple-word-requires t)
+    (read-tuple-close-row-requires t)
+    (read-tuple-same-length t)
+    (read-tuple-returns t))
     (λ t. read-tuple-contents-lts.spec (
       word-reads.Asked,
       word-reads.Learnt,
@@ -861,19 +902,8 @@ pub +read-array-contents+read-case+read-tuple-contents+read-value-spec : {M : Ty
     (read-value-read-number-requires t)
     (read-value-take8-requires t)
     (read-value-read-number-requires-2 t)
-    (read-value-sub-limit t)
-    (read-value-add-limit t)
-    (read-value-take-below-requires t)
-    (read-value-enum-known-u t)
-    (read-value-enum-known-n t)
-    (read-value-child-at-requires t)
-    (read-value-read-array-contents-requires t)
-    (read-value-close-row-requires t)
-    (read-value-read-tuple-contents-requires t)
-    (read-value-mul-word t)
-    (read-value-add-word t)
-    (read-value-word-requires t)
-    (read-value-close-row-requires-2 t)
+    (read-value-read-array-requires t)
+    (read-value-read-tuple-requires t)
     (read-value-read-elements-requires t)
     (read-value-read-elements-requires-2 t)
     (read-value-read-elements-requires-3 t)
@@ -888,17 +918,16 @@ pub +read-array-contents+read-case+read-tuple-contents+read-value-spec : {M : Ty
     (read-value-returns-3 t)
     (read-value-same-length-3 t)
     (read-value-returns-4 t)
-    (read-value-returns-5 t)
     (read-value-same-length-4 t)
-    (read-value-returns-6 t)
+    (read-value-returns-5 t)
     (read-value-same-length-5 t)
-    (read-value-returns-7 t)
+    (read-value-returns-6 t)
     (read-value-same-length-6 t)
-    (read-value-returns-8 t)
+    (read-value-returns-7 t)
     (read-value-same-length-7 t)
-    (read-value-returns-9 t)
+    (read-value-returns-8 t)
     (read-value-same-length-8 t)
-    (read-value-returns-10 t)
+    (read-value-returns-9 t)
     (read-value-same-length-9 t)
+    (read-value-returns-10 t)
     (read-value-returns-11 t)
-    (read-value-returns-12 t)
