@@ -1,0 +1,49 @@
+//! Prints how long the library takes beside bincode in its fixed-int configuration. Both read the
+//! same bytes: an array of tuples of a uint32, a uint64, bytes and a uint32 array. The library hands
+//! out rows and leaves the arrays in the record; bincode makes vectors, and leaves the bytes there.
+
+#![forbid(unsafe_code)]
+
+mod record;
+
+use std::hint::black_box;
+
+use bench::measure::{measure, Times};
+use bench::report::Report;
+
+use crate::record::{rows_of, Step, GRAMMAR};
+
+/// The tuples of the record: 301 rows.
+const STEPS: usize = 60;
+
+fn main() {
+    let elements = record::elements(STEPS);
+    let steps = record::steps(&elements);
+    let bytes = record::write(&steps);
+    compare_reading(&steps, &bytes);
+    let mut report = Report::default();
+    report.cases("Beside bincode", "bincode");
+    report.case("reading 301 values", reading(&bytes), None);
+}
+
+/// Both read these steps from the bytes that bincode wrote.
+fn compare_reading(steps: &[Step], bytes: &[u8]) {
+    let expected = rows_of(steps);
+    let mut rows = vec![0; expected.len()];
+    let parsed = route_record::demarshall(&GRAMMAR, bytes, &mut rows);
+    assert_eq!(parsed.map(|parsed| parsed.rest_index), Ok(bytes.len()));
+    assert_eq!(rows, expected);
+    assert_eq!(record::read(bytes).expect("a sound record"), steps);
+}
+
+/// The times of reading.
+fn reading(bytes: &[u8]) -> Times {
+    let mut rows = vec![0; 4 * 4_096];
+    measure(
+        || {
+            let rows = black_box(&mut rows);
+            route_record::demarshall(black_box(&GRAMMAR), black_box(bytes), rows)
+        },
+        || record::read(black_box(bytes)),
+    )
+}

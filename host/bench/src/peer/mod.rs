@@ -1,0 +1,10 @@
+//! The library's calls in safe Rust: the same algorithm, written as a Rust program is, with slices,
+//! `Result` and `?`. Beside these the library's times are measured; nothing else uses them.
+
+mod grammar;
+mod reading;
+mod refusal;
+
+pub use grammar::check_grammar;
+pub use reading::{check_whole, demarshall, Parsed};
+pub use refusal::{Place, Refusal};

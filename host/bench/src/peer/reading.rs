@@ -1,0 +1,178 @@
+//! The whole reading, with rows and as a check: refusals 6 and 8 to 11. It starts at byte 0, so 7
+//! does not arise.
+
+use super::grammar::Grammar;
+use super::Refusal;
+
+const MOST_BYTES: usize = 1_048_576;
+const MOST_ROWS: usize = 4_096;
+
+/// What an accepted reading gives.
+#[derive(Clone, Copy, Debug, PartialEq, Eq)]
+pub struct Parsed {
+    /// The number of rows of the value.
+    pub rows: usize,
+    /// The first byte behind the value.
+    pub rest_index: usize,
+}
+
+/// Reads a record as a check, with no rows.
+pub fn check_whole(words: &[u32], record: &[u8]) -> Result<Parsed, Refusal> {
+    let grammar = Grammar::of(words)?;
+    check(grammar, record, MOST_ROWS)
+}
+
+/// Reads a record and lays it out in rows: first as a check, so that a refusal changes no row.
+pub fn demarshall(words: &[u32], record: &[u8], rows: &mut [u64]) -> Result<Parsed, Refusal> {
+    let grammar = Grammar::of(words)?;
+    let (rows, _) = rows.as_chunks_mut();
+    let capacity = rows.len().min(MOST_ROWS);
+    check(grammar, record, capacity)?;
+    read(grammar, record, rows, capacity)
+}
+
+/// The first pass.
+fn check(grammar: Grammar, record: &[u8], capacity: usize) -> Result<Parsed, Refusal> {
+    if record.len() > MOST_BYTES {
+        return Err(Refusal::at_byte(6, 0));
+    }
+    let parsed = read(grammar, record, &mut [], capacity)?;
+    if parsed.rest_index != record.len() {
+        return Err(Refusal::at_byte(11, parsed.rest_index));
+    }
+    Ok(parsed)
+}
+
+/// Reads a value of the root from byte 0 on.
+fn read(
+    grammar: Grammar,
+    record: &[u8],
+    rows: &mut [[u64; 4]],
+    capacity: usize,
+) -> Result<Parsed, Refusal> {
+    let mut reader = Reader {
+        grammar,
+        record,
+        rows,
+        capacity,
+        at: 0,
+        used: 0,
+    };
+    reader.value(0)?;
+    Ok(Parsed {
+        rows: reader.used,
+        rest_index: reader.at,
+    })
+}
+
+/// A reading under way: the position and the rows used.
+struct Reader<'a> {
+    grammar: Grammar<'a>,
+    record: &'a [u8],
+    rows: &'a mut [[u64; 4]],
+    capacity: usize,
+    at: usize,
+    used: usize,
+}
+
+impl Reader<'_> {
+    /// Reads the value of a node that starts here.
+    fn value(&mut self, k: usize) -> Result<(), Refusal> {
+        let start = self.at;
+        let row = self.claim()?;
+        let node = self.grammar.node(k);
+        let children = self.grammar.children(node);
+        let kind = u64::from(node[0]);
+        match kind {
+            0 => self.put(row, [kind, 1, 0, 0]),
+            1 => {
+                let number = self.take_u32()?;
+                self.put(row, [kind, 1, u64::from(number), 0]);
+            }
+            2 => {
+                let number = self.take_u64()?;
+                self.put(row, [kind, 1, number, 0]);
+            }
+            3 => {
+                let count = self.take_u64()?;
+                if count > (self.capacity - self.used) as u64 {
+                    return Err(Refusal::at_byte(8, start));
+                }
+                for _ in 0..count {
+                    self.value(children[0] as usize)?;
+                }
+                self.put(row, [kind, self.span_from(row), count, 0]);
+            }
+            4 => {
+                for &child in children {
+                    self.value(child as usize)?;
+                }
+                self.put(row, [kind, self.span_from(row), children.len() as u64, 0]);
+            }
+            5 => self.elements(row, kind, 1)?,
+            6 => self.elements(row, kind, 4)?,
+            7 => self.elements(row, kind, 8)?,
+            8 => {
+                let tag = self.take_u64()?;
+                if tag >= children.len() as u64 {
+                    return Err(Refusal::at_byte(10, start));
+                }
+                self.value(children[tag as usize] as usize)?;
+                self.put(row, [kind, self.span_from(row), tag, 0]);
+            }
+            _ => unreachable!("the grammar was checked"),
+        }
+        Ok(())
+    }
+
+    /// Reads an array of numbers of this many bytes: its count, and past its elements.
+    fn elements(&mut self, row: usize, kind: u64, width: usize) -> Result<(), Refusal> {
+        let start = self.at;
+        let count = self.take_u64()?;
+        let left = self.record.len() - self.at;
+        if count > (left / width) as u64 {
+            return Err(Refusal::at_byte(9, start));
+        }
+        self.put(row, [kind, 1, count, self.at as u64]);
+        self.at += count as usize * width;
+        Ok(())
+    }
+
+    /// Takes a row for the value that starts here.
+    fn claim(&mut self) -> Result<usize, Refusal> {
+        if self.used == self.capacity {
+            return Err(Refusal::at_byte(8, self.at));
+        }
+        let row = self.used;
+        self.used += 1;
+        Ok(row)
+    }
+
+    fn take_u32(&mut self) -> Result<u32, Refusal> {
+        self.take().map(u32::from_le_bytes)
+    }
+
+    fn take_u64(&mut self) -> Result<u64, Refusal> {
+        self.take().map(u64::from_le_bytes)
+    }
+
+    /// Takes the next bytes, for a value that starts with them.
+    fn take<const WIDTH: usize>(&mut self) -> Result<[u8; WIDTH], Refusal> {
+        let left = &self.record[self.at..];
+        let bytes = left.first_chunk().ok_or(Refusal::at_byte(9, self.at))?;
+        self.at += WIDTH;
+        Ok(*bytes)
+    }
+
+    /// The rows used since this one, itself included.
+    fn span_from(&self, row: usize) -> u64 {
+        (self.used - row) as u64
+    }
+
+    /// Puts a row, where rows are lent.
+    fn put(&mut self, row: usize, words: [u64; 4]) {
+        if let Some(lent) = self.rows.get_mut(row) {
+            *lent = words;
+        }
+    }
+}

@@ -1,0 +1,37 @@
+//! Refusals: document 01's numbers, each with its place.
+
+/// A word of the grammar or a byte.
+#[derive(Clone, Copy, Debug, PartialEq, Eq)]
+pub enum Place {
+    /// A word of the grammar table.
+    Word(usize),
+    /// A byte of the record.
+    Byte(usize),
+}
+
+/// Why a call was refused.
+#[derive(Clone, Copy, Debug, PartialEq, Eq)]
+pub struct Refusal {
+    /// The number in document 01's table.
+    pub number: u8,
+    /// Where it was found.
+    pub place: Place,
+}
+
+impl Refusal {
+    /// A refusal at a word of the grammar.
+    pub(super) fn at_word(number: u8, word: usize) -> Refusal {
+        Refusal {
+            number,
+            place: Place::Word(word),
+        }
+    }
+
+    /// A refusal at a byte.
+    pub(super) fn at_byte(number: u8, byte: usize) -> Refusal {
+        Refusal {
+            number,
+            place: Place::Byte(byte),
+        }
+    }
+}

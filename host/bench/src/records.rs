@@ -1,0 +1,122 @@
+//! The grammars and the records that are read. They are the same in every run.
+
+/// A grammar table and a record to be read by it.
+pub struct Input {
+    /// The words of the grammar.
+    pub grammar: Vec<u32>,
+    /// The bytes of the record.
+    pub record: Vec<u8>,
+}
+
+/// The words of a table: kind, first and count of each node, and the child words.
+fn table(nodes: &[[u32; 3]], children: &[u32]) -> Vec<u32> {
+    let (n, m) = (nodes.len() as u32, children.len() as u32);
+    [&[n], nodes.concat().as_slice(), &[m], children].concat()
+}
+
+/// A record of `rows` rows: an array of cases, in which four stand over and over, 15 rows together:
+/// a uint32; a tuple of a uint32, a uint64, bytes and a uint32 array; an array of one uint32; a
+/// tuple of bytes and a uint64. The rows that are left are one more case, an array of uint32; they
+/// are none or at least two.
+pub fn mixed(rows: usize) -> Input {
+    let nodes = [
+        [3, 0, 1],  // 0: the root
+        [8, 1, 4],  // 1: a case
+        [4, 5, 4],  // 2: the tuple of four fields
+        [3, 9, 1],  // 3: the array of uint32
+        [4, 10, 2], // 4: the tuple of two fields
+        [1, 0, 0],  // 5
+        [2, 0, 0],  // 6
+        [5, 0, 0],  // 7
+        [6, 0, 0],  // 8
+    ];
+    let children = [1, 5, 2, 3, 4, 5, 6, 7, 8, 5, 7, 6];
+    let (groups, left) = ((rows - 1) / 15, (rows - 1) % 15);
+    assert_ne!(left, 1, "a case is two rows at least");
+    let mut record = Vec::new();
+    put_u64(&mut record, 4 * groups + usize::from(left > 0));
+    for group in 0..groups {
+        put_u64(&mut record, 0);
+        put_u32(&mut record, group);
+        put_u64(&mut record, 1);
+        put_u32(&mut record, group);
+        put_u64(&mut record, group);
+        put_bytes(&mut record, group % 8);
+        put_u32s(&mut record, group % 5);
+        put_u64(&mut record, 2);
+        put_u32s(&mut record, 1);
+        put_u64(&mut record, 3);
+        put_bytes(&mut record, group % 12);
+        put_u64(&mut record, group);
+    }
+    if left > 0 {
+        put_u64(&mut record, 2);
+        put_u32s(&mut record, left - 2);
+    }
+    Input {
+        grammar: table(&nodes, &children),
+        record,
+    }
+}
+
+/// A record of `rows` rows under a grammar of two nodes: an array of uint32.
+pub fn numbers(rows: usize) -> Input {
+    let mut record = Vec::new();
+    put_u32s(&mut record, rows - 1);
+    Input {
+        grammar: table(&[[3, 0, 1], [1, 0, 0]], &[1]),
+        record,
+    }
+}
+
+/// An array of 4,095 constants: 4,096 rows in 8 bytes.
+pub fn constants() -> Input {
+    Input {
+        grammar: table(&[[3, 0, 1], [0, 0, 0]], &[1]),
+        record: 4_095u64.to_le_bytes().to_vec(),
+    }
+}
+
+/// A tuple of 1,024 fields, each a uint32.
+pub fn wide_tuple() -> Input {
+    Input {
+        grammar: table(&[[4, 0, 1_024], [1, 0, 0]], &[1; 1_024]),
+        record: vec![7; 4 * 1_024],
+    }
+}
+
+/// 256 nodes, each but the last a tuple of two fields, both of the next node, and the last of the
+/// kind of a leaf: a tree of 2^255 leaves.
+pub fn shared_children(leaf: u32, record: Vec<u8>) -> Input {
+    let tuples = (0..255).map(|k| [4, 2 * k, 2]);
+    let nodes: Vec<_> = tuples.chain([[leaf, 0, 0]]).collect();
+    let children: Vec<_> = (1..256).flat_map(|k| [k, k]).collect();
+    Input {
+        grammar: table(&nodes, &children),
+        record,
+    }
+}
+
+fn put_u32(record: &mut Vec<u8>, number: usize) {
+    record.extend((number as u32).to_le_bytes());
+}
+
+/// A uint64, an element count or a tag.
+fn put_u64(record: &mut Vec<u8>, number: usize) {
+    record.extend((number as u64).to_le_bytes());
+}
+
+/// An array of so many bytes.
+fn put_bytes(record: &mut Vec<u8>, count: usize) {
+    put_u64(record, count);
+    record.extend((0..count).map(|i| i as u8));
+}
+
+/// So many uint32 with their count. As a uint32 array and as an array of uint32 they have the same
+/// bytes.
+fn put_u32s(record: &mut Vec<u8>, count: usize) {
+    put_u64(record, count);
+    for i in 0..count {
+        put_u32(record, i);
+    }
+}
