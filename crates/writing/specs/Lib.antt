@@ -1,0 +1,2 @@
+pub mod InGrammar
+pub mod Marshall

@@ -1,0 +1,33 @@
+-- What the writers answer: GM's `MarshallVal` and `Marshall` over a grammar table, rows with their store, and a lent output.
+use mathlib.Core.Path.{_≡_}
+use mathlib.Core.List.{List}
+use Prim.Native.Nat.{ℕ}
+use lib.ListN.{length}
+use lib.Dec.{leb}
+use Rattle.refusal.specs.Outcome.{Outcome, accepted, bind, test, map, contents, Reason, reason, row}
+use Rattle.packed.specs.Packed.{room, put}
+use Rattle.value.specs.Tree.{Val, SizeOfV}
+use Rattle.value.specs.Bytes.{bytesOf}
+use Rattle.grammar.specs.Check.{checkGrammar}
+use Rattle.grammar.specs.Tree.{treeOf}
+use Rattle.rows.specs.Walk.{walk}
+use Rattle.rows.specs.Meaning.{sizeOf}
+use Rattle.rows.specs.declared.SizeOf.{SizeOf}
+use Rattle.writing.specs.InGrammar.{checkInGrammar}
+
+-- the value to be written: 1 to 5 of the grammar, 6 and 12 to 14 of the rows, 15, then 16
+unfoldable pub valueOf : List ℕ → List ℕ → ℕ → List ℕ → Outcome Reason Val
+valueOf g t n s =
+    bind (checkGrammar g) (λ _.
+    bind (walk t n s) (λ v.
+    bind (checkInGrammar v (treeOf g 0) 0) (λ _.
+    test (leb (SizeOfV v) 1048576) (reason 16 (row 0)) (λ _. accepted v))))
+
+-- GM's `MarshallVal` at an index of an output of len bytes: the value, where it has room; 17 where it has not
+unfoldable pub marshallValOf : List ℕ → List ℕ → ℕ → List ℕ → ℕ → ℕ → Outcome Reason Val
+marshallValOf g t n s len index = bind (valueOf g t n s) (λ v. map (λ _. v) (room len index (SizeOfV v)))
+
+-- a writer's answer is the value's size, and the output at exit is that at entry with the value's bytes at the index
+pub record Marshalls (o : Outcome Reason Val) (index : ℕ) (r : SizeOf) (entry exit : List ℕ) : Type 0 where
+  pub answers : sizeOf r ≡ map SizeOfV o
+  pub output : exit ≡ contents (map (λ v. put entry index (bytesOf v)) o) entry

@@ -1,0 +1,1 @@
+// Writing: GM's `MarshallVal` with its parts and `Marshall`.
