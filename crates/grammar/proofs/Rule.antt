@@ -6,6 +6,7 @@ use Prim.Native.Nat.{ℕ, zero, suc, _+_, _-_, _*_, _≤_, _<_}
 use native.Mathlib.Nat.{add-zero, zero-add}
 use native.Mathlib.Decide.{ℕ-discrete}
 use native.Mathlib.Omega.{arith}
+use lib.ListN.{length}
 use Rattle.refusal.specs.Outcome.{Outcome, accepted, refused, bind, Reason, reason, word}
 use Rattle.refusal.proofs.Tests.{refuted}
 use Rattle.refusal.proofs.Outcome.{Post, holds, fails, post-bind, post-reflects, post-accepted, post-refused, test-true, test-false}
@@ -139,3 +140,19 @@ accepted-exactly t = (λ e. post-accepted (rw e at (grammar-post t)), passes-acc
 
 pub refused-exactly : (t : List ℕ) (r : Reason) → (checkGrammar t ≡ refused r) ↔ FirstRefusal t r
 refused-exactly t r = (λ e. post-refused (rw e at (grammar-post t)), first-refused t)
+
+-- ---- where the words of a table that passes stand
+
+module _ (t : List ℕ) (p : Passes t) (k : ℕ) (b : k < nodeCount t) where
+  pub node-inside : (3 + 3 * k < length t) × (k < 256) × (kindWord t k ≤ lastKind) × ChildrenRule t k
+  node-inside =
+      let l = p .layout in
+      let r = p .node k b in
+      (omega (arith, l .size .1 .1), omega (arith, l .start .1 .1), r .kind, r .rule)
+
+  pub child-inside : (i : ℕ) → i < countWord t k → (3 + 3 * k < length t) × (2 + 3 * nodeCount t + (firstWord t k + i) < length t) × (nodeCount t ≤ 256) × (firstWord t k ≤ 1024) × ChildRule t k (firstWord t k + i)
+  child-inside i h =
+      let l = p .layout in
+      let r = p .node k b in
+      let w = r .rule .1 in
+      (omega (arith, l .size .1 .1), omega (arith, l .size .1 .1), l .start .1 .1, omega (arith, l .size .1 .0), r .children (firstWord t k + i) (omega arith, omega arith))

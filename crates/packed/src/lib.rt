@@ -1,6 +1,6 @@
 // PackedInts (PI): numbers as bytes, least byte first, at an index of a lent slice, one by one and in runs.
 ghost use mathlib.Core.Path.{_≡_};
-ghost use Prim.Native.Nat.{_+_, _*_, _<_, _≤_};
+ghost use Prim.Native.Nat.{_+_, _*_, _≤_};
 ghost use lib.ListN.{length, take, drop};
 ghost use lib.Dec.{leb};
 ghost use Rattle.refusal.specs.Outcome.{Fills};
@@ -23,17 +23,18 @@ pub enum UnpackedU64 {
 
 // Whether count numbers of width bytes from the index on end within len bytes. The count is compared and never multiplied.
 fn within(len: usize, index: usize, count: usize, width: usize) -> bool
-    requires { ⌜ 0 < width ⌝ }
     ensures { λ r. ⌜ r ≡ leb (index + width * count) len ⌝ }
 {
     if len < index {
         return false;
     }
+    if width == 0 {
+        return true;
+    }
     count <= (len - index) / width
 }
 
 fn present(len: usize, index: usize, count: usize, width: usize) -> Answer
-    requires { ⌜ 0 < width ⌝ }
     ensures { λ r. ⌜ outcomeOf r ≡ presentOf len index (width * count) ⌝ }
 {
     if len < index {
@@ -45,8 +46,8 @@ fn present(len: usize, index: usize, count: usize, width: usize) -> Answer
     )
 }
 
-fn room(len: usize, index: usize, count: usize, width: usize) -> Answer
-    requires { ⌜ 0 < width ⌝ }
+// Whether count numbers of width bytes have room from the index on. Every writer takes refusal 17 from here.
+pub fn room(len: usize, index: usize, count: usize, width: usize) -> Answer
     ensures { λ r. ⌜ outcomeOf r ≡ roomOf len index (width * count) ⌝ }
 {
     refusal::accept_if(

@@ -23,6 +23,7 @@ use Rattle.value.specs.Reading.{State, Stop, Reading, stop, move, claim, takeNu
 use Rattle.value.specs.Kinds.{lastKind}
 use Rattle.grammar.specs.Table.{nodeCount, kindWord, firstWord, countWord}
 use Rattle.grammar.specs.Rule.{ChildRule, ChildrenRule}
+use Rattle.grammar.proofs.Rule.{node-inside as grammar-node-inside, child-inside as grammar-child-inside}
 use Rattle.rows.specs.Row.{rowWidth}
 use Rattle.reading.specs.declared.State.{State as CodeState}
 use Rattle.reading.specs.declared.Step.the-variants.{Next, Stopped}
@@ -142,12 +143,7 @@ unpacked-fits w d at n h =
 
 -- the child words of a node in a table that passes lie within it
 pub child-inside : (t : List ℕ) (k i : ℕ) → Node t k → i < countWord t k → (3 + 3 * k < length t) × (2 + 3 * nodeCount t + (firstWord t k + i) < length t) × (nodeCount t ≤ 256) × (firstWord t k ≤ 1024) × ChildRule t k (firstWord t k + i)
-child-inside t k i n h =
-    let l = n .passes .layout in
-    let r = n .passes .node k (n .below) in
-    let b = n .below in
-    let w = r .rule .1 in
-    (omega (arith, l .size .1 .1), omega (arith, l .size .1 .1), l .start .1 .1, omega (arith, l .size .1 .0), r .children (firstWord t k + i) (omega arith, omega arith))
+child-inside t k i n h = grammar-child-inside t (n .passes) k (n .below) i h
 
 -- Matched answers of the state's methods.
 
@@ -185,8 +181,4 @@ module _ (d : List ℕ) (w : ℕ) (s : State) (n : ℕ) (u : CodeState) (h : yie
 
 -- a node's words lie within its table
 pub node-inside : (t : List ℕ) (k : ℕ) → Node t k → (3 + 3 * k < length t) × (k < 256) × (kindWord t k ≤ lastKind) × ChildrenRule t k
-node-inside t k n =
-    let l = n .passes .layout in
-    let r = n .passes .node k (n .below) in
-    let b = n .below in
-    (omega (arith, l .size .1 .1), omega (arith, l .start .1 .1), r .kind, r .rule)
+node-inside t k n = grammar-node-inside t (n .passes) k (n .below)

@@ -2,22 +2,22 @@
 use mathlib.Core.Path.{_≡_, refl, ap, sym, _∙_}
 use mathlib.Core.Bool.{true}
 use mathlib.Core.List.{List, _++_, append-assoc, append-nil}
-use Prim.Native.Nat.{ℕ, zero, suc, _+_, _-_, _*_, _≤_, _<_}
+use Prim.Native.Nat.{ℕ, zero, suc, _+_, _-_, _*_, _^_, _≤_, _<_}
 use native.Mathlib.Nat.{zero-add, suc-add, add-zero}
 use native.Mathlib.Decide.{decLt}
 use native.Mathlib.Omega.{arith}
 use lib.ListN.{length, drop, length-append, length-drop}
 use lib.Seq.{length-take-le}
-use borrow.Author.Tests.{le-leb, leb-true}
+use borrow.Author.Tests.{lt-ltb, le-leb, leb-true}
 use Rattle.packed.specs.Packed.{packLittleEndian}
 use Rattle.packed.proofs.Laws.{length-pack}
 use Rattle.value.specs.Kinds.{Number, uint32, uint64, width, elementWidth, Kind, kinds, kindOf, constant, number, array, tuple, elements, union, other}
-use Rattle.value.specs.Tree.{Val, Vals, VConstant, VNumber, VArray, VTuple, VNumberArray, VCase, vnil, vcons, SizeOfV, SeqSum, rowCount, rowCounts}
+use Rattle.value.specs.Tree.{Val, Vals, VConstant, VNumber, VArray, VTuple, VNumberArray, VCase, vnil, vcons, TypedVal, TypedVals, SizeOfV, SeqSum, rowCount, rowCounts}
 use Rattle.value.specs.Bytes.{bytesOf, bytesOfAll}
 use Rattle.value.proofs.KindLaws.{number-kind, elements-kind}
 use Rattle.rows.specs.Row.{Row, rowAt}
 use Rattle.rows.specs.Layout.{ownRow}
-use Rattle.rows.specs.Walk.{withinStore}
+use Rattle.rows.specs.Walk.{keepsRule, withinStore}
 use Rattle.rows.specs.Rule.{RowOf, StandFor, StandForAll, TableOf}
 use Rattle.rows.specs.Size.{ownBytes, ownSize, sizeAt, bytesFrom, sizeFrom, mostOwnSize}
 use Rattle.rows.proofs.Rule.{own-row}
@@ -99,26 +99,42 @@ module _ (t s : List ℕ) where
 
   -- ---- every row of a value stands for a part of it
 
-  first : (v : Val) (i j : ℕ) → StandFor t s i v → i ≡ j → (u : Val) × StandFor t s j u
-  first v i j h e = (v, rw (← e) h)
+  -- what stands at row j
+  abbrev Part : ℕ → Type 0
+  Part j = (u : Val) × StandFor t s j u × TypedVal u
 
-  later : (v : Val) (i j : ℕ) → StandFor t s i v → i ≤ j → (suc i ≤ j → (u : Val) × StandFor t s j u) → (u : Val) × StandFor t s j u
-  later v i j h a f = split i j f (λ l. first v i j h (omega arith))
+  first : (v : Val) (i j : ℕ) → StandFor t s i v → TypedVal v → i ≡ j → Part j
+  first v i j h d e = (v, rw (← e) h, d)
+
+  later : (v : Val) (i j : ℕ) → StandFor t s i v → TypedVal v → i ≤ j → (suc i ≤ j → Part j) → Part j
+  later v i j h d a f = split i j f (λ l. first v i j h d (omega arith))
 
   mutual
-    unfolding StandFor rowCount
+    unfolding StandFor TypedVal rowCount
 
-    pub part-rows : (v : Val) (i j : ℕ) → StandFor t s i v → i ≤ j → j < i + rowCount v → (u : Val) × StandFor t s j u
-    part-rows VConstant i j h a b = first VConstant i j h (omega arith)
-    part-rows (VNumber k n) i j h a b = first (VNumber k n) i j h (omega arith)
-    part-rows (VArray vs) i j h a b = later (VArray vs) i j h a (λ l. parts-rows vs (suc i) j (h .1) l (omega arith))
-    part-rows (VTuple vs) i j h a b = later (VTuple vs) i j h a (λ l. parts-rows vs (suc i) j (h .1) l (omega arith))
-    part-rows (VNumberArray k ns) i j h a b = first (VNumberArray k ns) i j h (omega arith)
-    part-rows (VCase c v) i j h a b = later (VCase c v) i j h a (λ l. part-rows v (suc i) j (h .1) l (omega arith))
+    pub part-rows : (v : Val) (i j : ℕ) → StandFor t s i v → TypedVal v → i ≤ j → j < i + rowCount v → Part j
+    part-rows VConstant i j h d a b = first VConstant i j h d (omega arith)
+    part-rows (VNumber k n) i j h d a b = first (VNumber k n) i j h d (omega arith)
+    part-rows (VArray vs) i j h d a b = later (VArray vs) i j h d a (λ l. parts-rows vs (suc i) j (h .1) d l (omega arith))
+    part-rows (VTuple vs) i j h d a b = later (VTuple vs) i j h d a (λ l. parts-rows vs (suc i) j (h .1) d l (omega arith))
+    part-rows (VNumberArray k ns) i j h d a b = first (VNumberArray k ns) i j h d (omega arith)
+    part-rows (VCase c v) i j h d a b = later (VCase c v) i j h d a (λ l. part-rows v (suc i) j (h .1) (d .1) l (omega arith))
 
-    parts-rows : (vs : Vals) (i j : ℕ) → StandForAll t s i vs → i ≤ j → j < i + rowCounts vs → (u : Val) × StandFor t s j u
-    parts-rows vnil i j h a b = absurd (omega arith)
-    parts-rows (vcons v vs) i j h a b = split j (i + rowCount v) (λ l. part-rows v i j (h .0) a l) (λ l. parts-rows vs (i + rowCount v) j (h .1) l (omega arith))
+    parts-rows : (vs : Vals) (i j : ℕ) → StandForAll t s i vs → TypedVals vs → i ≤ j → j < i + rowCounts vs → Part j
+    parts-rows vnil i j h d a b = absurd (omega arith)
+    parts-rows (vcons v vs) i j h d a b = split j (i + rowCount v) (λ l. part-rows v i j (h .0) (d .0) a l) (λ l. parts-rows vs (i + rowCount v) j (h .1) (d .1) l (omega arith))
+
+  keeps-rows : (v : Val) (i : ℕ) → StandFor t s i v → TypedVal v → keepsRule (kindOf (rowAt t i .kind)) (rowAt t i) ≡ true
+  unfolding ownRow TypedVal rowCount kindOf kinds
+  keeps-rows v i h d = ap (λ (r : Row). keepsRule (kindOf (r .kind)) r) (own-row t s v i h) ∙ own v d
+    where
+      own : (v : Val) → TypedVal v → let r = ownRow v (rowAt t i .word3) in keepsRule (kindOf (r .kind)) r ≡ true
+      own VConstant d = refl
+      own (VNumber k n) d = rw (number-kind k, lt-ltb n (256 ^ width k) d)
+      own (VArray vs) d = refl
+      own (VTuple vs) d = refl
+      own (VNumberArray k ns) d = rw (elements-kind k)
+      own (VCase c v) d = refl
 
   within-rows : (v : Val) (i : ℕ) → StandFor t s i v → withinStore (kindOf (rowAt t i .kind)) (rowAt t i) (length s) ≡ true
   unfolding StandFor ownRow kindOf kinds
@@ -148,10 +164,16 @@ own-most (elements k) r len h l = omega (arith, leb-true (r .word3 + elementWidt
 own-most union r len h l = omega arith
 own-most other r len h l = omega arith
 
--- each of the n rows of a table has its array in the store, and few bytes of its own
+-- each of the n rows of a table keeps its kind's rule, and has its array in the store and few bytes of its own
 module _ (t : List ℕ) (n : ℕ) (s : List ℕ) (v : Val) (h : TableOf t n s v) where
+  part : (j : ℕ) → j < n → Part t s j
+  part j l = part-rows t s v 0 j (h .rows) (h .typed) (omega arith) (omega (arith, h .count))
+
+  pub table-rule : (j : ℕ) → j < n → keepsRule (kindOf (rowAt t j .kind)) (rowAt t j) ≡ true
+  table-rule j l = let p = part j l in keeps-rows t s (p .0) j (p .1) (p .2)
+
   pub table-within : (j : ℕ) → j < n → withinStore (kindOf (rowAt t j .kind)) (rowAt t j) (length s) ≡ true
-  table-within j l = let p = part-rows t s v 0 j (h .rows) (omega arith) (omega (arith, h .count)) in within-rows t s (p .0) j (p .1)
+  table-within j l = let p = part j l in within-rows t s (p .0) j (p .1)
 
   pub table-small : (j : ℕ) → j < n → sizeAt t j ≤ mostOwnSize
   table-small j l = own-most (kindOf (rowAt t j .kind)) (rowAt t j) (length s) (table-within j l) (h .store)
