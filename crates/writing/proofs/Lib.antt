@@ -1,1 +1,2 @@
-
+pub mod InGrammar
+pub mod Walk

@@ -112,7 +112,12 @@ fn check_in_grammar(rows: &[u64], grammar: &[u32], row: usize, node: usize) -> A
             if count <= word2 {
                 return not_in_grammar(row);
             }
-            check_in_grammar(rows, grammar, row + 1, child_at(grammar, node, word2 as usize))
+            check_in_grammar(
+                rows,
+                grammar,
+                row + 1,
+                child_at(grammar, node, word2 as usize),
+            )
         }
         9.. => not_in_grammar(row),
     }
@@ -159,4 +164,3 @@ fn check_each_in_grammar(rows: &[u64], grammar: &[u32], row: usize, node: usize)
     }
     Answer::Accepted
 }
-
