@@ -1,3 +1,4 @@
 pub mod InGrammar
 pub mod Checks
+pub mod Put
 pub mod Marshall

@@ -1,29 +1,31 @@
 // Writing: GM's `MarshallVal` with its parts and `Marshall`, from rows with their store into a lent output.
 ghost use mathlib.Core.Path.{_≡_};
-ghost use mathlib.Core.Bool.{true};
 ghost use mathlib.Core.List.{_++_};
 ghost use Prim.Native.Nat.{ℕ, _+_, _*_, _≤_, _<_};
 ghost use lib.ListN.{length, getD, take, drop};
-ghost use Rattle.refusal.specs.Outcome.{refused, map, reason, row as atRow};
+ghost use lib.Dec.{leb};
+ghost use Rattle.refusal.specs.Outcome.{accepted, refused, test, map, reason, row as atRow};
 ghost use Rattle.refusal.specs.Meaning.{outcomeOf};
 ghost use Rattle.packed.specs.Packed.{packLittleEndian, put};
-ghost use Rattle.value.specs.Kinds.{kindOf};
 ghost use Rattle.value.specs.Tree.{SizeOfV};
 ghost use Rattle.grammar.specs.Table.{nodeCount, firstWord, countWord, childWord};
 ghost use Rattle.grammar.specs.Rule.{Passes};
 ghost use Rattle.grammar.specs.Tree.{treeOf, childTrees};
 ghost use Rattle.rows.specs.Row.{rowWidth, rowAt};
-ghost use Rattle.rows.specs.Walk.{keepsRule, withinStore};
-ghost use Rattle.rows.specs.Size.{ownBytes, sizeAt, bytesFrom, sizeFrom};
+ghost use Rattle.rows.specs.Size.{sizeAt, bytesFrom, sizeFrom};
 ghost use Rattle.rows.specs.Meaning.{sizeOf};
 ghost use Rattle.writing.specs.InGrammar.{checkAllInGrammar, checkEachInGrammar};
 ghost use Rattle.writing.specs.Checks.{Standing, StandingAll, Checks, ChecksAll, ChildInside};
+ghost use Rattle.writing.specs.Put.{RowHolds, ownBytesAt};
 ghost use Rattle.writing.specs.Marshall.{valueOf, marshallValOf, Marshalls};
 use refusal::Answer;
 use rows::SizeOf;
 
 // The words of a row.
 const ROW_WIDTH: usize = 4;
+
+// The bytes of the largest value that is written.
+const MOST_BYTES: u64 = 1048576;
 
 fn kind_at(rows: &[u64], row: usize) -> u64
     requires { ⌜ rowWidth * row + rowWidth ≤ length (now rows) ⌝ }
@@ -163,4 +165,77 @@ fn check_each_in_grammar(rows: &[u64], grammar: &[u32], row: usize, node: usize)
         k += 1;
     }
     Answer::Accepted
+}
+
+// Puts a 4-byte number, which has room, and gives the index behind it.
+fn put_uint32(n: u32, out: &mut [u8], index: usize) -> usize
+    requires { ⌜ index + 4 ≤ length (now out) ⌝ }
+    ensures { λ r. ⌜ (r ≡ index + 4) × (now (out .exit) ≡ put (now (out .entry)) index (packLittleEndian 4 n)) ⌝ }
+{
+    packed::pack_little_endian_uint32_into_array(n, out, index);
+    index + 4
+}
+
+// Puts an 8-byte number, count or tag, which has room, and gives the index behind it.
+fn put_uint64(n: u64, out: &mut [u8], index: usize) -> usize
+    requires { ⌜ index + 8 ≤ length (now out) ⌝ }
+    ensures { λ r. ⌜ (r ≡ index + 8) × (now (out .exit) ≡ put (now (out .entry)) index (packLittleEndian 8 n)) ⌝ }
+{
+    packed::pack_little_endian_uint64_into_array(n, out, index);
+    index + 8
+}
+
+// Puts the count of an array of numbers of a width and its bytes, which lie in the store, and gives the index behind them.
+fn put_elements(
+    count: u64,
+    width: u64,
+    store: &[u8],
+    place: u64,
+    out: &mut [u8],
+    index: usize,
+) -> usize
+    requires { ⌜ (place + width * count ≤ length (now store)) × (index + (8 + width * count) ≤ length (now out)) ⌝ }
+    ensures { λ r. ⌜ (r ≡ index + (8 + width * count)) × (now (out .exit) ≡ put (now (out .entry)) index (packLittleEndian 8 count ++ take (width * count) (drop place (now (store .entry))))) ⌝ }
+{
+    let at = put_uint64(count, out, index);
+    let start = place as usize;
+    let size = (width * count) as usize;
+    let end = start + size;
+    packed::copy_seq_into_array(&store[start..end], out, at);
+    at + size
+}
+
+// Puts a row's own bytes, without its children's, and gives the index behind them.
+fn put_row(rows: &[u64], row: usize, store: &[u8], out: &mut [u8], index: usize) -> usize
+    requires { ⌜ (rowWidth * row + rowWidth ≤ length (now rows)) × RowHolds (now rows) (now store) row × (index + sizeAt (now rows) row ≤ length (now out)) ⌝ }
+    ensures { λ r. ⌜ (r ≡ index + sizeAt (now (rows .entry)) row) × (now (out .exit) ≡ put (now (out .entry)) index (ownBytesAt (now (rows .entry)) (now (store .entry)) row)) ⌝ }
+{
+    let kind = kind_at(rows, row);
+    let word2 = word2_at(rows, row);
+    let place = word3_at(rows, row);
+    match kind {
+        0 => index,
+        1 => put_uint32(word2 as u32, out, index),
+        2 => put_uint64(word2, out, index),
+        3 => put_uint64(word2, out, index),
+        4 => index,
+        5 => put_elements(word2, 1, store, place, out, index),
+        6 => put_elements(word2, 4, store, place, out, index),
+        7 => put_elements(word2, 8, store, place, out, index),
+        8 => put_uint64(word2, out, index),
+        9.. => index,
+    }
+}
+
+// Puts the own bytes of all rows, one behind the other: a value's rows are in the order of its bytes.
+fn put_rows(rows: &[u64], n: usize, store: &[u8], out: &mut [u8], index: usize)
+    requires { ⌜ (rowWidth * n ≤ length (now rows)) × ((j : ℕ) → j < n → RowHolds (now rows) (now store) j) × (index + sizeFrom (now rows) 0 n ≤ length (now out)) ⌝ }
+    ensures { λ _. ⌜ now (out .exit) ≡ put (now (out .entry)) index (bytesFrom (now (rows .entry)) (now (store .entry)) 0 n) ⌝ }
+{
+    let mut at = index;
+    let mut i: usize = 0;
+    while i < n {
+        at = put_row(rows, i, store, out, at);
+        i += 1;
+    }
 }

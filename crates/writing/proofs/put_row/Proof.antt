@@ -1,0 +1,191 @@
+-- Each arm cites its kind's class; the last arm's word is none of 0 to 8.
+use mathlib.Core.Path.{_≡_, ap, sym, subst, _∙_}
+use mathlib.Core.Bool.{true}
+use mathlib.Core.List.{List, []}
+use Prim.Native.Nat.{ℕ, _+_, _*_, _^_, _≤_, _<_}
+use native.Mathlib.Nat.{add-zero}
+use native.Mathlib.Omega.{arith}
+use lib.ListN.{length}
+use borrow.Author.Tests.{leb-true}
+use Rattle.refusal.proofs.Tests.{reflects-eqb, reflects-ltb, reflects-and}
+use Rattle.packed.specs.Packed.{put}
+use Rattle.packed.proofs.Put.{put-nothing}
+use Rattle.value.specs.Kinds.{uint32, Elements, bytes, uint32s, uint64s, elementWidth, Kind, kinds, kindOf, number, elements}
+use Rattle.rows.specs.Row.{Row, rowAt}
+use Rattle.rows.specs.Walk.{keepsRule, withinStore}
+use Rattle.rows.specs.Size.{ownBytes, ownSize}
+use Rattle.rows.proofs.Laws.{none-of}
+use borrow.Author.Needs.{needs}
+use Rattle.writing.proofs.put_row.Statement.{statement}
+use Rattle.writing.proofs.put_row.Tie as tie
+
+-- behind the reads: the row, and the output before it
+abbrev this : tie.After-word3-at → Row
+this c = rowAt (c .before .before .before .before .before .before .args .rows .now) (c .before .before .before .before .before .before .args .row)
+
+-- what is to be put where the row is of class k
+abbrev Put : tie.After-word3-at → Kind → ℕ → List ℕ → Type 0
+Put c k r exit =
+    let a = c .before .before .before .before .before .before .args in
+    (r ≡ a .index + ownSize k (this c)) × (exit ≡ put (a .out .now) (a .index) (ownBytes k (this c) (a .store .now)))
+
+class : (c : tie.After-word3-at) {m : ℕ} → c .before .before .kind-at .result ≡ m → kindOf (this c .kind) ≡ kindOf m
+class c e = ap kindOf (sym (c .before .before .kind-at .ensures) ∙ e)
+
+arm : (c : tie.After-word3-at) {k : Kind} → kindOf (this c .kind) ≡ k → {r : ℕ} {exit : List ℕ} → Put c k r exit → Put c (kindOf (this c .kind)) r exit
+arm c e {r} {exit} h = subst (λ (k : Kind). Put c k r exit) (sym e) h
+
+-- a row without bytes of its own
+nothing : (c : tie.After-word3-at) → let a = c .before .before .before .before .before .before .args in (a .index ≡ a .index + 0) × (a .out .now ≡ put (a .out .now) (a .index) [])
+nothing c = let a = c .before .before .before .before .before .before .args in (sym (add-zero (a .index)), sym (put-nothing (a .out .now) (a .index)))
+
+room : (c : tie.After-word3-at) {k : Kind} → kindOf (this c .kind) ≡ k → let a = c .before .before .before .before .before .before .args in a .index + ownSize k (this c) ≤ length (a .out .now)
+room c e = let s = c .before .before .before .before .before .before in subst (λ (k : Kind). s .args .index + ownSize k (this c) ≤ length (s .args .out .now)) e (s .pre .2)
+
+number-fits : (c : tie.After-word3-at) → kindOf (this c .kind) ≡ number uint32 → c .before .word2-at .result < 256 ^ 4
+number-fits c e =
+    let r = this c in
+    let h : keepsRule (number uint32) r ≡ true = sym (ap (λ (k : Kind). keepsRule k r) e) ∙ c .before .before .before .before .before .before .pre .1 .rule in
+    rw (c .before .word2-at .ensures) (reflects-and (reflects-eqb (r .span) 1) (reflects-and (reflects-ltb (r .word2) (256 ^ 4)) (reflects-eqb (r .word3) 0)) .1 h .1 .0)
+
+elements-fit : (c : tie.After-word3-at) (k : Elements) → kindOf (this c .kind) ≡ elements k → let a = c .before .before .before .before .before .before .args in (c .word3-at .result + elementWidth k * c .before .word2-at .result ≤ length (a .store .now)) × (a .index + (8 + elementWidth k * c .before .word2-at .result) ≤ length (a .out .now))
+elements-fit c k e =
+    let r = this c in
+    let len = length (c .before .before .before .before .before .before .args .store .now) in
+    let h : withinStore (elements k) r len ≡ true = sym (ap (λ (x : Kind). withinStore x r len) e) ∙ c .before .before .before .before .before .before .pre .1 .within in
+    rw (c .word3-at .ensures, c .before .word2-at .ensures) (leb-true (r .word3 + elementWidth k * r .word2) len h, room c e)
+
+kind-at-requires : tie.Need-kind-at-requires
+kind-at-requires c κs = search needs
+
+word2-at-requires : tie.Need-word2-at-requires
+word2-at-requires c κs = search needs
+
+word3-at-requires : tie.Need-word3-at-requires
+word3-at-requires c κs = search needs
+
+cast-put-uint32 : tie.Need-cast-put-uint32
+unfolding kindOf kinds ownBytes
+cast-put-uint32 c = omega (arith, number-fits (c .before) (class (c .before) (c .match .keys2)))
+
+put-uint32-requires : tie.Need-put-uint32-requires
+unfolding kindOf kinds ownBytes
+put-uint32-requires c κs = room (c .before .before) (class (c .before .before) (c .before .match .keys2))
+
+put-uint64-requires : tie.Need-put-uint64-requires
+unfolding kindOf kinds ownBytes
+put-uint64-requires c κs = room (c .before .before) (class (c .before .before) (c .before .match .keys3))
+
+put-uint64-requires-2 : tie.Need-put-uint64-requires-2
+unfolding kindOf kinds ownBytes
+put-uint64-requires-2 c κs = room (c .before .before) (class (c .before .before) (c .before .match .keys4))
+
+put-elements-requires : tie.Need-put-elements-requires
+unfolding kindOf kinds ownBytes
+put-elements-requires c κs = elements-fit (c .before .before) bytes (class (c .before .before) (c .before .match .keys6))
+
+put-elements-requires-2 : tie.Need-put-elements-requires-2
+unfolding kindOf kinds ownBytes
+put-elements-requires-2 c κs = elements-fit (c .before .before) uint32s (class (c .before .before) (c .before .match .keys7))
+
+put-elements-requires-3 : tie.Need-put-elements-requires-3
+unfolding kindOf kinds ownBytes
+put-elements-requires-3 c κs = elements-fit (c .before .before) uint64s (class (c .before .before) (c .before .match .keys8))
+
+put-uint64-requires-3 : tie.Need-put-uint64-requires-3
+unfolding kindOf kinds ownBytes
+put-uint64-requires-3 c κs = room (c .before .before) (class (c .before .before) (c .before .match .keys9))
+
+returns : tie.Need-returns
+unfolding kindOf kinds ownBytes
+returns c = arm (c .before) (class (c .before) (c .match .keys1)) (nothing (c .before))
+
+same-length : tie.Need-same-length
+same-length c = search needs
+
+returns-2 : tie.Need-returns-2
+unfolding kindOf kinds ownBytes
+returns-2 c = arm (c .before .before .before .before .before) (class (c .before .before .before .before .before) (c .before .before .before .before .match .keys2)) (rw (c .before .before .before .before .before .before .word2-at .ensures) at (c .before .before .put-uint32 .ensures))
+
+same-length-2 : tie.Need-same-length-2
+same-length-2 c = search needs
+
+returns-3 : tie.Need-returns-3
+unfolding kindOf kinds ownBytes
+returns-3 c = arm (c .before .before .before .before .before) (class (c .before .before .before .before .before) (c .before .before .before .before .match .keys3)) (rw (c .before .before .before .before .before .before .word2-at .ensures) at (c .before .before .put-uint64 .ensures))
+
+same-length-3 : tie.Need-same-length-3
+same-length-3 c = search needs
+
+returns-4 : tie.Need-returns-4
+unfolding kindOf kinds ownBytes
+returns-4 c = arm (c .before .before .before .before .before) (class (c .before .before .before .before .before) (c .before .before .before .before .match .keys4)) (rw (c .before .before .before .before .before .before .word2-at .ensures) at (c .before .before .put-uint642 .ensures))
+
+returns-5 : tie.Need-returns-5
+unfolding kindOf kinds ownBytes
+returns-5 c = arm (c .before) (class (c .before) (c .match .keys5)) (nothing (c .before))
+
+same-length-4 : tie.Need-same-length-4
+same-length-4 c = search needs
+
+returns-6 : tie.Need-returns-6
+unfolding kindOf kinds ownBytes
+returns-6 c = arm (c .before .before .before .before .before) (class (c .before .before .before .before .before) (c .before .before .before .before .match .keys6)) (rw (c .before .before .before .before .before .word3-at .ensures, c .before .before .before .before .before .before .word2-at .ensures) at (c .before .before .put-elements .ensures))
+
+same-length-5 : tie.Need-same-length-5
+same-length-5 c = search needs
+
+returns-7 : tie.Need-returns-7
+unfolding kindOf kinds ownBytes
+returns-7 c = arm (c .before .before .before .before .before) (class (c .before .before .before .before .before) (c .before .before .before .before .match .keys7)) (rw (c .before .before .before .before .before .word3-at .ensures, c .before .before .before .before .before .before .word2-at .ensures) at (c .before .before .put-elements2 .ensures))
+
+same-length-6 : tie.Need-same-length-6
+same-length-6 c = search needs
+
+returns-8 : tie.Need-returns-8
+unfolding kindOf kinds ownBytes
+returns-8 c = arm (c .before .before .before .before .before) (class (c .before .before .before .before .before) (c .before .before .before .before .match .keys8)) (rw (c .before .before .before .before .before .word3-at .ensures, c .before .before .before .before .before .before .word2-at .ensures) at (c .before .before .put-elements3 .ensures))
+
+same-length-7 : tie.Need-same-length-7
+same-length-7 c = search needs
+
+returns-9 : tie.Need-returns-9
+unfolding kindOf kinds ownBytes
+returns-9 c = arm (c .before .before .before .before .before) (class (c .before .before .before .before .before) (c .before .before .before .before .match .keys9)) (rw (c .before .before .before .before .before .before .word2-at .ensures) at (c .before .before .put-uint643 .ensures))
+
+returns-10 : tie.Need-returns-10
+unfolding kindOf kinds ownBytes
+returns-10 c = arm (c .before) (ap kindOf (sym (c .before .before .before .kind-at .ensures)) ∙ none-of (c .before .before .before .kind-at .result) (c .match .rest)) (nothing (c .before))
+
+pub put-row-spec : {M : Type 1} → statement M
+put-row-spec =
+    tie.close
+    (tie.spec
+    kind-at-requires
+    word2-at-requires
+    word3-at-requires
+    cast-put-uint32
+    put-uint32-requires
+    put-uint64-requires
+    put-uint64-requires-2
+    put-elements-requires
+    put-elements-requires-2
+    put-elements-requires-3
+    put-uint64-requires-3
+    returns
+    same-length
+    returns-2
+    same-length-2
+    returns-3
+    same-length-3
+    returns-4
+    returns-5
+    same-length-4
+    returns-6
+    same-length-5
+    returns-7
+    same-length-6
+    returns-8
+    same-length-7
+    returns-9
+    returns-10)

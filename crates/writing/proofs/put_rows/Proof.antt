@@ -1,0 +1,69 @@
+-- The loop's invariant: exactly the own bytes of the first i rows are put.
+use mathlib.Core.Path.{_≡_, refl, ap, sym, _∙_}
+use mathlib.Core.List.{List}
+use Prim.Native.Nat.{ℕ, _+_, _-_, _≤_}
+use native.Mathlib.Omega.{arith}
+use lib.ListN.{length}
+use Rattle.packed.specs.Packed.{put}
+use Rattle.packed.proofs.Put.{put-nothing}
+use Rattle.rows.specs.Size.{bytesFrom, sizeFrom}
+use Rattle.rows.proofs.Size.{size-none, size-next}
+use Rattle.writing.proofs.Put.{size-within, bytes-none, rows-next}
+use borrow.Author.Needs.{needs}
+use Rattle.writing.proofs.put_rows.Statement.{statement}
+use Rattle.writing.proofs.put_rows.Tie as tie
+
+abbrev Inv-loop : tie.InvT-loop
+Inv-loop rows n store out₀ index at₀ i₀ out at i = (i ≤ n) × (at ≡ index + sizeFrom rows 0 i) × (out ≡ put out₀ index (bytesFrom rows store 0 i)) × (length out ≡ length out₀)
+
+abbrev μ-loop : tie.MeasureT-loop
+μ-loop rows n store out₀ index at₀ i₀ out at i = n - i
+
+loop-holds : tie.Need-loop-holds Inv-loop μ-loop
+loop-holds c =
+    let a = c .before .before .before .args in
+    (omega arith, omega (arith, size-none (a .rows .now) 0), sym (ap (put (a .out .now) (a .index)) (bytes-none (a .rows .now) (a .store .now) 0) ∙ put-nothing (a .out .now) (a .index)), refl)
+
+put-row-requires : tie.Need-put-row-requires Inv-loop μ-loop
+put-row-requires c κs =
+    let s = c .before .before .before .before .before .before in
+    let l = c .before .before .loop in
+    (omega (arith, s .pre .0), s .pre .1 (l .i) (c .before .loop-test .taken), omega (arith, s .pre .2, size-within (s .args .rows .now) (s .args .store .now) (l .i) (s .args .n) (c .before .loop-test .taken)))
+
+add-i : tie.Need-add-i Inv-loop μ-loop
+add-i c = search needs
+
+loop-less : tie.Need-loop-less Inv-loop μ-loop
+loop-less c = search needs
+
+loop-again : tie.Need-loop-again Inv-loop μ-loop
+loop-again c =
+    let s = c .before .before .before .before .before .before .before .before .before in
+    let a = s .args in
+    let l = c .before .before .before .before .before .loop in
+    let q = c .before .before .put-row in
+    let r = rows-next (a .rows .now) (a .store .now) (a .n) (a .out .now) (a .index) (s .pre .1) (s .pre .2) (l .out) _ (l .at) (l .i) (c .before .before .before .before .loop-test .taken) (l .inv .1) (l .inv .2) (q .ensures .1) in
+    (omega arith, omega (arith, q .ensures .0, size-next (a .rows .now) (l .i)), r .0, r .1)
+
+same-length : tie.Need-same-length Inv-loop μ-loop
+same-length c = c .before .loop .inv .3
+
+returns : tie.Need-returns Inv-loop μ-loop
+returns c =
+    let a = c .before .before .before .before .before .args in
+    let e : c .before .loop .i ≡ a .n = omega arith in
+    c .before .loop .inv .2 ∙ ap (λ (i : ℕ). put (a .out .now) (a .index) (bytesFrom (a .rows .now) (a .store .now) 0 i)) e
+
+pub put-rows-spec : {M : Type 1} → statement M
+put-rows-spec =
+    tie.close
+    (tie.spec
+    Inv-loop
+    μ-loop
+    loop-holds
+    put-row-requires
+    add-i
+    loop-less
+    loop-again
+    same-length
+    returns)
