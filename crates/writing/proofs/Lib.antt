@@ -1,3 +1,4 @@
 pub mod InGrammar
 pub mod Walk
 pub mod Put
+pub mod Writing

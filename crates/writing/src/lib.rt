@@ -239,3 +239,75 @@ fn put_rows(rows: &[u64], n: usize, store: &[u8], out: &mut [u8], index: usize)
         i += 1;
     }
 }
+// GM's `ComputeSizeOf` of a value that may be written: 1 to 6, 12 to 14, 15, then 16.
+fn size_of_value(grammar: &[u32], rows: &[u64], n: usize, store: &[u8]) -> SizeOf
+    ensures { λ r. ⌜ sizeOf r ≡ map SizeOfV (valueOf (now (grammar .entry)) (now (rows .entry)) n (now (store .entry))) ⌝ }
+{
+    match grammar::check_grammar(grammar) {
+        Answer::Refused(r) => SizeOf::Refused(r),
+        Answer::Accepted => match rows::compute_size_of(rows, n, store) {
+            SizeOf::Refused(r) => SizeOf::Refused(r),
+            SizeOf::Size(size) => match check_in_grammar(rows, grammar, 0, 0) {
+                Answer::Refused(r) => SizeOf::Refused(r),
+                Answer::Accepted => check_size(size),
+            },
+        },
+    }
+}
+
+fn check_size(size: u64) -> SizeOf
+    ensures { λ r. ⌜ sizeOf r ≡ test (leb size 1048576) (reason 16 (atRow 0)) (λ _. accepted size) ⌝ }
+{
+    if MOST_BYTES < size {
+        SizeOf::Refused(refusal::at_row(refusal::SIZE_TOO_LARGE, 0))
+    } else {
+        SizeOf::Size(size)
+    }
+}
+
+// What the writers answer, without writing: the size, or the first refusal, 17 last.
+fn size_to_write(
+    grammar: &[u32],
+    rows: &[u64],
+    n: usize,
+    store: &[u8],
+    len: usize,
+    index: usize,
+) -> SizeOf
+    ensures { λ r. ⌜ sizeOf r ≡ map SizeOfV (marshallValOf (now (grammar .entry)) (now (rows .entry)) n (now (store .entry)) len index) ⌝ }
+{
+    match size_of_value(grammar, rows, n, store) {
+        SizeOf::Refused(r) => SizeOf::Refused(r),
+        SizeOf::Size(size) => match packed::room(len, index, size as usize, 1) {
+            Answer::Refused(r) => SizeOf::Refused(r),
+            Answer::Accepted => SizeOf::Size(size),
+        },
+    }
+}
+
+// GM's `MarshallVal`. What it answers is decided first, so that a refusal leaves every byte as it was.
+pub fn marshall_val(
+    grammar: &[u32],
+    rows: &[u64],
+    n: usize,
+    store: &[u8],
+    out: &mut [u8],
+    index: usize,
+) -> SizeOf
+    ensures { λ r. ⌜ Marshalls (marshallValOf (now (grammar .entry)) (now (rows .entry)) n (now (store .entry)) (length (now (out .entry))) index) index r (now (out .entry)) (now (out .exit)) ⌝ }
+{
+    match size_to_write(grammar, rows, n, store, out.len(), index) {
+        SizeOf::Refused(r) => SizeOf::Refused(r),
+        SizeOf::Size(size) => {
+            put_rows(rows, n, store, out, index);
+            SizeOf::Size(size)
+        }
+    }
+}
+
+// GM's `Marshall`: `MarshallVal` from byte 0 on.
+pub fn marshall(grammar: &[u32], rows: &[u64], n: usize, store: &[u8], out: &mut [u8]) -> SizeOf
+    ensures { λ r. ⌜ Marshalls (marshallValOf (now (grammar .entry)) (now (rows .entry)) n (now (store .entry)) (length (now (out .entry))) 0) 0 r (now (out .entry)) (now (out .exit)) ⌝ }
+{
+    marshall_val(grammar, rows, n, store, out, 0)
+}
