@@ -34,7 +34,7 @@ use Rattle.rows.proofs.Calls.{Table, passed}
 use Rattle.writing.specs.InGrammar.{checkInGrammar}
 use Rattle.writing.specs.Checks.{Standing}
 use Rattle.writing.specs.Put.{RowHolds}
-use Rattle.writing.specs.Marshall.{valueOf, marshallValOf, Marshalls}
+use Rattle.writing.specs.Marshall.{valueOf, marshallValOf, Writes, Marshalls}
 use Rattle.writing.proofs.InGrammar.{in-grammar-exactly}
 
 -- what a matched answer says of the outcome that it means
@@ -110,22 +110,15 @@ module _ (g t : List ℕ) (n : ℕ) (s : List ℕ) where
             rw (e, one-mul, z) (sym (map-map SizeOfV (λ _. v) (room len index (SizeOfV v))))
         go (refused r) q = let z : _≡_ {A = ℕ} 0 1 = cc in absurd (omega arith)
 
--- ---- what an accepted writing says
-
-pub record Writes (g t : List ℕ) (n : ℕ) (s : List ℕ) (len index : ℕ) (v : Val) : Type 0 where
-  pub grammar : Passes g
-  pub rows : walk t n s ≡ accepted v
-  pub inGrammar : ValInGrammar v (treeOf g 0)
-  pub small : SizeOfV v ≤ 1048576
-  pub room : index + SizeOfV v ≤ len
+-- ---- when a value is written
 
 module _ (g t : List ℕ) (n : ℕ) (s : List ℕ) (len index : ℕ) where
-  writes-accepted : (v : Val) → Writes g t n s len index v → marshallValOf g t n s len index ≡ accepted v
+  pub write-accepted : (v : Val) → Writes g t n s len index v → marshallValOf g t n s len index ≡ accepted v
   unfolding valueOf marshallValOf
-  writes-accepted v w =
+  write-accepted v w =
       rw (grammar-exactly g .1 (w .grammar), w .rows, in-grammar-exactly v (treeOf g 0) 0 .1 (w .inGrammar), le-leb (SizeOfV v) 1048576 (w .small), room-test len index (SizeOfV v), le-leb (index + SizeOfV v) len (w .room))
 
-  accepted-writes : (v : Val) → marshallValOf g t n s len index ≡ accepted v → Writes g t n s len index v
+  pub accepted-writes : (v : Val) → marshallValOf g t n s len index ≡ accepted v → Writes g t n s len index v
   unfolding valueOf marshallValOf
   accepted-writes v h =
       let a = bind-accepted (valueOf g t n s) _ h in
@@ -147,7 +140,7 @@ module _ (g t : List ℕ) (n : ℕ) (s : List ℕ) (len index : ℕ) where
 
   -- a value is written exactly where nothing is to be refused
   pub write-exactly : (v : Val) → (marshallValOf g t n s len index ≡ accepted v) ↔ Writes g t n s len index v
-  write-exactly v = (accepted-writes v, writes-accepted v)
+  write-exactly v = (accepted-writes v, write-accepted v)
 
 -- ---- putting what was decided
 
