@@ -1,4 +1,4 @@
--- A C answer made of the answer of a call that fills a buffer or rows.
+-- A C answer made of the answer of a call that fills a buffer, rows or an output.
 use mathlib.Core.Path.{_≡_, ap, _∙_}
 use mathlib.Core.List.{List}
 use Prim.Native.Nat.{ℕ}
@@ -7,11 +7,14 @@ use Rattle.refusal.proofs.Outcome.{map-map}
 use Rattle.value.specs.Tree.{Val}
 use Rattle.value.specs.Step.{Step}
 use Rattle.value.specs.Reading.{State}
+use Rattle.rows.specs.Meaning.{sizeOf}
+use Rattle.rows.specs.declared.SizeOf.{SizeOf}
 use Rattle.reading.specs.Meaning.{Counts, parsedOf}
 use Rattle.reading.specs.Calls.{Parses}
 use Rattle.reading.specs.declared.Parsed.{Parsed}
+use Rattle.writing.specs.Marshall.{Marshalls}
 use Rattle.route_c.specs.declared.RouteAnswer.{RouteAnswer}
-use Rattle.route_c.specs.Answer.{answerOf, noValue, countValues, Answers, AnswersRows}
+use Rattle.route_c.specs.Answer.{answerOf, noValue, oneValue, countValues, Answers, AnswersRows, AnswersBytes}
 
 pub answers-fills : {o : Outcome Reason (List ℕ)} {a : Outcome Reason (Unit {0})} {r : RouteAnswer} {entry exit : List ℕ} → r ≡ answerOf (map noValue a) → Fills o a entry exit → Answers o r entry exit
 answers-fills {o} e f = record {
@@ -23,4 +26,10 @@ pub answers-parses : {o : Outcome Reason (Step State Val)} {index : ℕ} {p : Pa
 answers-parses e f = record {
   answers = e ∙ ap (λ (x : Outcome Reason Counts). answerOf (map countValues x)) (f .answers);
   rows = f .rows;
+}
+
+pub answers-marshalls : {o : Outcome Reason Val} {index : ℕ} {p : SizeOf} {r : RouteAnswer} {entry exit : List ℕ} → r ≡ answerOf (map oneValue (sizeOf p)) → Marshalls o index p entry exit → AnswersBytes o index r entry exit
+answers-marshalls e f = record {
+  answers = e ∙ ap (λ (x : Outcome Reason ℕ). answerOf (map oneValue x)) (f .answers);
+  output = f .output;
 }

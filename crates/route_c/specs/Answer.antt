@@ -4,7 +4,8 @@ use mathlib.Core.List.{List}
 use Prim.Native.Nat.{ℕ}
 use Rattle.refusal.specs.Outcome.{Outcome, accepted, refused, map, contents, Location, word, byte, row, Reason, reason}
 use Rattle.packed.specs.Packed.{put}
-use Rattle.value.specs.Tree.{Val}
+use Rattle.value.specs.Tree.{Val, SizeOfV}
+use Rattle.value.specs.Bytes.{bytesOf}
 use Rattle.value.specs.Step.{Step}
 use Rattle.value.specs.Reading.{State}
 use Rattle.rows.specs.Locate.{Part}
@@ -56,3 +57,8 @@ pub record Answers (o : Outcome Reason (List ℕ)) (answer : RouteAnswer) (entry
 pub record AnswersRows (o : Outcome Reason (Step State Val)) (index : ℕ) (answer : RouteAnswer) (entry exit : List ℕ) : Type 0 where
   pub answers : answer ≡ answerOf (map countValues (map countsOf o))
   pub rows : exit ≡ contents (map (λ t. put entry 0 (rowsOf (t .value) index)) o) entry
+
+-- a writer answers as the outcome o says, with the size; the bytes of the value stand at the index of the output at exit
+pub record AnswersBytes (o : Outcome Reason Val) (index : ℕ) (answer : RouteAnswer) (entry exit : List ℕ) : Type 0 where
+  pub answers : answer ≡ answerOf (map oneValue (map SizeOfV o))
+  pub output : exit ≡ contents (map (λ v. put entry index (bytesOf v)) o) entry

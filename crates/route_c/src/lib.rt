@@ -11,7 +11,8 @@ ghost use Rattle.rows.specs.Locate.{locateArray};
 ghost use Rattle.rows.specs.Meaning.{sizeOf, located};
 ghost use Rattle.reading.specs.Calls.{capacityOf, parseValOf, demarshallOf, countsOf};
 ghost use Rattle.reading.specs.Meaning.{parsedOf};
-ghost use Rattle.route_c.specs.Answer.{answerOf, noValue, oneValue, partValues, countValues, Answers, AnswersRows};
+ghost use Rattle.writing.specs.Marshall.{marshallValOf};
+ghost use Rattle.route_c.specs.Answer.{answerOf, noValue, oneValue, partValues, countValues, Answers, AnswersRows, AnswersBytes};
 use packed::UnpackedU32;
 use packed::UnpackedU64;
 use reading::Parsed;
@@ -242,4 +243,31 @@ pub extern "C" fn route_demarshall(grammar: &[u32], record: &[u8], rows: &mut [u
     ensures { λ r. ⌜ AnswersRows (demarshallOf (now (grammar .entry)) (now («record» .entry)) (capacityOf (length (now (rows .entry))))) 0 r (now (rows .entry)) (now (rows .exit)) ⌝ }
 {
     of_parsed(reading::demarshall(grammar, record, rows))
+}
+
+#[no_mangle]
+pub extern "C" fn route_marshall_val(
+    grammar: &[u32],
+    rows: &[u64],
+    n: usize,
+    store: &[u8],
+    out: &mut [u8],
+    index: usize,
+) -> RouteAnswer
+    ensures { λ r. ⌜ AnswersBytes (marshallValOf (now (grammar .entry)) (now (rows .entry)) n (now (store .entry)) (length (now (out .entry))) index) index r (now (out .entry)) (now (out .exit)) ⌝ }
+{
+    of_size(writing::marshall_val(grammar, rows, n, store, out, index))
+}
+
+#[no_mangle]
+pub extern "C" fn route_marshall(
+    grammar: &[u32],
+    rows: &[u64],
+    n: usize,
+    store: &[u8],
+    out: &mut [u8],
+) -> RouteAnswer
+    ensures { λ r. ⌜ AnswersBytes (marshallValOf (now (grammar .entry)) (now (rows .entry)) n (now (store .entry)) (length (now (out .entry))) 0) 0 r (now (out .entry)) (now (out .exit)) ⌝ }
+{
+    of_size(writing::marshall(grammar, rows, n, store, out))
 }
