@@ -58,6 +58,15 @@ pub fn check_grammar(words: &[u32]) -> Result<(), Refusal> {
     Ok(())
 }
 
+/// The kind of a node of a checked table, and the numbers of its children.
+pub(crate) fn node(words: &[u32], number: u32) -> (u32, &[u32]) {
+    let (nodes, node) = (words[0] as usize, 1 + 3 * number as usize);
+    let (first, count) = (words[node + 1], words[node + 2]);
+    let child_words = &words[2 + 3 * nodes..];
+    let children = &child_words[first as usize..][..count as usize];
+    (words[node], children)
+}
+
 #[cfg(test)]
 mod tests {
     use super::*;

@@ -10,9 +10,11 @@ mod packed;
 mod reading;
 mod refusal;
 mod rows;
+mod writing;
 
 pub use grammar::check_grammar;
 pub use packed::{pack, pack_seq, unpack, unpack_seq};
 pub use reading::{capacity, demarshall, parse_val, Reading};
 pub use refusal::{Place, Refusal};
 pub use rows::{array_bytes, check_rows, compute_size_of, locate_array};
+pub use writing::{marshall, marshall_val, Writing};

@@ -13,7 +13,7 @@ fn sum(bytes: &[u8]) -> u64 {
 }
 
 /// The only `width` bytes with this sum: the digits of `number` to the base 256.
-fn digits(number: u64, width: usize) -> Vec<u8> {
+pub(crate) fn digits(number: u64, width: usize) -> Vec<u8> {
     let mut rest = number;
     let mut digits = Vec::new();
     for _ in 0..width {
@@ -51,6 +51,15 @@ pub fn unpack(width: usize, packed: &[u8], index: usize) -> Result<u64, Refusal>
     unpack_seq(width, packed, index, 1).map(|numbers| numbers[0])
 }
 
+/// What `out` holds once the bytes are written at `index`.
+pub(crate) fn write(bytes: &[u8], out: &[u8], index: usize) -> Result<Vec<u8>, Refusal> {
+    if end(index, bytes.len(), 1) > out.len() as u128 {
+        return Err(at_byte(17, out.len()));
+    }
+    let (before, after) = (&out[..index], &out[index + bytes.len()..]);
+    Ok([before, bytes, after].concat())
+}
+
 /// What `out` holds once the numbers are written at `index`, `width` bytes each.
 pub fn pack_seq(
     width: usize,
@@ -58,12 +67,8 @@ pub fn pack_seq(
     out: &[u8],
     index: usize,
 ) -> Result<Vec<u8>, Refusal> {
-    if end(index, numbers.len(), width) > out.len() as u128 {
-        return Err(at_byte(17, out.len()));
-    }
     let run: Vec<u8> = numbers.iter().flat_map(|&n| digits(n, width)).collect();
-    let (before, after) = (&out[..index], &out[index + run.len()..]);
-    Ok([before, &run, after].concat())
+    write(&run, out, index)
 }
 
 /// What `out` holds once the number is written at `index` in `width` bytes.

@@ -3,7 +3,7 @@
 
 use std::slice;
 
-use crate::grammar::check_grammar;
+use crate::grammar::{check_grammar, node};
 use crate::packed::unpack;
 use crate::refusal::{at_byte, Refusal};
 use crate::rows::{check_length, Elements, MOST_ROWS, V};
@@ -32,15 +32,6 @@ struct Reader<'a> {
 }
 
 impl<'a> Reader<'a> {
-    /// The kind of a node and the numbers of its children.
-    fn node(&self, number: u32) -> (u32, &'a [u32]) {
-        let (nodes, node) = (self.grammar[0] as usize, 1 + 3 * number as usize);
-        let (first, count) = (self.grammar[node + 1], self.grammar[node + 2]);
-        let child_words = &self.grammar[2 + 3 * nodes..];
-        let children = &child_words[first as usize..][..count as usize];
-        (self.grammar[node], children)
-    }
-
     /// Reads a number of `width` bytes.
     fn number(&mut self, width: usize) -> Result<u64, Refusal> {
         let number = unpack(width, self.record, self.position)?;
@@ -84,12 +75,12 @@ impl<'a> Reader<'a> {
     }
 
     /// Reads a value of a node.
-    fn value(&mut self, node: u32) -> Result<V<'a>, Refusal> {
+    fn value(&mut self, number: u32) -> Result<V<'a>, Refusal> {
         if self.rows_left == 0 {
             return Err(at_byte(8, self.position));
         }
         self.rows_left -= 1;
-        let (kind, children) = self.node(node);
+        let (kind, children) = node(self.grammar, number);
         match kind {
             0 => Ok(V::Constant),
             1 => self.number(4).map(|number| V::Uint32(number as u32)),

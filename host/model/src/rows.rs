@@ -7,7 +7,7 @@ use crate::refusal::{at_byte, at_row, Refusal};
 /// The most rows of a value.
 pub(crate) const MOST_ROWS: usize = 4096;
 /// The most bytes of a record or a store.
-const MOST_BYTES: usize = 1_048_576;
+pub(crate) const MOST_BYTES: usize = 1_048_576;
 /// The largest number of kind 1.
 const MOST_UINT32: u64 = 4_294_967_295;
 
@@ -128,7 +128,7 @@ fn value<'a>(rows: &[Row], row: usize, end: usize, store: &'a [u8]) -> Result<V<
 }
 
 /// The value that `n` rows stand for.
-fn whole_value<'a>(rows: &[u64], n: usize, store: &'a [u8]) -> Result<V<'a>, Refusal> {
+pub(crate) fn whole_value<'a>(rows: &[u64], n: usize, store: &'a [u8]) -> Result<V<'a>, Refusal> {
     check_length(store)?;
     let rows = table(rows, n)?;
     // The root's span is n exactly; another row may stop before its parent's end.
@@ -144,7 +144,7 @@ fn seq_sum(values: &[V]) -> u64 {
 }
 
 /// `SizeOfV`. The packed bytes of an array are as many as its elements times their width.
-fn size_of_v(value: &V) -> u64 {
+pub(crate) fn size_of_v(value: &V) -> u64 {
     match value {
         V::Constant => 0,
         V::Uint32(_) => 4,
