@@ -91,6 +91,29 @@ extern "C" {
         record: *const u8,
         record_len: usize,
     ) -> Answer;
+    fn route_marshall_val(
+        grammar: *const u32,
+        grammar_len: usize,
+        rows: *const u64,
+        rows_len: usize,
+        n: usize,
+        store: *const u8,
+        store_len: usize,
+        out: *mut u8,
+        out_len: usize,
+        index: usize,
+    ) -> Answer;
+    fn route_marshall(
+        grammar: *const u32,
+        grammar_len: usize,
+        rows: *const u64,
+        rows_len: usize,
+        n: usize,
+        store: *const u8,
+        store_len: usize,
+        out: *mut u8,
+        out_len: usize,
+    ) -> Answer;
 }
 
 pub fn unpack_u32(packed: &[u8], index: usize) -> Answer {
@@ -190,4 +213,48 @@ pub fn check_whole(grammar: &[u32], record: &[u8]) -> Answer {
     // SAFETY: each pointer and length are those of one slice; `grammar` is aligned for u32, and
     // both are only read.
     unsafe { route_check_whole(grammar.as_ptr(), grammar.len(), bytes, length) }
+}
+
+pub fn marshall_val(
+    grammar: &[u32],
+    rows: &[u64],
+    n: usize,
+    store: &[u8],
+    out: &mut [u8],
+    index: usize,
+) -> Answer {
+    // SAFETY: each pointer and length are those of one slice; `grammar`, aligned for u32, `rows`,
+    // aligned for u64, and `store` are only read, and `&mut` keeps `out` apart from them.
+    unsafe {
+        route_marshall_val(
+            grammar.as_ptr(),
+            grammar.len(),
+            rows.as_ptr(),
+            rows.len(),
+            n,
+            store.as_ptr(),
+            store.len(),
+            out.as_mut_ptr(),
+            out.len(),
+            index,
+        )
+    }
+}
+
+pub fn marshall(grammar: &[u32], rows: &[u64], n: usize, store: &[u8], out: &mut [u8]) -> Answer {
+    // SAFETY: each pointer and length are those of one slice; `grammar`, aligned for u32, `rows`,
+    // aligned for u64, and `store` are only read, and `&mut` keeps `out` apart from them.
+    unsafe {
+        route_marshall(
+            grammar.as_ptr(),
+            grammar.len(),
+            rows.as_ptr(),
+            rows.len(),
+            n,
+            store.as_ptr(),
+            store.len(),
+            out.as_mut_ptr(),
+            out.len(),
+        )
+    }
 }

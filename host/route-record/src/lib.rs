@@ -23,6 +23,7 @@ mod packed;
 mod reading;
 mod refusal;
 mod rows;
+mod writing;
 
 pub use grammar::check_grammar;
 pub use packed::{
@@ -32,3 +33,4 @@ pub use packed::{
 pub use reading::{check_val, check_whole, demarshall, parse_val, Parsed};
 pub use refusal::{Place, Refusal};
 pub use rows::{compute_size_of, locate_array};
+pub use writing::{marshall, marshall_val};
