@@ -152,6 +152,29 @@ route_answer route_check_val(const uint32_t *grammar, size_t grammar_len, const 
 route_answer route_check_whole(const uint32_t *grammar, size_t grammar_len, const uint8_t *record,
                                size_t record_len);
 
+/* Writing: the calls write the bytes, laid out as reading says, of the value that rows 0 to n - 1
+ * stand for; it is a value of node 0 of the grammar. The elements of kinds 5, 6 and 7 are the
+ * store's bytes from their place on; the store need not be a record. A call gives in `first` the
+ * size of the value: how many bytes are written. It uses less than 1 MiB of stack, on values as
+ * deep as 4096 rows can be. */
+
+/* Writes at byte index. Changes only bytes index to index + size - 1 of out, which may be longer.
+ * Refused: 1 to 5 as route_check_grammar;
+ * 6, 12, 13 and 14 as route_compute_size_of;
+ * then, row after row, from row 0 on:
+ * 15 at the row, when its kind is not that of its node in the grammar; when its kind is 4 and its
+ * count not the node's; or when its kind is 8 and its tag not below the node's count;
+ * then 16 at row 0, when the size is above 1048576;
+ * 17 at byte out_len, when index + size is above out_len, size 0 too. */
+route_answer route_marshall_val(const uint32_t *grammar, size_t grammar_len, const uint64_t *rows,
+                                size_t rows_len, size_t n, const uint8_t *store, size_t store_len,
+                                uint8_t *out, size_t out_len, size_t index);
+
+/* Answers and writes as route_marshall_val at byte 0. */
+route_answer route_marshall(const uint32_t *grammar, size_t grammar_len, const uint64_t *rows,
+                            size_t rows_len, size_t n, const uint8_t *store, size_t store_len,
+                            uint8_t *out, size_t out_len);
+
 #ifdef __cplusplus
 }
 #endif

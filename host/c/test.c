@@ -659,7 +659,7 @@ static void check_refused(int line, input in, uint64_t number, uint64_t kind, ui
 #define CHECK_READ(in, rows, n) check_read(__LINE__, in, rows, n)
 #define CHECK_REFUSED(in, number, kind, place) check_refused(__LINE__, in, number, kind, place)
 
-enum { WORD = 1, BYTE = 2 };
+enum { WORD = 1, BYTE = 2, ROW = 3 };
 
 /* a tuple of a uint32 and an array of bytes */
 static void test_read_tuple(void)
@@ -767,6 +767,253 @@ static void test_read_longest(void)
     CHECK_REFUSED(((input){constant, 5, record, 1048577}), 6, BYTE, 0);
 }
 
+/* What the writing calls are given, but for the output. */
+typedef struct value {
+    const uint32_t *grammar;
+    size_t grammar_len;
+    const uint64_t *rows;
+    size_t rows_len;
+    size_t n;
+    const uint8_t *store;
+    size_t store_len;
+} value;
+
+static route_answer marshall_val(value v, size_t out_len, size_t index)
+{
+    return route_marshall_val(v.grammar, v.grammar_len, v.rows, v.rows_len, v.n, v.store,
+                              v.store_len, lend_u8(), out_len, index);
+}
+
+static route_answer marshall(value v, size_t out_len)
+{
+    return route_marshall(v.grammar, v.grammar_len, v.rows, v.rows_len, v.n, v.store, v.store_len,
+                          lend_u8(), out_len);
+}
+
+/* Checks that both calls write these bytes, to an output of their size and to a longer one, and
+ * refuse an output that is a byte short. */
+static void check_written(int line, value v, const uint8_t *bytes, size_t size)
+{
+    check(line, "marshall, exact", gives(marshall(v, size), size) && changed(0, bytes, size));
+    check(line, "marshall, longer", gives(marshall(v, LENT), size) && changed(0, bytes, size));
+    check(line, "marshall_val, exact",
+          gives(marshall_val(v, size + 3, 3), size) && changed(3, bytes, size));
+    check(line, "marshall_val, longer",
+          gives(marshall_val(v, LENT, 3), size) && changed(3, bytes, size));
+    check(line, "marshall_val, a byte short",
+          refused(marshall_val(v, size + 2, 3), 17, size + 2) && unchanged());
+}
+
+/* Checks that both calls refuse the value, and change no byte of the output. */
+static void check_unwritten(int line, value v, uint64_t number, uint64_t kind, uint64_t place)
+{
+    check(line, "marshall", refused_at(marshall(v, LENT), number, kind, place) && unchanged());
+    check(line, "marshall_val",
+          refused_at(marshall_val(v, LENT, 3), number, kind, place) && unchanged());
+    check(line, "marshall_val, no room",
+          refused_at(marshall_val(v, 0, SIZE_MAX), number, kind, place) && unchanged());
+}
+
+#define CHECK_WRITTEN(v, bytes, size) check_written(__LINE__, v, bytes, size)
+#define CHECK_UNWRITTEN(v, number, kind, place) check_unwritten(__LINE__, v, number, kind, place)
+
+/* The words of a grammar, and how many they are. */
+#define GRAMMAR(...) \
+    (const uint32_t[]){__VA_ARGS__}, sizeof((const uint32_t[]){__VA_ARGS__}) / sizeof(uint32_t)
+
+/* a tuple of a uint32 and an array of bytes, as it is read */
+static const uint32_t tuple_grammar[] = {3, 4, 0, 2, 1, 0, 0, 5, 0, 0, 2, 1, 2};
+static const uint64_t tuple_rows[] = {4, 3, 2, 0, 1, 1, 7, 0, 5, 1, 2, 12};
+static const uint8_t tuple_record[] = {7, 0, 0, 0, 2, 0, 0, 0, 0, 0, 0, 0, 0x41, 0x42};
+static const value tuple_value = {tuple_grammar, 13, tuple_rows, 12, 3, tuple_record, 14};
+
+static void test_write_tuple(void)
+{
+    const value v = tuple_value;
+    CHECK_WRITTEN(v, tuple_record, 14);
+    CHECK(gives(marshall(v, 14), 14) && changed(0, tuple_record, 14));
+    CHECK(refused(marshall(v, 13), 17, 13) && unchanged());
+    CHECK(gives(marshall_val(v, LENT, LENT - 14), 14) && changed(LENT - 14, tuple_record, 14));
+    CHECK(refused(marshall_val(v, LENT, LENT - 13), 17, LENT) && unchanged());
+    CHECK(refused(marshall_val(v, LENT, LENT), 17, LENT) && unchanged());
+    CHECK(refused(marshall_val(v, LENT, LENT + 1), 17, LENT) && unchanged());
+    /* the sum would wrap to 0 and to 13 */
+    CHECK(refused(marshall_val(v, LENT, SIZE_MAX - 13), 17, LENT) && unchanged());
+    CHECK(refused(marshall_val(v, LENT, SIZE_MAX), 17, LENT) && unchanged());
+    CHECK(refused(route_marshall(tuple_grammar, 13, tuple_rows, 12, 3, tuple_record, 14, NULL, 0),
+                  17, 0));
+    CHECK(refused(route_marshall_val(tuple_grammar, 13, tuple_rows, 12, 3, tuple_record, 14, NULL,
+                                     0, SIZE_MAX),
+                  17, 0));
+}
+
+/* a value of no byte: a constant */
+static void test_write_nothing(void)
+{
+    static const uint32_t constant[] = {1, 0, 0, 0, 0};
+    static const uint64_t row[] = {0, 1, 0, 0};
+    const value v = {constant, 5, row, 4, 1, NULL, 0};
+    CHECK_WRITTEN(v, tuple_record, 0);
+    CHECK(gives(marshall_val(v, LENT, LENT), 0) && unchanged());
+    CHECK(refused(marshall_val(v, LENT, LENT + 1), 17, LENT) && unchanged());
+    CHECK(refused(marshall_val(v, LENT, SIZE_MAX), 17, LENT) && unchanged());
+    CHECK(accepted(route_marshall(constant, 5, row, 4, 1, NULL, 0, NULL, 0)));
+    CHECK(accepted(route_marshall_val(constant, 5, row, 4, 1, NULL, 0, NULL, 0, 0)));
+    CHECK(refused(route_marshall_val(constant, 5, row, 4, 1, NULL, 0, NULL, 0, 1), 17, 0));
+    CHECK(refused_at_word(route_marshall(NULL, 0, NULL, 0, 0, NULL, 0, NULL, 0), 1, 0));
+    CHECK(refused_at_row(route_marshall(constant, 5, NULL, 0, 1, NULL, 0, NULL, 0), 12, 0));
+}
+
+/* numbers and arrays of numbers, whose elements lie anywhere in the store */
+static void test_write_numbers(void)
+{
+    static const uint8_t store[12] = {1, 2, 3, 4, 5, 6, 7, 8, 9, 10, 11, 12};
+    static const uint8_t ones[8] = {0xff, 0xff, 0xff, 0xff, 0xff, 0xff, 0xff, 0xff};
+    static const uint8_t bytes[] = {2, 0, 0, 0, 0, 0, 0, 0, 11, 12};
+    static const uint8_t uint32s[] = {2, 0, 0, 0, 0, 0, 0, 0, 2, 3, 4, 5, 6, 7, 8, 9};
+    static const uint8_t uint64s[] = {1, 0, 0, 0, 0, 0, 0, 0, 4, 5, 6, 7, 8, 9, 10, 11};
+    static const uint8_t none[8] = {0};
+
+    CHECK_WRITTEN(((value){GRAMMAR(1, 1, 0, 0, 0), WORDS(1, 1, 4294967295, 0), 1, NULL, 0}), ones,
+                  4);
+    CHECK_UNWRITTEN(((value){GRAMMAR(1, 1, 0, 0, 0), WORDS(1, 1, 4294967296, 0), 1, NULL, 0}), 13,
+                    ROW, 0);
+    CHECK_WRITTEN(((value){GRAMMAR(1, 2, 0, 0, 0), WORDS(2, 1, UINT64_MAX, 0), 1, NULL, 0}), ones,
+                  8);
+    CHECK_WRITTEN(((value){GRAMMAR(1, 5, 0, 0, 0), WORDS(5, 1, 2, 10), 1, store, 12}), bytes, 10);
+    CHECK_WRITTEN(((value){GRAMMAR(1, 6, 0, 0, 0), WORDS(6, 1, 2, 1), 1, store, 12}), uint32s, 16);
+    CHECK_WRITTEN(((value){GRAMMAR(1, 7, 0, 0, 0), WORDS(7, 1, 1, 3), 1, store, 12}), uint64s, 16);
+    CHECK_WRITTEN(((value){GRAMMAR(1, 7, 0, 0, 0), WORDS(7, 1, 0, 12), 1, store, 12}), none, 8);
+    CHECK_WRITTEN(((value){GRAMMAR(1, 6, 0, 0, 0), WORDS(6, 1, 0, 0), 1, NULL, 0}), none, 8);
+}
+
+/* an array of constants; an array of arrays of bytes that overlap; a case; an empty tuple */
+static void test_write_others(void)
+{
+    static const uint8_t store[] = {1, 2, 3};
+    static const uint8_t three[8] = {3};
+    static const uint8_t overlapping[] = {2, 0, 0, 0, 0, 0, 0, 0, 2, 0, 0, 0, 0, 0, 0,
+                                          0, 2, 3, 3, 0, 0, 0, 0, 0, 0, 0, 1, 2, 3};
+    static const uint8_t tagged[] = {1, 0, 0, 0, 0, 0, 0, 0, 7, 0, 0, 0};
+
+    CHECK_WRITTEN(((value){GRAMMAR(2, 3, 0, 1, 0, 0, 0, 1, 1),
+                           WORDS(3, 4, 3, 0, 0, 1, 0, 0, 0, 1, 0, 0, 0, 1, 0, 0), 4, NULL, 0}),
+                  three, 8);
+    CHECK_WRITTEN(((value){GRAMMAR(2, 3, 0, 1, 5, 0, 0, 1, 1),
+                           WORDS(3, 3, 2, 0, 5, 1, 2, 1, 5, 1, 3, 0), 3, store, 3}),
+                  overlapping, 29);
+    CHECK_WRITTEN(((value){GRAMMAR(3, 8, 0, 2, 0, 0, 0, 1, 0, 0, 2, 1, 2),
+                           WORDS(8, 2, 1, 0, 1, 1, 7, 0), 2, NULL, 0}),
+                  tagged, 12);
+    CHECK_WRITTEN(((value){GRAMMAR(1, 4, 0, 0, 0), WORDS(4, 1, 0, 0), 1, NULL, 0}), store, 0);
+}
+
+/* Each refusal up to 14, with the one after it also there; words behind the rows are free. */
+static void test_write_refusals(void)
+{
+    static const uint64_t longer_rows[] = {4, 3, 2, 0, 1, 1, 7, 0, 5, 1, 2, 12, 9};
+    static uint8_t store[MOST_BYTES + 1];
+    value v = tuple_value;
+
+    v.store = store;
+    v.store_len = MOST_BYTES + 1;
+    v.n = 0;
+    CHECK_UNWRITTEN(((value){NULL, 0, tuple_rows, 12, 3, store, MOST_BYTES + 1}), 1, WORD, 0);
+    v.grammar_len = 12;
+    CHECK_UNWRITTEN(v, 2, WORD, 10);
+    CHECK_UNWRITTEN(((value){GRAMMAR(1, 9, 1, 0, 0), tuple_rows, 12, 3, tuple_record, 14}), 3,
+                    WORD, 1);
+    CHECK_UNWRITTEN(((value){GRAMMAR(1, 3, 0, 2, 2, 0, 0), tuple_rows, 12, 3, tuple_record, 14}),
+                    4, WORD, 2);
+    CHECK_UNWRITTEN(((value){GRAMMAR(1, 4, 0, 1, 1, 0), tuple_rows, 12, 3, store,
+                             MOST_BYTES + 1}),
+                    5, WORD, 5);
+    v.grammar_len = 13;
+    CHECK_UNWRITTEN(v, 6, BYTE, 0);
+    v.store_len = 13;
+    CHECK_UNWRITTEN(v, 12, ROW, 0);
+    v.n = 4;
+    CHECK_UNWRITTEN(v, 12, ROW, 0);
+    v.n = WRAPS_4 + 3;
+    CHECK_UNWRITTEN(v, 12, ROW, 0);
+    v.n = 2;
+    CHECK_UNWRITTEN(v, 13, ROW, 0);
+    v.n = 3;
+    CHECK_UNWRITTEN(v, 14, ROW, 2);
+    v.store = tuple_record;
+    v.store_len = 14;
+    v.rows = longer_rows;
+    v.rows_len = 13;
+    CHECK_WRITTEN(v, tuple_record, 14);
+}
+
+/* These rows in the place of those of the tuple. */
+#define AS_TUPLE(n, ...) ((value){tuple_grammar, 13, WORDS(__VA_ARGS__), n, tuple_record, 14})
+
+/* This case, with a uint32 in it, in a union of a constant and a uint32. */
+#define AS_CASE(tag) \
+    ((value){GRAMMAR(3, 8, 0, 2, 0, 0, 0, 1, 0, 0, 2, 1, 2), \
+             WORDS(8, 2, tag, 0, 1, 1, 7, 0), 2, NULL, 0})
+
+static void test_write_of_another_grammar(void)
+{
+    /* another kind, in each row; fewer fields and more */
+    CHECK_UNWRITTEN(AS_TUPLE(3, 3, 3, 2, 0, 1, 1, 7, 0, 5, 1, 2, 12), 15, ROW, 0);
+    CHECK_UNWRITTEN(AS_TUPLE(3, 4, 3, 2, 0, 2, 1, 7, 0, 5, 1, 2, 12), 15, ROW, 1);
+    CHECK_UNWRITTEN(AS_TUPLE(3, 4, 3, 2, 0, 1, 1, 7, 0, 6, 1, 0, 12), 15, ROW, 2);
+    CHECK_UNWRITTEN(AS_TUPLE(2, 4, 2, 1, 0, 1, 1, 7, 0), 15, ROW, 0);
+    CHECK_UNWRITTEN(AS_TUPLE(4, 4, 4, 3, 0, 1, 1, 7, 0, 5, 1, 2, 12, 0, 1, 0, 0), 15, ROW, 0);
+
+    /* tags that have another case, or none */
+    CHECK_UNWRITTEN(AS_CASE(0), 15, ROW, 1);
+    CHECK_UNWRITTEN(AS_CASE(2), 15, ROW, 0);
+    CHECK_UNWRITTEN(AS_CASE((uint64_t)1 << 32), 15, ROW, 0);
+    CHECK_UNWRITTEN(AS_CASE(UINT64_MAX), 15, ROW, 0);
+    CHECK_UNWRITTEN(((value){GRAMMAR(1, 8, 0, 0, 0), WORDS(8, 2, 0, 0, 0, 1, 0, 0), 2, NULL, 0}),
+                    15, ROW, 0);
+
+    /* the first of two rows; a later row's 13 or 14 is before */
+    CHECK_UNWRITTEN(AS_TUPLE(3, 4, 3, 2, 0, 2, 1, 7, 0, 6, 1, 0, 12), 15, ROW, 1);
+    CHECK_UNWRITTEN(AS_TUPLE(3, 4, 3, 2, 0, 2, 1, 7, 0, 5, 1, 2, 13), 14, ROW, 2);
+    CHECK_UNWRITTEN(AS_TUPLE(3, 3, 3, 2, 0, 1, 1, 7, 0, 9, 1, 0, 0), 13, ROW, 2);
+}
+
+/* Sizes of the most bytes and one above, of arrays that share a store, to an output that is
+ * longer. */
+static void test_write_longest(void)
+{
+    enum { HALF = MOST_BYTES / 2, BEFORE = 5, LENGTH = BEFORE + MOST_BYTES + 9 };
+    static uint8_t store[MOST_BYTES], out[LENGTH], expected[LENGTH];
+    static const uint32_t array[] = {2, 3, 0, 1, 5, 0, 0, 1, 1};
+    static const uint8_t counts[2][8] = {{2}, {0xf4, 0xff, 0x07}};
+    uint64_t rows[] = {3, 3, 2, 0, 5, 1, HALF - 12, 0, 5, 1, HALF - 12, 1};
+
+    for (size_t i = 0; i < MOST_BYTES; i++)
+        store[i] = (uint8_t)(i % 251);
+    memset(out, FILL, LENGTH);
+    memset(expected, FILL, LENGTH);
+    uint8_t *next = expected + BEFORE;
+    memcpy(next, counts[0], 8);
+    memcpy(next + 8, counts[1], 8);
+    memcpy(next + 16, store, HALF - 12);
+    memcpy(next + HALF + 4, counts[1], 8);
+    memcpy(next + HALF + 12, store + 1, HALF - 12);
+
+    CHECK(gives(route_marshall_val(array, 9, rows, 12, 3, store, MOST_BYTES, out, LENGTH, BEFORE),
+                MOST_BYTES));
+    CHECK(memcmp(out, expected, LENGTH) == 0);
+    rows[10]++;
+    CHECK(refused_at_row(
+        route_marshall_val(array, 9, rows, 12, 3, store, MOST_BYTES, out, LENGTH, BEFORE), 16, 0));
+    CHECK(refused_at_row(
+        route_marshall(array, 9, rows, 12, 3, store, MOST_BYTES, out, LENGTH), 16, 0));
+    CHECK(refused_at_row(
+        route_marshall_val(array, 9, rows, 12, 3, store, MOST_BYTES, NULL, 0, SIZE_MAX), 16, 0));
+    CHECK(refused_at_row(
+        route_marshall(tuple_grammar, 13, rows, 12, 3, store, MOST_BYTES, out, LENGTH), 15, 0));
+    CHECK(memcmp(out, expected, LENGTH) == 0);
+}
+
 int main(void)
 {
     /* so that a call that ends the program leaves the lines before it */
@@ -793,6 +1040,13 @@ int main(void)
     test_read_constants();
     test_read_others();
     test_read_longest();
+    test_write_tuple();
+    test_write_nothing();
+    test_write_numbers();
+    test_write_others();
+    test_write_refusals();
+    test_write_of_another_grammar();
+    test_write_longest();
     printf("%u passed, %u failed\n", passed, failed);
     return failed != 0 || passed == 0;
 }
