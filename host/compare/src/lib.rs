@@ -13,15 +13,19 @@ mod record;
 mod row_table;
 mod rows;
 mod table;
+mod tally;
+mod writing;
 
 pub use grammar::check_grammar;
 pub use packed::{narrow, Calls, Number, MARGIN, U32, U64};
 pub use random::Random;
 pub use reading::{check_val, check_whole, demarshall, parse_val};
-pub use record::Record;
+pub use record::{for_each_record, Record, RECORDS};
 pub use row_table::{element_width, RowTable};
 pub use rows::{compute_size_of, locate_array};
-pub use table::Table;
+pub use table::{chain, Table};
+pub use tally::Tally;
+pub use writing::Value;
 
 /// The refusal of the model in the bindings' type.
 fn refusal(of_model: model::Refusal) -> route_record::Refusal {

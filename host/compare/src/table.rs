@@ -49,6 +49,15 @@ impl Table {
         }
     }
 
+    /// A random sound table, small or large, with shared children, empty unions and empty tuples.
+    pub fn any(random: &mut Random) -> Table {
+        let most_nodes = random.pick(&[1, 2, 3, 8, 20, 256]);
+        let most_child_words = random.pick(&[1, 4, 16, 64, 1_024]);
+        let n = random.within(1..=most_nodes);
+        let m = random.within(0..=most_child_words);
+        Table::sound(random, n, m)
+    }
+
     /// The table's words.
     pub fn words(&self) -> Vec<u32> {
         let (n, m) = (self.nodes.len() as u32, self.children.len() as u32);
@@ -76,4 +85,14 @@ impl Table {
             words[at] = words[at].wrapping_add(random.pick(&[0, 1, u32::MAX]));
         }
     }
+}
+
+/// The words of 256 nodes, each but the last of this kind with the next as its one child, and a
+/// uint32.
+pub fn chain(kind: u32) -> Vec<u32> {
+    let parents = (0..255).flat_map(|k| [kind, k, 1]);
+    let nodes = parents.chain([1, 0, 0]);
+    let children = 1..256;
+    let words = [256].into_iter().chain(nodes).chain([255]);
+    words.chain(children).collect()
 }

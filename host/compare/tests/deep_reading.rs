@@ -3,22 +3,13 @@
 
 use std::thread;
 
-use compare::{check_whole, demarshall};
+use compare::{chain, check_whole, demarshall};
 use route_record::{Parsed, Place, Refusal};
 
 type Answer = Result<Parsed, Refusal>;
 
 /// The bytes of stack within which a reading stays.
 const STACK: usize = 64 * 1_024;
-
-/// 256 nodes, each but the last of this kind with the next as its one child, and a uint32.
-fn chain(kind: u32) -> Vec<u32> {
-    let parents = (0..255).flat_map(|k| [kind, k, 1]);
-    let nodes = parents.chain([1, 0, 0]);
-    let children = 1..256;
-    let words = [256].into_iter().chain(nodes).chain([255]);
-    words.chain(children).collect()
-}
 
 /// The library's answers, with rows and as a check, on a thread with the small stack.
 fn on_small_stack(grammar: Vec<u32>, record: Vec<u8>) -> [Answer; 2] {

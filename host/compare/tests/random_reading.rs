@@ -1,45 +1,15 @@
 //! The readers against the model, over random grammars and records.
 
-use std::collections::BTreeMap;
-
-use compare::{check_val, check_whole, demarshall, parse_val, Random, Record, Table};
+use compare::{check_val, check_whole, demarshall, for_each_record, parse_val};
+use compare::{Random, Record, Table, Tally, RECORDS};
 use route_record::{Parsed, Refusal};
 
-/// How often each answer was given: 0 for an accepted call, else the refusal's number.
-#[derive(Default)]
-struct Tally(BTreeMap<u64, usize>);
-
-impl Tally {
-    fn count(&mut self, answer: Result<Parsed, Refusal>) {
-        let number = answer.map_or_else(|refusal| refusal.number, |_| 0);
-        *self.0.entry(number).or_default() += 1;
-    }
-
-    /// Compares all four calls.
-    fn add(&mut self, grammar: &[u32], record: &[u8], index: usize, words: usize) {
-        self.count(parse_val(grammar, record, index, words));
-        self.count(demarshall(grammar, record, words));
-        self.count(check_val(grammar, record, index));
-        self.count(check_whole(grammar, record));
-    }
-
-    /// These answers and no others were given, none of them rarely.
-    fn assert_are(&self, numbers: &[u64]) {
-        assert!(self.0.keys().eq(numbers), "{:?}", self.0);
-        assert!(self.0.values().all(|&count| count >= 20), "{:?}", self.0);
-    }
-}
-
-/// How many random grammars a test makes.
-const GRAMMARS: usize = 1_000;
-
-/// A random table, small or large, with shared children, empty unions and empty tuples.
-fn random_table(random: &mut Random) -> Table {
-    let most_nodes = random.pick(&[1, 2, 3, 8, 20, 256]);
-    let most_child_words = random.pick(&[1, 4, 16, 64, 1_024]);
-    let n = random.within(1..=most_nodes);
-    let m = random.within(0..=most_child_words);
-    Table::sound(random, n, m)
+/// Compares all four calls.
+fn compare_all(tally: &mut Tally, grammar: &[u32], record: &[u8], index: usize, words: usize) {
+    tally.count(parse_val(grammar, record, index, words));
+    tally.count(demarshall(grammar, record, words));
+    tally.count(check_val(grammar, record, index));
+    tally.count(check_whole(grammar, record));
 }
 
 /// Whether a node is a child twice, of one node or of two.
@@ -54,7 +24,7 @@ fn shares_a_child(table: &Table) -> bool {
 #[test]
 fn grammars_of_each_form() {
     let mut random = Random::new(30);
-    let tables: Vec<Table> = (0..GRAMMARS).map(|_| random_table(&mut random)).collect();
+    let tables: Vec<Table> = (0..RECORDS).map(|_| Table::any(&mut random)).collect();
     for kind in [4, 8] {
         let empty = |table: &&Table| {
             table
@@ -66,20 +36,6 @@ fn grammars_of_each_form() {
     }
     let shared = tables.iter().filter(|table| shares_a_child(table));
     assert!(shared.count() >= 100);
-}
-
-/// Calls `test` with random grammars that have a value, and a record of each.
-fn for_each_record(seed: u64, mut test: impl FnMut(&mut Random, &[u32], Record)) {
-    let mut random = Random::new(seed);
-    let mut records = 0;
-    while records < GRAMMARS {
-        let table = random_table(&mut random);
-        let spare = random.pick(&[0, 5, 30, 100]);
-        if let Some(record) = Record::of(&table, &mut random, spare) {
-            test(&mut random, &table.words(), record);
-            records += 1;
-        }
-    }
 }
 
 /// Some words behind the rows that a value needs, not always a multiple of 4.
@@ -129,8 +85,8 @@ fn every_capacity_near_the_need() {
             tally.count(answer);
             tally.count(parse_val(grammar, &record.bytes, 0, words));
         }
-        tally.add(grammar, &record.bytes, 0, 0);
-        tally.add(grammar, &record.bytes, 0, 4 * 4_096 + 7);
+        compare_all(&mut tally, grammar, &record.bytes, 0, 0);
+        compare_all(&mut tally, grammar, &record.bytes, 0, 4 * 4_096 + 7);
     });
     tally.assert_are(&[0, 8]);
 }
@@ -150,10 +106,10 @@ fn every_index_near_the_ends() {
         assert_eq!(answer, Ok(Parsed { rows, rest_index }));
         let end = bytes.len();
         for index in (0..=9).chain(end.saturating_sub(9)..=end + 2) {
-            tally.add(grammar, &bytes, index, words);
+            compare_all(&mut tally, grammar, &bytes, index, words);
         }
         for index in [1 << 20, 1 << 32, 1 << 63, usize::MAX - 7, usize::MAX] {
-            tally.add(grammar, &bytes, index, words);
+            compare_all(&mut tally, grammar, &bytes, index, words);
         }
     });
     tally.assert_are(&[0, 7, 8, 9, 10, 11]);
@@ -167,7 +123,7 @@ fn cut_records() {
         let end = record.bytes.len();
         let lengths = (0..end).filter(|length| length % 11 == 0 || end - length < 10);
         for length in lengths {
-            tally.add(grammar, &record.bytes[..length], 0, words);
+            compare_all(&mut tally, grammar, &record.bytes[..length], 0, words);
         }
     });
     tally.assert_are(&[9]);
@@ -184,7 +140,7 @@ fn lengthened_records() {
         let refusal = demarshall(grammar, &bytes, words).expect_err("bytes left over");
         let place = route_record::Place::Byte(end as u64);
         assert_eq!(refusal, Refusal { number: 11, place });
-        tally.add(grammar, &bytes, 0, words);
+        compare_all(&mut tally, grammar, &bytes, 0, words);
     });
     tally.assert_are(&[0, 11]);
 }
@@ -214,7 +170,7 @@ fn flipped_records() {
         for _ in 0..random.within(1..=10) {
             if !record.bytes.is_empty() {
                 flip(random, &mut record);
-                tally.add(grammar, &record.bytes, 0, words);
+                compare_all(&mut tally, grammar, &record.bytes, 0, words);
             }
         }
     });
@@ -225,15 +181,15 @@ fn flipped_records() {
 fn random_bytes() {
     let mut tally = Tally::default();
     let mut random = Random::new(37);
-    for _ in 0..GRAMMARS {
-        let grammar = random_table(&mut random).words();
+    for _ in 0..RECORDS {
+        let grammar = Table::any(&mut random).words();
         let count = random.pick(&[0, 4, 8, 20, 100]);
         let bytes = random.bytes(count);
         let small: Vec<u8> = bytes.iter().map(|byte| u8::from(*byte > 240)).collect();
         let index = random.within(0..=count + 1);
         let words = random.pick(&[0, 3, 4, 9, 100, 4 * 4_096]);
-        tally.add(&grammar, &bytes, index, words);
-        tally.add(&grammar, &small, index, words);
+        compare_all(&mut tally, &grammar, &bytes, index, words);
+        compare_all(&mut tally, &grammar, &small, index, words);
     }
     tally.assert_are(&[0, 7, 8, 9, 10, 11]);
 }
@@ -244,8 +200,8 @@ fn damaged_grammars_and_long_records() {
     let mut tally = Tally::default();
     let mut random = Random::new(38);
     let long = vec![0; 1_048_577];
-    for round in 0..4 * GRAMMARS {
-        let table = random_table(&mut random);
+    for round in 0..4 * RECORDS {
+        let table = Table::any(&mut random);
         let mut grammar = table.words();
         table.damage(&mut random, &mut grammar);
         if random.below(8) == 0 {
@@ -256,7 +212,7 @@ fn damaged_grammars_and_long_records() {
         let record = if round % 40 == 0 { &long } else { &bytes };
         let index = random.pick(&[0, count, count + 1]);
         let words = random.pick(&[0, 5, 100]);
-        tally.add(&grammar, record, index, words);
+        compare_all(&mut tally, &grammar, record, index, words);
     }
     tally.assert_are(&[0, 1, 2, 3, 4, 5, 6, 7, 8, 9, 10, 11]);
 }

@@ -1,0 +1,172 @@
+//! Records without unions against bincode: their bytes are those that bincode 1.3 gives in its
+//! fixed-int, little-endian configuration. The bytes here were made with bincode 1.3.3 and serde
+//! 1.0.152 by `bincode::serialize`, and `DefaultOptions::new().with_fixint_encoding()` gave the
+//! same. The Rust value of each is beside it. Unions are left out: bincode's tags have 4 bytes.
+
+use compare::{demarshall, Value};
+use route_record::Parsed;
+
+/// A table of these nodes and child words.
+fn table(nodes: &[[u32; 3]], children: &[u32]) -> Vec<u32> {
+    let (n, m) = (nodes.len() as u32, children.len() as u32);
+    [&[n], nodes.concat().as_slice(), &[m], children].concat()
+}
+
+/// Reads bincode's bytes into these rows, and writes the rows to bincode's bytes.
+fn compare_with(bytes: &[u8], grammar: &[u32], rows: &[[u64; 4]]) {
+    let parsed = Parsed {
+        rows: rows.len(),
+        rest_index: bytes.len(),
+    };
+    assert_eq!(demarshall(grammar, bytes, 4 * rows.len()), Ok(parsed));
+    let value = Value::read(grammar, bytes);
+    assert_eq!(value.rows, rows.concat());
+    assert_eq!(value.marshall(bytes.len()), Ok(bytes.to_vec()));
+    let length = bytes.len() + 9;
+    assert_eq!(value.marshall_val(length, 5), Ok(bytes.to_vec()));
+}
+
+#[test]
+fn unit_and_numbers() {
+    // ()
+    compare_with(&[], &table(&[[0, 0, 0]], &[]), &[[0, 1, 0, 0]]);
+    // 305_419_896u32
+    compare_with(
+        &[120, 86, 52, 18],
+        &table(&[[1, 0, 0]], &[]),
+        &[[1, 1, 305_419_896, 0]],
+    );
+    // 0x0102_0304_0506_0708u64
+    compare_with(
+        &[8, 7, 6, 5, 4, 3, 2, 1],
+        &table(&[[2, 0, 0]], &[]),
+        &[[2, 1, 0x0102_0304_0506_0708, 0]],
+    );
+}
+
+#[test]
+fn a_pair() {
+    // (7u32, vec![0x41u8, 0x42])
+    compare_with(
+        &[7, 0, 0, 0, 2, 0, 0, 0, 0, 0, 0, 0, 65, 66],
+        &table(&[[4, 0, 2], [1, 0, 0], [5, 0, 0]], &[1, 2]),
+        &[[4, 3, 2, 0], [1, 1, 7, 0], [5, 1, 2, 12]],
+    );
+}
+
+#[test]
+fn vectors_of_numbers() {
+    // Vec::<u8>::new()
+    let none = [0; 8];
+    compare_with(&none, &table(&[[5, 0, 0]], &[]), &[[5, 1, 0, 8]]);
+    // vec![1u32, 305_419_896, u32::MAX]
+    let uint32s = [
+        3, 0, 0, 0, 0, 0, 0, 0, 1, 0, 0, 0, 120, 86, 52, 18, 255, 255, 255, 255,
+    ];
+    compare_with(&uint32s, &table(&[[6, 0, 0]], &[]), &[[6, 1, 3, 8]]);
+    compare_with(
+        &uint32s,
+        &table(&[[3, 0, 1], [1, 0, 0]], &[1]),
+        &[
+            [3, 4, 3, 0],
+            [1, 1, 1, 0],
+            [1, 1, 305_419_896, 0],
+            [1, 1, 4_294_967_295, 0],
+        ],
+    );
+    // vec![258u64, u64::MAX]
+    let uint64s = [
+        2, 0, 0, 0, 0, 0, 0, 0, 2, 1, 0, 0, 0, 0, 0, 0, 255, 255, 255, 255, 255, 255, 255, 255,
+    ];
+    compare_with(&uint64s, &table(&[[7, 0, 0]], &[]), &[[7, 1, 2, 8]]);
+    compare_with(
+        &uint64s,
+        &table(&[[3, 0, 1], [2, 0, 0]], &[1]),
+        &[[3, 3, 2, 0], [2, 1, 258, 0], [2, 1, u64::MAX, 0]],
+    );
+}
+
+#[test]
+fn vectors_of_values() {
+    // vec![(), (), ()]
+    compare_with(
+        &[3, 0, 0, 0, 0, 0, 0, 0],
+        &table(&[[3, 0, 1], [0, 0, 0]], &[1]),
+        &[[3, 4, 3, 0], [0, 1, 0, 0], [0, 1, 0, 0], [0, 1, 0, 0]],
+    );
+    // vec![vec![1u64], vec![]]
+    compare_with(
+        &[
+            2, 0, 0, 0, 0, 0, 0, 0, 1, 0, 0, 0, 0, 0, 0, 0, 1, 0, 0, 0, 0, 0, 0, 0, 0, 0, 0, 0, 0,
+            0, 0, 0,
+        ],
+        &table(&[[3, 0, 1], [7, 0, 0]], &[1]),
+        &[[3, 3, 2, 0], [7, 1, 1, 16], [7, 1, 0, 32]],
+    );
+}
+
+#[test]
+fn tuples_in_tuples() {
+    // ((), (5u32, ((), 6u64)), Vec::<u32>::new())
+    let nodes = [
+        [4, 0, 3],
+        [4, 3, 2],
+        [4, 5, 2],
+        [0, 0, 0],
+        [1, 0, 0],
+        [2, 0, 0],
+        [6, 0, 0],
+    ];
+    compare_with(
+        &[5, 0, 0, 0, 6, 0, 0, 0, 0, 0, 0, 0, 0, 0, 0, 0, 0, 0, 0, 0],
+        &table(&nodes, &[3, 1, 6, 4, 2, 3, 5]),
+        &[
+            [4, 8, 3, 0],
+            [0, 1, 0, 0],
+            [4, 5, 2, 0],
+            [1, 1, 5, 0],
+            [4, 3, 2, 0],
+            [0, 1, 0, 0],
+            [2, 1, 6, 0],
+            [6, 1, 0, 20],
+        ],
+    );
+}
+
+#[test]
+fn a_route() {
+    // A struct of the fields `id` 9u32, `hops`, `weights` vec![300u32, u32::MAX] and `end` ().
+    // The hops are a vector of two structs of the fields `node` and `name`: 1u64 with the name
+    // b"ab".to_vec(), and u64::MAX with the name Vec::<u8>::new().
+    let nodes = [
+        [4, 0, 4],
+        [3, 4, 1],
+        [4, 5, 2],
+        [1, 0, 0],
+        [2, 0, 0],
+        [5, 0, 0],
+        [6, 0, 0],
+        [0, 0, 0],
+    ];
+    compare_with(
+        &[
+            9, 0, 0, 0, 2, 0, 0, 0, 0, 0, 0, 0, 1, 0, 0, 0, 0, 0, 0, 0, 2, 0, 0, 0, 0, 0, 0, 0, 97,
+            98, 255, 255, 255, 255, 255, 255, 255, 255, 0, 0, 0, 0, 0, 0, 0, 0, 2, 0, 0, 0, 0, 0,
+            0, 0, 44, 1, 0, 0, 255, 255, 255, 255,
+        ],
+        &table(&nodes, &[3, 1, 6, 7, 2, 4, 5]),
+        &[
+            [4, 11, 4, 0],
+            [1, 1, 9, 0],
+            [3, 7, 2, 0],
+            [4, 3, 2, 0],
+            [2, 1, 1, 0],
+            [5, 1, 2, 28],
+            [4, 3, 2, 0],
+            [2, 1, u64::MAX, 0],
+            [5, 1, 0, 46],
+            [6, 1, 2, 54],
+            [0, 1, 0, 0],
+        ],
+    );
+}

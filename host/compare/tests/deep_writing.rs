@@ -1,0 +1,105 @@
+//! The deepest writings, on a thread with a small stack. They have a program of their own, since a
+//! stack that overflows ends it.
+
+use std::thread;
+
+use compare::{chain, Value};
+use route_record::{Place, Refusal};
+
+type Answer = Result<Vec<u8>, Refusal>;
+
+/// The bytes of stack within which a writing stays. The walk over the rows needs it: before the
+/// grammar's nodes are looked at it goes as deep as the rows do, 4,096 at most. What comes behind
+/// it goes no deeper than the grammar, 256 nodes at most.
+const STACK: usize = 1 << 20;
+
+/// The library's answers of both calls, at byte 0 of an output of this length, on a thread with
+/// the small stack.
+fn on_small_stack(value: &Value, length: usize) -> [Answer; 2] {
+    let Value {
+        grammar,
+        rows,
+        n,
+        store,
+    } = value.clone();
+    let calls = move || {
+        let (mut first, mut second) = (vec![0; length], vec![0; length]);
+        let size = route_record::marshall_val(&grammar, &rows, n, &store, &mut first, 0);
+        let other = route_record::marshall(&grammar, &rows, n, &store, &mut second);
+        [
+            size.map(|size| first[..size].to_vec()),
+            other.map(|size| second[..size].to_vec()),
+        ]
+    };
+    let thread = thread::Builder::new().stack_size(STACK).spawn(calls);
+    let thread = thread.expect("a thread with a small stack");
+    thread.join().expect("both calls return")
+}
+
+/// The answer on the small stack, which is the model's too.
+fn answer(value: &Value, length: usize) -> Answer {
+    let answer = value.marshall(length);
+    assert_eq!(
+        on_small_stack(value, length),
+        [answer.clone(), answer.clone()]
+    );
+    answer
+}
+
+fn refusal(number: u64, place: Place) -> Answer {
+    Err(Refusal { number, place })
+}
+
+/// The answers on a chain of this kind, each value of which begins with these bytes.
+fn compare_chain(kind: u32, own: &[u8]) {
+    let record = [own.repeat(255), vec![7, 0, 0, 0]].concat();
+    let mut value = Value::read(&chain(kind), &record);
+    assert_eq!(value.n, 256);
+    let size = record.len();
+    assert_eq!(answer(&value, size), Ok(record));
+    let place = Place::Byte(size as u64 - 1);
+    assert_eq!(answer(&value, size - 1), refusal(17, place));
+    value.rows[4 * 255] = 2;
+    assert_eq!(answer(&value, size), refusal(15, Place::Row(255)));
+    value.rows[4 * 255] = 9;
+    assert_eq!(answer(&value, size), refusal(13, Place::Row(255)));
+}
+
+/// The answers on 4,096 rows, each but the last a value of this kind with the next row in it, and
+/// a constant. Deeper than the grammar they are no value of it; the model is not asked, since it
+/// needs more stack.
+fn deepest_rows(kind: u64) {
+    let parents = (2..=4_096).rev().flat_map(|span| [kind, span, 1, 0]);
+    let mut value = Value {
+        grammar: chain(kind as u32),
+        rows: parents.chain([0, 1, 0, 0]).collect(),
+        n: 4_096,
+        store: vec![],
+    };
+    if kind == 8 {
+        (0..4_095).for_each(|row| value.rows[4 * row + 2] = 0);
+    }
+    let expected = refusal(15, Place::Row(255));
+    assert_eq!(on_small_stack(&value, 0), [expected.clone(), expected]);
+    value.rows[4 * 4_095] = 9;
+    let expected = refusal(13, Place::Row(4_095));
+    assert_eq!(on_small_stack(&value, 0), [expected.clone(), expected]);
+}
+
+#[test]
+fn arrays() {
+    compare_chain(3, &1u64.to_le_bytes());
+    deepest_rows(3);
+}
+
+#[test]
+fn tuples() {
+    compare_chain(4, &[]);
+    deepest_rows(4);
+}
+
+#[test]
+fn unions() {
+    compare_chain(8, &0u64.to_le_bytes());
+    deepest_rows(8);
+}
