@@ -964,6 +964,11 @@ static void test_write_of_another_grammar(void)
     CHECK_UNWRITTEN(AS_TUPLE(2, 4, 2, 1, 0, 1, 1, 7, 0), 15, ROW, 0);
     CHECK_UNWRITTEN(AS_TUPLE(4, 4, 4, 3, 0, 1, 1, 7, 0, 5, 1, 2, 12, 0, 1, 0, 0), 15, ROW, 0);
 
+    /* an element of another kind */
+    CHECK_UNWRITTEN(((value){GRAMMAR(2, 3, 0, 1, 1, 0, 0, 1, 1),
+                             WORDS(3, 3, 2, 0, 1, 1, 7, 0, 0, 1, 0, 0), 3, NULL, 0}),
+                    15, ROW, 2);
+
     /* tags that have another case, or none */
     CHECK_UNWRITTEN(AS_CASE(0), 15, ROW, 1);
     CHECK_UNWRITTEN(AS_CASE(2), 15, ROW, 0);
