@@ -86,12 +86,11 @@ impl Value {
         let answer = call(&mut got[lent]);
         let case = format_args!("written at {index} of {length} bytes: {given:?}");
         assert_eq!(answer, of_model.map(|writing| writing.size), "{case}");
-        let differs = (0..got.len()).find(|&byte| got[byte] != expected[byte]);
-        assert_eq!(differs, None, "a byte of the output with margins, {case}");
-        assert!(
-            *self == given,
-            "the call changed what it only reads, {case}"
-        );
+        if got != expected {
+            let byte = (0..got.len()).find(|&byte| got[byte] != expected[byte]);
+            panic!("byte {byte:?} of the output with its margins differs, {case}");
+        }
+        assert!(*self == given, "what is only read changed, {case}");
         answer.map(|size| got[MARGIN + index..][..size].to_vec())
     }
 }

@@ -117,7 +117,7 @@ fn every_index_near_the_ends() {
             assert_eq!(answer.is_ok(), index <= last);
             tally.count(answer);
         }
-        // the sums of the last ones would wrap to a place in the output
+        // of a size of 9 or more the sums would wrap to 0, 1, 2 and 3
         let wraps = (0..=3).map(|more: usize| more.wrapping_sub(size.max(9)));
         for index in [1 << 20, 1 << 32, 1 << 63, usize::MAX]
             .into_iter()
