@@ -54,6 +54,11 @@ pub fn write(steps: &[Step]) -> Vec<u8> {
     fixed_int().serialize(steps).expect("no limit is set")
 }
 
+/// Writes the bytes of the steps from the start of a slice on.
+pub fn write_into(out: &mut [u8], steps: &[Step]) -> bincode::Result<()> {
+    fixed_int().serialize_into(out, steps)
+}
+
 /// Reads the steps.
 pub fn read(bytes: &[u8]) -> bincode::Result<Vec<Step<'_>>> {
     fixed_int().deserialize(bytes)

@@ -4,7 +4,7 @@
 use route_record::{Parsed, Place, Refusal};
 
 use crate::peer;
-use crate::records::Input;
+use crate::records::{Input, Value};
 
 /// What each word of the rows holds before a call.
 const UNTOUCHED: u64 = 0xa5a5_a5a5_a5a5_a5a5;
@@ -16,6 +16,7 @@ fn refusal(of_peer: peer::Refusal) -> Refusal {
         place: match of_peer.place {
             peer::Place::Word(word) => Place::Word(word as u64),
             peer::Place::Byte(byte) => Place::Byte(byte as u64),
+            peer::Place::Row(row) => Place::Row(row as u64),
         },
     }
 }
@@ -58,5 +59,38 @@ pub fn demarshall(input: &Input, words: usize) -> Result<Parsed, Refusal> {
     let case = format_args!("demarshall of {grammar:?}, {record:?}, {words} words");
     assert_eq!(library, rust, "{case}");
     assert!(library_rows == rust_rows, "rows of {case}");
+    library
+}
+
+/// Compares the writing of a value at an index of an output of this length, and what the output
+/// holds after it. Without an index it is the writing from byte 0 on.
+pub fn marshall(value: &Value, length: usize, index: Option<usize>) -> Result<usize, Refusal> {
+    let Value {
+        grammar,
+        rows,
+        n,
+        store,
+    } = value;
+    let mut library_out = vec![UNTOUCHED as u8; length];
+    let mut rust_out = library_out.clone();
+    let (out, other) = (&mut library_out, &mut rust_out);
+    let (library, rust) = match index {
+        None => (
+            route_record::marshall(grammar, rows, *n, store, out),
+            peer::marshall(grammar, rows, *n, store, other),
+        ),
+        Some(index) => (
+            route_record::marshall_val(grammar, rows, *n, store, out, index),
+            peer::marshall_val(grammar, rows, *n, store, other, index),
+        ),
+    };
+    let rust = rust.map_err(refusal);
+    let bytes = store.len();
+    let case = format_args!(
+        "marshall under {grammar:?} of {n} rows, {rows:?}, store of {bytes} bytes, output of \
+         {length} bytes, index {index:?}"
+    );
+    assert_eq!(library, rust, "{case}");
+    assert!(library_out == rust_out, "output of {case}");
     library
 }

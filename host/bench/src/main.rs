@@ -6,8 +6,8 @@
 use std::env;
 use std::process::ExitCode;
 
-use bench::reading;
 use bench::report::Report;
+use bench::{reading, writing};
 
 fn main() -> ExitCode {
     let arguments: Vec<String> = env::args().skip(1).collect();
@@ -21,6 +21,7 @@ fn main() -> ExitCode {
     };
     let mut report = Report::default();
     reading::run(&mut report);
+    writing::run(&mut report);
     if strict && report.above() > 0 {
         return ExitCode::FAILURE;
     }

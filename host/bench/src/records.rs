@@ -1,4 +1,5 @@
-//! The grammars and the records that are read. They are the same in every run.
+//! The grammars, the records that are read and the values that are written. They are the same in
+//! every run.
 
 /// A grammar table and a record to be read by it.
 pub struct Input {
@@ -6,6 +7,34 @@ pub struct Input {
     pub grammar: Vec<u32>,
     /// The bytes of the record.
     pub record: Vec<u8>,
+}
+
+/// A value to be written: a grammar, `n` rows and their store.
+pub struct Value {
+    /// The words of the grammar.
+    pub grammar: Vec<u32>,
+    /// The words of the rows.
+    pub rows: Vec<u64>,
+    /// The number of rows.
+    pub n: usize,
+    /// The bytes of the store.
+    pub store: Vec<u8>,
+}
+
+impl Input {
+    /// The value of a record that is accepted, with the record as the store.
+    pub fn into_value(self) -> Value {
+        let mut rows = vec![0; 4 * 4_096];
+        let parsed = route_record::demarshall(&self.grammar, &self.record, &mut rows);
+        let n = parsed.expect("a sound record").rows;
+        rows.truncate(4 * n);
+        Value {
+            grammar: self.grammar,
+            rows,
+            n,
+            store: self.record,
+        }
+    }
 }
 
 /// The words of a table: kind, first and count of each node, and the child words.
@@ -82,6 +111,16 @@ pub fn wide_tuple() -> Input {
     Input {
         grammar: table(&[[4, 0, 1_024], [1, 0, 0]], &[1; 1_024]),
         record: vec![7; 4 * 1_024],
+    }
+}
+
+/// One byte array, the record of which has 1,048,576 bytes.
+pub fn long_array() -> Input {
+    let mut record = Vec::new();
+    put_bytes(&mut record, 1_048_576 - 8);
+    Input {
+        grammar: table(&[[5, 0, 0]], &[]),
+        record,
     }
 }
 

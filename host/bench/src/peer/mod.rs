@@ -4,7 +4,16 @@
 mod grammar;
 mod reading;
 mod refusal;
+mod rows;
+mod writing;
 
 pub use grammar::check_grammar;
 pub use reading::{check_whole, demarshall, Parsed};
 pub use refusal::{Place, Refusal};
+pub use writing::{marshall, marshall_val};
+
+/// The bytes of the longest record.
+const MOST_BYTES: usize = 1_048_576;
+
+/// The rows of the largest value.
+const MOST_ROWS: usize = 4_096;

@@ -2,10 +2,7 @@
 //! does not arise.
 
 use super::grammar::Grammar;
-use super::Refusal;
-
-const MOST_BYTES: usize = 1_048_576;
-const MOST_ROWS: usize = 4_096;
+use super::{Refusal, MOST_BYTES, MOST_ROWS};
 
 /// What an accepted reading gives.
 #[derive(Clone, Copy, Debug, PartialEq, Eq)]

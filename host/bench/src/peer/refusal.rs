@@ -1,12 +1,14 @@
 //! Refusals: document 01's numbers, each with its place.
 
-/// A word of the grammar or a byte.
+/// A word of the grammar, a byte or a row.
 #[derive(Clone, Copy, Debug, PartialEq, Eq)]
 pub enum Place {
     /// A word of the grammar table.
     Word(usize),
-    /// A byte of the record.
+    /// A byte of the record, of the store or of the output.
     Byte(usize),
+    /// A row of the value.
+    Row(usize),
 }
 
 /// Why a call was refused.
@@ -32,6 +34,14 @@ impl Refusal {
         Refusal {
             number,
             place: Place::Byte(byte),
+        }
+    }
+
+    /// A refusal at a row.
+    pub(super) fn at_row(number: u8, row: usize) -> Refusal {
+        Refusal {
+            number,
+            place: Place::Row(row),
         }
     }
 }

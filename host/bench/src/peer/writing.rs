@@ -1,0 +1,118 @@
+//! Writing a value from its rows: refusals 15 to 17, behind those of the grammar and of the rows.
+
+use super::grammar::Grammar;
+use super::rows::{check_rows, Row};
+use super::{Refusal, MOST_BYTES};
+
+/// Writes the bytes of the value that `n` rows stand for from byte 0 on, and gives how many.
+pub fn marshall(
+    words: &[u32],
+    rows: &[u64],
+    n: usize,
+    store: &[u8],
+    out: &mut [u8],
+) -> Result<usize, Refusal> {
+    marshall_val(words, rows, n, store, out, 0)
+}
+
+/// Writes the bytes of the value that `n` rows stand for from `index` on, and gives how many.
+pub fn marshall_val(
+    words: &[u32],
+    rows: &[u64],
+    n: usize,
+    store: &[u8],
+    out: &mut [u8],
+    index: usize,
+) -> Result<usize, Refusal> {
+    let grammar = Grammar::of(words)?;
+    let rows = check_rows(rows, n, store)?;
+    check_value(grammar, rows, 0, 0)?;
+    let size: u64 = rows.iter().map(own_size).sum();
+    if size > MOST_BYTES as u64 {
+        return Err(Refusal::at_row(16, 0));
+    }
+    let (size, length) = (size as usize, out.len());
+    let fits = index.checked_add(size).is_some_and(|end| end <= length);
+    if !fits {
+        return Err(Refusal::at_byte(17, length));
+    }
+    let mut at = index;
+    for row in rows {
+        at += put_row(row, store, &mut out[at..]);
+    }
+    Ok(size)
+}
+
+/// Checks that the value of a row is one of a node, its rows in order.
+fn check_value(grammar: Grammar, rows: &[Row], row: usize, k: usize) -> Result<(), Refusal> {
+    let [kind, span, word2, _] = rows[row];
+    let node = grammar.node(k);
+    let nodes = grammar.children(node);
+    let fits = match kind {
+        4 => word2 == nodes.len() as u64,
+        8 => word2 < nodes.len() as u64,
+        _ => true,
+    };
+    if kind != u64::from(node[0]) || !fits {
+        return Err(Refusal::at_row(15, row));
+    }
+    let mut child = row + 1;
+    match kind {
+        3 => {
+            let end = row + span as usize;
+            while child < end {
+                check_value(grammar, rows, child, nodes[0] as usize)?;
+                child += rows[child][1] as usize;
+            }
+        }
+        4 => {
+            for &field in nodes {
+                check_value(grammar, rows, child, field as usize)?;
+                child += rows[child][1] as usize;
+            }
+        }
+        8 => check_value(grammar, rows, child, nodes[word2 as usize] as usize)?,
+        _ => (),
+    }
+    Ok(())
+}
+
+/// The bytes of an element of the arrays of a kind, 0 for a kind without elements.
+fn element_width(kind: u64) -> u64 {
+    match kind {
+        5 => 1,
+        6 => 4,
+        7 => 8,
+        _ => 0,
+    }
+}
+
+/// How many bytes a row has itself, without its children's.
+fn own_size(&[kind, _, count, _]: &Row) -> u64 {
+    match kind {
+        0 | 4 => 0,
+        1 => 4,
+        _ => 8 + element_width(kind) * count,
+    }
+}
+
+/// Writes a row's own bytes, and gives how many.
+fn put_row(&[kind, _, word2, place]: &Row, store: &[u8], out: &mut [u8]) -> usize {
+    match kind {
+        0 | 4 => 0,
+        1 => {
+            out[..4].copy_from_slice(&(word2 as u32).to_le_bytes());
+            4
+        }
+        2 | 3 | 8 => {
+            out[..8].copy_from_slice(&word2.to_le_bytes());
+            8
+        }
+        _ => {
+            let length = (element_width(kind) * word2) as usize;
+            out[..8].copy_from_slice(&word2.to_le_bytes());
+            out[8..][..length].copy_from_slice(&store[place as usize..][..length]);
+            8 + length
+        }
+    }
+}
