@@ -1,0 +1,163 @@
+-- Demand 2, proved.
+use mathlib.Core.Path.{_≡_, refl, sym, ap, subst, _∙_}
+use mathlib.Core.Option.{some}
+use mathlib.Core.List.{List, [], append-nil}
+use Prim.Native.Nat.{ℕ, _+_, _*_, _≤_}
+use native.Mathlib.Nat.{zero-add, le-refl}
+use native.Mathlib.Omega.{arith}
+use lib.ListN.{length, take, drop}
+use lib.Seq.{take-at, take-all, drop-drop}
+use borrow.Author.Tests.{le-leb}
+use Rattle.refusal.specs.Outcome.{Outcome, accepted, map, contents, Fills, Reason}
+use Rattle.refusal.proofs.Outcome.{test-true}
+use Rattle.packed.specs.Packed.{unpackLittleEndian, unpackLittleEndianSeq, packLittleEndian, packLittleEndianSeq, present, room, put, putAt}
+use Rattle.packed.proofs.Laws.{bytes-drop, length-pack, pack-bytes, unpack-packed, pack-unique, length-packSeq, length-unpackSeq, unpackSeq-take, getD-unpackSeq, unpackSeq-packSeq, packSeq-unpackSeq}
+use Rattle.packed.proofs.Calls.{present-inside}
+use Rattle.packed.proofs.Source.{unpack-uint32, unpack-uint64}
+use Rattle.value.specs.Tree.{SizeOfV, rowCount}
+use Rattle.value.specs.Bytes.{bytesOf, Stands}
+use Rattle.value.specs.Reading.{start, readVal, readTo}
+use Rattle.value.specs.Parse.{parseVal}
+use Rattle.value.proofs.Laws.{packSeq-bytes, length-bytesOf, bytesOf-byteArray, parseVal-bytesOf, parseVal-value}
+use Rattle.value.proofs.Reading.{read-fits}
+use Rattle.grammar.specs.Tree.{treeOf}
+use Rattle.grammar.proofs.Tree.{tree-valid}
+use Rattle.rows.specs.Walk.{walk}
+use Rattle.rows.proofs.Rule.{accepted-exactly}
+use Rattle.reading.specs.Meaning.{Counts}
+use Rattle.reading.specs.Calls.{capacityOf, withoutState, parseValOf, demarshallOf, countsOf}
+use Rattle.reading.proofs.Calls.{admit-index, parse-read}
+use Rattle.reading.proofs.Bridge.{parse-parses, parse-stands, parse-none, demarshall-accepted, demarshall-refused}
+use Rattle.writing.specs.Marshall.{marshallValOf}
+use Rattle.route.specs.Demands.{PutThere, ParseValAgrees, DemarshallAgrees, SizesAgree, ByteRule, RuleStands, WritesTheRule, NumbersAgree, Demand2}
+use Rattle.route.proofs.Outcome.{map-accepted, map-refused}
+use Rattle.route.proofs.Put.{put-at}
+use Rattle.route.proofs.Reading.{rows-laid}
+use Rattle.route.proofs.Writing.{accepted-writable, written}
+
+-- ---- reading
+
+parse-val-agrees : ParseValAgrees
+parse-val-agrees g d rows exit index r w b h = record {
+  value = λ k e.
+      let y = map-accepted countsOf (parseValOf g d index capacity) (sym (h .answers) ∙ e) in
+      let t = y .0 in
+      let n : countsOf t ≡ countsOf (readTo (t .value) (start index)) = ap countsOf (parse-stands g d index capacity w b t (y .1) .2) in
+      let p : parseVal (drop index d) (treeOf g 0) ≡ (some (t .value), drop (k .restIndex) d) = subst (λ (c : Counts). parseVal (drop index d) (treeOf g 0) ≡ (some (t .value), drop (c .restIndex) d)) (sym (y .2)) (parse-parses g d index capacity t (y .1)) in
+      (t .value, p, ap (λ (c : Counts). c .rows) (y .2 ∙ n) ∙ omega arith, rows-laid h t (y .1));
+  nothing = λ n place e l. parse-none g d index capacity n place l (map-refused countsOf (parseValOf g d index capacity) (sym (h .answers) ∙ e));
+  within = λ p s i v rest e f.
+      let x = parseVal-value (treeOf g 0) (tree-valid g w 0) (drop index d) (bytes-drop index d b) v rest e in
+      let o : Stands d (treeOf g 0) index v = record { ofGrammar = x .1; bytes = rw (x .0) (take-at (bytesOf v) rest (SizeOfV v) (length-bytesOf v)) } in
+      let q : readVal capacity d (treeOf g 0) (start index) ≡ accepted (readTo v (start index)) = read-fits capacity d (treeOf g 0) (start index) i v o (omega arith) in
+      let a = sym (test-true _ _ (le-leb index (length d) i)) ∙ admit-index g d index (sym p) s in
+      h .answers ∙ ap (map countsOf) (sym (parse-read g d index capacity a) ∙ ap withoutState q) ∙ rw (zero-add (rowCount v));
+}
+  where
+    capacity : ℕ
+    capacity = capacityOf (length rows)
+
+demarshall-agrees : DemarshallAgrees
+demarshall-agrees g d rows exit r w b h = record {
+  value = λ k e.
+      let y = map-accepted countsOf (demarshallOf g d capacity) (sym (h .answers) ∙ e) in
+      let m = demarshall-accepted g d capacity w b (y .0) (y .1) in
+      (m .0, rows-laid h (y .0) (y .1) ∙ rw (m .1));
+  nothing = λ n place e l. demarshall-refused g d capacity w b n place l (map-refused countsOf (demarshallOf g d capacity) (sym (h .answers) ∙ e));
+}
+  where
+    capacity : ℕ
+    capacity = capacityOf (length rows)
+
+-- ---- sizes and writing
+
+sizes-agree : SizesAgree
+sizes-agree t s n r words bytes h size = (
+  λ e. let y = map-accepted SizeOfV (walk t n s) (sym h ∙ e) in (y .0, accepted-exactly t n s (y .0) words bytes .0 (y .1), y .2),
+  λ x. h ∙ ap (map SizeOfV) (accepted-exactly t n s (x .0) words bytes .1 (x .1)) ∙ ap accepted (sym (x .2)),
+)
+
+byte-rule : ByteRule
+unfolding bytesOf
+byte-rule = record {
+  constant = refl;
+  uint32 = λ n. refl;
+  uint64 = λ n. refl;
+  array = λ vs. refl;
+  tuple = λ vs. refl;
+  byteArray = bytesOf-byteArray;
+  uint32Array = λ ns. refl;
+  uint64Array = λ ns. refl;
+  case = λ c v. refl;
+  noParts = refl;
+  parts = λ v vs. refl;
+}
+
+rule-stands : RuleStands
+rule-stands = record { rule = byte-rule; parses = λ g v o rest. parseVal-bytesOf o rest; parsed = parseVal-value; size = length-bytesOf }
+
+writes-the-rule : WritesTheRule
+writes-the-rule g t s out exit n index w words bytes m = (
+  (
+    λ a. let y = map-accepted SizeOfV (marshallValOf g t n s (length out) index) (sym (m .answers) ∙ a .1) in (y .0, accepted-writable g t n s (length out) index (y .0) words bytes (y .1)),
+    λ x. (SizeOfV (x .0), written m (x .0) (x .1) .0),
+  ),
+  λ v x. written m v x,
+)
+
+-- ---- numbers
+
+-- bytes that have room are put
+filled : (out : List ℕ) (index : ℕ) (bs : List ℕ) {exit : List ℕ} {a : Outcome Reason (Unit {0})} → Fills (putAt out index bs) a out exit → index + length bs ≤ length out → (a ≡ accepted tt) × PutThere bs out index exit
+unfolding room
+filled out index bs h l =
+    let e : room (length out) index (length bs) ≡ accepted tt = test-true _ _ (le-leb (index + length bs) (length out) l) in (
+      h .answers ∙ ap (λ (o : Outcome Reason (Unit {0})). map (λ _. tt) (map (λ _. put out index bs) o)) e,
+      put-at out index bs l (h .buffer ∙ ap (λ (o : Outcome Reason (Unit {0})). contents (map (λ _. put out index bs) o) out) e),
+    )
+
+present-there : (len index size : ℕ) → index + size ≤ len → present len index size ≡ accepted tt
+present-there len index size l = present-inside len index size (omega arith) ∙ test-true _ _ (le-leb (index + size) len l)
+
+numbers-agree : (w : ℕ) → NumbersAgree w
+numbers-agree w = record {
+  packs = λ n index out exit a h below l.
+      let bs = packLittleEndian w n in
+      let f = filled out index bs h (omega (arith, length-pack w n)) in
+      (f .0, (bs, f .1, pack-bytes w n, length-pack w n, unpack-packed w n below, λ cs b m e. pack-unique w n cs below b m .0 e));
+  packsSeq = λ index ns out exit a h below l.
+      let bs = packLittleEndianSeq w ns in
+      let f = filled out index bs h (omega (arith, length-packSeq w ns)) in
+      let u : unpackLittleEndianSeq w bs (length ns) ≡ ns = ap (λ (x : List ℕ). unpackLittleEndianSeq w x (length ns)) (sym (append-nil bs)) ∙ unpackSeq-packSeq w ns [] below in (
+        f .0,
+        (
+          bs,
+          f .1,
+          packSeq-bytes w ns,
+          length-packSeq w ns,
+          u,
+          λ cs b m e.
+              sym (take-all (w * length ns) cs (omega arith)) ∙ sym (packSeq-unpackSeq w (length ns) cs b (omega arith)) ∙ ap (packLittleEndianSeq w) e,
+        ),
+      );
+  unpacks = λ s index l. ap (λ (o : Outcome Reason (Unit {0})). map (unpackLittleEndian w) (map (λ _. take w (drop index s)) o)) (present-there (length s) index w l);
+  unpacksSeq = λ s index entry exit a h l.
+      let n = length entry in
+      let e = present-there (length s) index (w * n) l in
+      let x : exit ≡ unpackLittleEndianSeq w (drop index s) n = h .buffer ∙ ap (λ (o : Outcome Reason (Unit {0})). contents (map (λ bs. unpackLittleEndianSeq w bs n) (map (λ _. take (w * n) (drop index s)) o)) entry) e ∙ unpackSeq-take w n (w * n) (drop index s) (le-refl (w * n)) in (
+        h .answers ∙ ap (λ (o : Outcome Reason (Unit {0})). map (λ _. tt) (map (λ bs. unpackLittleEndianSeq w bs n) (map (λ _. take (w * n) (drop index s)) o))) e,
+        rw x (length-unpackSeq w (drop index s) n),
+        λ i m. rw (x, getD-unpackSeq w n (drop index s) i m, drop-drop (w * i) index s),
+      );
+}
+
+pub demand2 : Demand2
+demand2 = record {
+  parseValAgrees = parse-val-agrees;
+  demarshallAgrees = demarshall-agrees;
+  sizesAgree = sizes-agree;
+  ruleStands = rule-stands;
+  writesTheRule = writes-the-rule;
+  numbersAgree = numbers-agree;
+  sumsAgree = record { uint32 = unpack-uint32; uint64 = unpack-uint64 };
+}

@@ -1,0 +1,10 @@
+pub mod Outcome
+pub mod Answers
+pub mod Put
+pub mod Reading
+pub mod Writing
+pub mod Examples
+pub mod Demand1
+pub mod Demand2
+pub mod Demand3
+pub mod Rewriting

@@ -1,0 +1,355 @@
+-- The three demands of 00-demands.md, as statements over the definitions that the contracts of the public calls cite. Above each part
+-- stand the words that it says, and what would leave it empty; proofs/Demand1.antt to Demand3.antt prove them.
+use mathlib.Core.Path.{_≡_}
+use mathlib.Core.Logic.{_↔_}
+use mathlib.Core.Bool.{Bool, true, false, _||_}
+use mathlib.Core.Option.{none, some}
+use mathlib.Core.List.{List, [], _∷_, _++_}
+use Prim.Native.Nat.{ℕ, _+_, _*_, _^_, _≤_, _<_}
+use lib.ListN.{length, getD, take, drop}
+use lib.Dec.{eqb}
+use Rattle.refusal.specs.Outcome.{Outcome, accepted, refused, Fills, Location, word, byte, row, Reason, reason}
+use Rattle.refusal.specs.Meaning.{outcomeOf}
+use Rattle.packed.specs.Packed.{Bytes, Below, unpackLittleEndian, unpackLittleEndianSeq, packLittleEndian, packLittleEndianSeq, unpackAt, unpackSeqAt, room, put, putAt}
+use Rattle.packed.specs.Meaning.{unpackedU32, unpackedU64}
+use Rattle.value.specs.Tree.{G, Val, Vals, VConstant, VArray, VTuple, VCase, vnil, vcons, VUint32, VUint64, VByteArray, VUint32Array, VUint64Array, seqV, ValInGrammar, ValidGrammar, CountsBelow, TypedVal, ValueOf, SizeOfV, rowCount}
+use Rattle.value.specs.Bytes.{bytesOf, bytesOfAll}
+use Rattle.value.specs.Step.{Step}
+use Rattle.value.specs.Reading.{State}
+use Rattle.value.specs.Parse.{parseVal, Demarshallable, DemarshallFunc}
+use Rattle.grammar.specs.Check.{checkGrammar}
+use Rattle.grammar.specs.Tree.{treeOf}
+use Rattle.rows.specs.Row.{rowWidth}
+use Rattle.rows.specs.Layout.{rowsOf}
+use Rattle.rows.specs.Walk.{walk}
+use Rattle.rows.specs.Rule.{TableOf}
+use Rattle.rows.specs.Size.{computeSizeOf}
+use Rattle.rows.specs.Locate.{locateArray}
+use Rattle.rows.specs.Meaning.{sizeOf, located}
+use Rattle.rows.specs.declared.SizeOf.{SizeOf}
+use Rattle.reading.specs.Meaning.{Counts, parsedOf}
+use Rattle.reading.specs.Calls.{capacityOf, parseValOf, demarshallOf, Parses}
+use Rattle.reading.specs.declared.Parsed.{Parsed}
+use Rattle.writing.specs.Marshall.{marshallValOf, Marshalls}
+use Rattle.route.specs.Rewriting.{rewriteOf, Rewrites}
+
+-- ==== Demand 1. "Every call is defined on every input: no grammar, record, row table or index is assumed sound, each call comes to an end"
+
+-- That nothing is assumed and that each call ends is in the text of the calls: no public one has a `requires`, and each is proved to end. Its
+-- contract equates answer and buffers with an outcome that is defined on all lists and numbers; and every outcome has one answer that means
+-- it, so a contract can be met and leaves nothing to the program
+abbrev pub OneAnswer : {R A : Type 0} → (R → Outcome Reason A) → Type 0
+OneAnswer {R} {A} meaning = (o : Outcome Reason A) → (r : R) × (meaning r ≡ o) × ((q : R) → meaning q ≡ o → q ≡ r)
+
+-- "a refusal names its number and place": the rows of document 01's table, but for 19, which only the program gives
+pub data InTable : Reason → Type 0 where
+  grammarStart : InTable (reason 1 (word 0))
+  grammarLength : (nodes : ℕ) → InTable (reason 2 (word (1 + 3 * nodes)))
+  nodeKind : (node : ℕ) → InTable (reason 3 (word (1 + 3 * node)))
+  nodeRule : (node : ℕ) → InTable (reason 4 (word (2 + 3 * node)))
+  child : (at : ℕ) → InTable (reason 5 (word at))
+  byteSlice : InTable (reason 6 (byte 0))
+  indexAbove : (index : ℕ) → InTable (reason 7 (byte index))
+  noRow : (start : ℕ) → InTable (reason 8 (byte start))
+  bytesMissing : (start : ℕ) → InTable (reason 9 (byte start))
+  tagAbove : (start : ℕ) → InTable (reason 10 (byte start))
+  recordEnd : (rest : ℕ) → InTable (reason 11 (byte rest))
+  rowTable : InTable (reason 12 (row 0))
+  rowBroken : (i : ℕ) → InTable (reason 13 (row i))
+  outsideStore : (i : ℕ) → InTable (reason 14 (row i))
+  notInGrammar : (i : ℕ) → InTable (reason 15 (row i))
+  sizeAbove : InTable (reason 16 (row 0))
+  outputShort : (len : ℕ) → InTable (reason 17 (byte len))
+  notAnArray : (i : ℕ) → InTable (reason 18 (row i))
+
+abbrev pub numberOf : Reason → ℕ
+numberOf (reason n place) = n
+
+abbrev pub among : List ℕ → ℕ → Bool
+among [] n = false
+among (m ∷ ms) n = eqb n m || among ms n
+
+-- the numbers that document 01 lists for the calls
+abbrev pub grammarNumbers : List ℕ
+grammarNumbers = 1 ∷ 2 ∷ 3 ∷ 4 ∷ 5 ∷ []
+
+abbrev pub packerNumbers : List ℕ
+packerNumbers = 17 ∷ []
+
+abbrev pub unpackerNumbers : List ℕ
+unpackerNumbers = 7 ∷ 9 ∷ []
+
+abbrev pub rowNumbers : List ℕ
+rowNumbers = 6 ∷ 12 ∷ 13 ∷ 14 ∷ []
+
+abbrev pub locatorNumbers : List ℕ
+locatorNumbers = 6 ∷ 12 ∷ 13 ∷ 14 ∷ 18 ∷ []
+
+abbrev pub readingNumbers : List ℕ
+readingNumbers = 1 ∷ 2 ∷ 3 ∷ 4 ∷ 5 ∷ 6 ∷ 7 ∷ 8 ∷ 9 ∷ 10 ∷ []
+
+-- from byte 0, which is no index above the length, to the end
+abbrev pub wholeNumbers : List ℕ
+wholeNumbers = 1 ∷ 2 ∷ 3 ∷ 4 ∷ 5 ∷ 6 ∷ 8 ∷ 9 ∷ 10 ∷ 11 ∷ []
+
+-- `rewrite` of src/lib.rt: room, then the whole reading
+abbrev pub rewritingNumbers : List ℕ
+rewritingNumbers = 17 ∷ wholeNumbers
+
+abbrev pub writingNumbers : List ℕ
+writingNumbers = 1 ∷ 2 ∷ 3 ∷ 4 ∷ 5 ∷ 6 ∷ 12 ∷ 13 ∷ 14 ∷ 15 ∷ 16 ∷ 17 ∷ []
+
+-- every refusal is in the table, and its number is one of the call's. When it is given is the definition's, which the contract equates with
+-- the answer: one that never refuses, or always, is another definition
+abbrev pub Refuses : {A : Type 0} → List ℕ → Outcome Reason A → Type 0
+Refuses numbers o = (e : Reason) → o ≡ refused e → InTable e × (among numbers (numberOf e) ≡ true)
+
+-- A check's answer is a function of the outcome that is named here, so its refusals are these
+pub record Demand1 : Type 0 where
+  -- of each answer enum
+  pub answer : OneAnswer outcomeOf
+  pub unpackedUint32 : OneAnswer unpackedU32
+  pub unpackedUint64 : OneAnswer unpackedU64
+  pub size : OneAnswer sizeOf
+  pub array : OneAnswer located
+  pub counts : OneAnswer parsedOf
+  -- `check_grammar`
+  pub grammar : (g : List ℕ) → Refuses grammarNumbers (checkGrammar g)
+  -- `room` of `packed`
+  pub room : (len index size : ℕ) → Refuses packerNumbers (room len index size)
+  -- the four packers, and `copy_seq_into_array`
+  pub packers : (out : List ℕ) (index : ℕ) (bs : List ℕ) → Refuses packerNumbers (putAt out index bs)
+  -- the unpackers of one number, and of a sequence
+  pub unpackers : (w : ℕ) (s : List ℕ) (index : ℕ) → Refuses unpackerNumbers (unpackAt w s index)
+  pub unpackersSeq : (w : ℕ) (s : List ℕ) (index len : ℕ) → Refuses unpackerNumbers (unpackSeqAt w s index len)
+  -- `check_rows`
+  pub rows : (t : List ℕ) (n : ℕ) (s : List ℕ) → Refuses rowNumbers (walk t n s)
+  -- `compute_size_of`
+  pub sizes : (t : List ℕ) (n : ℕ) (s : List ℕ) → Refuses rowNumbers (computeSizeOf t n s)
+  -- `locate_array`; `array_bytes` gives the empty part where it refuses
+  pub locator : (t : List ℕ) (n : ℕ) (s : List ℕ) (i : ℕ) → Refuses locatorNumbers (locateArray t n s i)
+  -- `parse_val`, `check_val`
+  pub reading : (g d : List ℕ) (index capacity : ℕ) → Refuses readingNumbers (parseValOf g d index capacity)
+  -- `demarshall`, `check_whole`
+  pub wholeReading : (g d : List ℕ) (capacity : ℕ) → Refuses wholeNumbers (demarshallOf g d capacity)
+  -- `marshall_val`, `marshall`
+  pub writing : (g t : List ℕ) (n : ℕ) (s : List ℕ) (len index : ℕ) → Refuses writingNumbers (marshallValOf g t n s len index)
+  -- `rewrite`
+  pub rewriting : (g d : List ℕ) (capacity len index : ℕ) → Refuses rewritingNumbers (rewriteOf g d capacity len index)
+  -- "and a refusal alters no buffer lent to the call": a slice of numbers or bytes, rows, the output
+  pub fillsNothing : (o : Outcome Reason (List ℕ)) (a : Outcome Reason (Unit {0})) (entry exit : List ℕ) → Fills o a entry exit → (e : Reason) → a ≡ refused e → exit ≡ entry
+  pub parsesNothing : (o : Outcome Reason (Step State Val)) (index : ℕ) (r : Parsed) (entry exit : List ℕ) → Parses o index r entry exit → (e : Reason) → parsedOf r ≡ refused e → exit ≡ entry
+  pub marshallsNothing : (o : Outcome Reason Val) (index : ℕ) (w : SizeOf) (entry exit : List ℕ) → Marshalls o index w entry exit → (e : Reason) → sizeOf w ≡ refused e → exit ≡ entry
+  pub rewritesNothing : (g d rows out : List ℕ) (index : ℕ) (w : SizeOf) (filled exit : List ℕ) → Rewrites g d rows out index w filled exit → (e : Reason) → sizeOf w ≡ refused e → (filled ≡ rows) × (exit ≡ out)
+
+-- ==== Demands 2 and 3 share this
+
+-- the output at exit is that at entry with exactly bs at the index, every other byte as it was
+pub record PutThere (bs out : List ℕ) (index : ℕ) (exit : List ℕ) : Type 0 where
+  pub there : take (length bs) (drop index exit) ≡ bs
+  pub before : take index exit ≡ take index out
+  pub behind : drop (index + length bs) exit ≡ drop (index + length bs) out
+  pub same : length exit ≡ length out
+
+-- ==== Demand 2. "Reading, writing and sizes agree with the source's own definitions, within the limits of document 01"
+
+-- "Reading": `parse_val` beside GM's `parse_Val` of the bytes from the index on. The limits are 1 to 8. One that refuses all fails
+-- `within`, and a made-up value or rest fails `value`
+pub record ParsesAs (g d : List ℕ) (index : ℕ) (rows : List ℕ) (r : Parsed) (exit : List ℕ) : Type 0 where
+  -- what is accepted is what GM parses, and `rest_index` is where GM's rest begins
+  pub value : (k : Counts) → parsedOf r ≡ accepted k → (v : Val) × (parseVal (drop index d) (treeOf g 0) ≡ (some v, drop (k .restIndex) d)) × (k .rows ≡ rowCount v) × (exit ≡ put rows 0 (rowsOf v index))
+  -- refused, and none of 1 to 8: GM parses nothing
+  pub nothing : (n : ℕ) (place : Location) → parsedOf r ≡ refused (reason n place) → 8 < n → parseVal (drop index d) (treeOf g 0) ≡ (none, [])
+  -- what GM parses within the limits is accepted
+  pub within : checkGrammar g ≡ accepted tt → length d ≤ 1048576 → index ≤ length d → (v : Val) (rest : List ℕ) → parseVal (drop index d) (treeOf g 0) ≡ (some v, rest) → rowCount v ≤ capacityOf (length rows) → parsedOf r ≡ accepted (record { rows = rowCount v; restIndex = index + SizeOfV v })
+
+abbrev pub ParseValAgrees : Type 0
+ParseValAgrees =
+    (g d rows exit : List ℕ) (index : ℕ) (r : Parsed) → Below (2 ^ 32) g → Bytes d
+    → Parses (parseValOf g d index (capacityOf (length rows))) index r rows exit → ParsesAs g d index rows r exit
+
+-- "Reading": `demarshall` beside GM's `Demarshallable`, which is its success where none of 1 to 8 is given. One that refuses all fails (a)
+-- of demand 3
+pub record DemarshallsAs (g d rows : List ℕ) (r : Parsed) (exit : List ℕ) : Type 0 where
+  pub value : (k : Counts) → parsedOf r ≡ accepted k → (m : Demarshallable d (treeOf g 0)) × (exit ≡ put rows 0 (rowsOf (DemarshallFunc d (treeOf g 0) m) 0))
+  pub nothing : (n : ℕ) (place : Location) → parsedOf r ≡ refused (reason n place) → 8 < n → ¬ (Demarshallable d (treeOf g 0))
+
+abbrev pub DemarshallAgrees : Type 0
+DemarshallAgrees =
+    (g d rows exit : List ℕ) (r : Parsed) → Below (2 ^ 32) g → Bytes d
+    → Parses (demarshallOf g d (capacityOf (length rows))) 0 r rows exit → DemarshallsAs g d rows r exit
+
+-- "sizes": `compute_size_of` answers GM's `SizeOfV` of the value that the rows stand for, and is refused where they stand for none.
+-- One that refuses all fails from right to left, a made-up size from left to right
+abbrev pub SizesAgree : Type 0
+SizesAgree =
+    (t s : List ℕ) (n : ℕ) (r : SizeOf) → Below (2 ^ 64) t → Bytes s → sizeOf r ≡ computeSizeOf t n s
+    → (size : ℕ) → (sizeOf r ≡ accepted size) ↔ ((v : Val) × TableOf t n s v × (size ≡ SizeOfV v))
+
+-- document 01's byte rule, kind by kind: numbers, counts and tags as PI's sum packs them, elements and fields one behind the other
+pub record ByteRule : Type 0 where
+  pub constant : bytesOf VConstant ≡ []
+  pub uint32 : (n : ℕ) → bytesOf (VUint32 n) ≡ packLittleEndian 4 n
+  pub uint64 : (n : ℕ) → bytesOf (VUint64 n) ≡ packLittleEndian 8 n
+  pub array : (vs : Vals) → bytesOf (VArray vs) ≡ packLittleEndian 8 (length (seqV vs)) ++ bytesOfAll vs
+  pub tuple : (vs : Vals) → bytesOf (VTuple vs) ≡ bytesOfAll vs
+  pub byteArray : (b : List ℕ) → Below 256 b → bytesOf (VByteArray b) ≡ packLittleEndian 8 (length b) ++ b
+  pub uint32Array : (ns : List ℕ) → bytesOf (VUint32Array ns) ≡ packLittleEndian 8 (length ns) ++ packLittleEndianSeq 4 ns
+  pub uint64Array : (ns : List ℕ) → bytesOf (VUint64Array ns) ≡ packLittleEndian 8 (length ns) ++ packLittleEndianSeq 8 ns
+  pub case : (c : ℕ) (v : Val) → bytesOf (VCase c v) ≡ packLittleEndian 8 c ++ bytesOf v
+  pub noParts : bytesOfAll vnil ≡ []
+  pub parts : (v : Val) (vs : Vals) → bytesOfAll (vcons v vs) ≡ bytesOf v ++ bytesOfAll vs
+
+-- "so the rule has to stand without the code": the byte rule and GM's `parse_Val`, `SizeOfV` determine each other, with no call in it.
+-- Another spelling that is one-to-one fails `rule`
+pub record RuleStands : Type 0 where
+  pub rule : ByteRule
+  pub parses : (g : G) (v : Val) → ValueOf g v → (rest : List ℕ) → parseVal (bytesOf v ++ rest) g ≡ (some v, rest)
+  pub parsed : (g : G) → ValidGrammar g → (d : List ℕ) → Bytes d → (v : Val) (rest : List ℕ) → parseVal d g ≡ (some v, rest) → (d ≡ bytesOf v ++ rest) × ValueOf g v
+  pub size : (v : Val) → length (bytesOf v) ≡ SizeOfV v
+
+-- n rows with a store stand for v, and none of 1 to 6 and 12 to 17 is given to its writing at an index of len bytes
+pub record Writable (g t : List ℕ) (n : ℕ) (s : List ℕ) (len index : ℕ) (v : Val) : Type 0 where
+  pub passes : checkGrammar g ≡ accepted tt
+  pub table : TableOf t n s v
+  pub inGrammar : ValInGrammar v (treeOf g 0)
+  pub limit : SizeOfV v ≤ 1048576
+  pub room : index + SizeOfV v ≤ len
+
+-- "writing" and "the bytes written are those of its byte rule": `marshall_val` is accepted exactly where there is a value to write, and
+-- puts that value's bytes. `marshall` is the same at index 0. A writer that gives 17 at once fails from right to left; one that leaves the
+-- output alone, or packs only the first element, fails `there`
+abbrev pub WritesTheRule : Type 0
+WritesTheRule =
+    (g t s out exit : List ℕ) (n index : ℕ) (w : SizeOf) → Below (2 ^ 64) t → Bytes s
+    → Marshalls (marshallValOf g t n s (length out) index) index w out exit
+    → (((size : ℕ) × (sizeOf w ≡ accepted size)) ↔ ((v : Val) × Writable g t n s (length out) index v))
+    × ((v : Val) → Writable g t n s (length out) index v → (sizeOf w ≡ accepted (SizeOfV v)) × PutThere (bytesOf v) out index exit)
+
+-- "number packing included": the calls on numbers of w bytes, of which there are those of 4 and of 8, beside PI's sum. Each is accepted where
+-- the bytes are there or have room
+pub record NumbersAgree (w : ℕ) : Type 0 where
+  -- a packer writes the only bytes with that sum
+  pub packs : (n index : ℕ) (out exit : List ℕ) (a : Outcome Reason (Unit {0})) → Fills (putAt out index (packLittleEndian w n)) a out exit → n < 256 ^ w → index + w ≤ length out
+      → (a ≡ accepted tt) × ((bs : List ℕ) × PutThere bs out index exit × Bytes bs × (length bs ≡ w) × (unpackLittleEndian w bs ≡ n)
+      × ((cs : List ℕ) → Bytes cs → length cs ≡ w → unpackLittleEndian w cs ≡ n → cs ≡ bs))
+  pub packsSeq : (index : ℕ) (ns out exit : List ℕ) (a : Outcome Reason (Unit {0})) → Fills (putAt out index (packLittleEndianSeq w ns)) a out exit → Below (256 ^ w) ns → index + w * length ns ≤ length out
+      → (a ≡ accepted tt) × ((bs : List ℕ) × PutThere bs out index exit × Bytes bs × (length bs ≡ w * length ns) × (unpackLittleEndianSeq w bs (length ns) ≡ ns)
+      × ((cs : List ℕ) → Bytes cs → length cs ≡ w * length ns → unpackLittleEndianSeq w cs (length ns) ≡ ns → cs ≡ bs))
+  pub unpacks : (s : List ℕ) (index : ℕ) → index + w ≤ length s → unpackAt w s index ≡ accepted (unpackLittleEndian w (take w (drop index s)))
+  pub unpacksSeq : (s : List ℕ) (index : ℕ) (entry exit : List ℕ) (a : Outcome Reason (Unit {0})) → Fills (unpackSeqAt w s index (length entry)) a entry exit → index + w * length entry ≤ length s
+      → (a ≡ accepted tt) × (length exit ≡ length entry) × ((i : ℕ) → i < length entry → getD exit i 0 ≡ unpackLittleEndian w (take w (drop (index + w * i) s)))
+
+-- PI's `unpack_LittleEndian_Uint32` and `unpack_LittleEndian_Uint64`, as written there
+pub record SumsAgree : Type 0 where
+  pub uint32 : (s : List ℕ) → unpackLittleEndian 4 s ≡ getD s 0 0 + getD s 1 0 * 0x1_00 + getD s 2 0 * 0x1_00_00 + getD s 3 0 * 0x1_00_00_00
+  pub uint64 : (s : List ℕ) → unpackLittleEndian 8 s ≡ getD s 0 0 + getD s 1 0 * 0x1_00 + getD s 2 0 * 0x1_00_00 + getD s 3 0 * 0x1_00_00_00 + getD s 4 0 * 0x1_00_00_00_00 + getD s 5 0 * 0x1_00_00_00_00_00 + getD s 6 0 * 0x1_00_00_00_00_00_00 + getD s 7 0 * 0x1_00_00_00_00_00_00_00
+
+pub record Demand2 : Type 0 where
+  pub parseValAgrees : ParseValAgrees
+  pub demarshallAgrees : DemarshallAgrees
+  pub sizesAgree : SizesAgree
+  pub ruleStands : RuleStands
+  pub writesTheRule : WritesTheRule
+  pub numbersAgree : (w : ℕ) → NumbersAgree w
+  pub sumsAgree : SumsAgree
+
+-- ==== Demand 3. "A record has one meaning."
+
+-- "Whatever grammar passes its check": a slice of u32 words that `check_grammar` accepts
+pub record Grammar (g : List ℕ) : Type 0 where
+  pub words : Below (2 ^ 32) g
+  pub passes : checkGrammar g ≡ accepted tt
+
+-- "some value of that grammar": a `V` that meets `ValInGrammar` with the tree of node 0, each element count below 2^64, in Dafny's types
+pub record ValueOfGrammar (g : List ℕ) (v : Val) : Type 0 where
+  pub inGrammar : ValInGrammar v (treeOf g 0)
+  pub counts : CountsBelow v
+  pub typed : TypedVal v
+
+-- d "is the bytes of" the value v of the grammar
+pub record RecordOf (g d : List ℕ) (v : Val) : Type 0 where
+  pub value : ValueOfGrammar g v
+  pub bytes : d ≡ bytesOf v
+
+-- "whatever bytes come as the record, up to 1,048,576 of them, and whatever rows are lent": `demarshall` was called with them, and its
+-- contract allows the answer r and these rows at exit. Of the rows at entry nothing is asked. The call is proved to meet its contract, so
+-- there are an r and an exit on every input; case A's are `reading-A` of proofs/Examples.antt
+pub record WholeReading (g d rows : List ℕ) (r : Parsed) (exit : List ℕ) : Type 0 where
+  pub grammar : Grammar g
+  pub bytes : Bytes d
+  pub short : length d ≤ 1048576
+  pub call : Parses (demarshallOf g d (capacityOf (length rows))) 0 r rows exit
+
+-- (a) "the whole reading accepts the record exactly when it is the bytes of some value of that grammar that fits the rows lent".
+-- A reader that refuses all, or gives 8 at once, fails from right to left: case A's record is the bytes of a value that fits (`record-A`)
+abbrev pub AcceptsExactly : Type 0
+AcceptsExactly =
+    (g d rows exit : List ℕ) (r : Parsed) → WholeReading g d rows r exit
+    → ((k : Counts) × (parsedOf r ≡ accepted k)) ↔ ((v : Val) × RecordOf g d v × (rowCount v ≤ capacityOf (length rows)))
+
+-- n rows at exit are what the whole reading of d hands out, and v is their value
+pub record HandedOut (g d rows : List ℕ) (n : ℕ) (exit : List ℕ) (v : Val) : Type 0 where
+  pub ofRecord : RecordOf g d v
+  pub count : n ≡ rowCount v
+  pub layout : take (rowWidth * n) exit ≡ rowsOf v 0
+  pub walked : walk exit n d ≡ accepted v
+  pub kept : drop (rowWidth * n) exit ≡ drop (rowWidth * n) rows
+  pub words : length exit ≡ length rows
+  -- of however many rows
+  pub only : (u : Val) → RecordOf g d u → u ≡ v
+
+-- (b) "and then it hands out that value, the only one with these bytes".
+-- A reader that hands out one constant value fails `ofRecord`: values of a grammar differ in their bytes (e)
+abbrev pub HandsOut : Type 0
+HandsOut =
+    (g d rows exit : List ℕ) (r : Parsed) → WholeReading g d rows r exit
+    → (k : Counts) → parsedOf r ≡ accepted k → (v : Val) × HandedOut g d rows (k .rows) exit v × (k .restIndex ≡ length d)
+
+-- (c) "the record of a value that needs more rows is refused by number 8".
+-- Whatever rows are lent there is such a record: an array of 4,096 constants, of 8 bytes (`record-C`, `rows-C`)
+abbrev pub NeedsMoreRows : Type 0
+NeedsMoreRows =
+    (g d rows exit : List ℕ) (r : Parsed) → WholeReading g d rows r exit
+    → (v : Val) → RecordOf g d v → capacityOf (length rows) < rowCount v → (place : ℕ) × (parsedOf r ≡ refused (reason 8 (byte place))) × (exit ≡ rows)
+
+-- (d) "Writing what was handed out, at whatever place of an output long enough, is accepted and puts exactly the record there again":
+-- `marshall_val` is given the slice as the reading left it, whatever stands behind row n − 1, n, the record as store and the same grammar.
+-- Of the output's length nothing else is asked. A writer that gives 17 at once or leaves the output alone fails. `rewrite` of src/lib.rt does
+-- both, and its contract says this of code
+abbrev pub WritesBack : Type 0
+WritesBack =
+    (g d rows exit : List ℕ) (r : Parsed) → WholeReading g d rows r exit
+    → (k : Counts) → parsedOf r ≡ accepted k
+    → (out : List ℕ) (index : ℕ) → index + length d ≤ length out
+    → (w : SizeOf) (after : List ℕ) → Marshalls (marshallValOf g exit (k .rows) d (length out) index) index w out after → (sizeOf w ≡ accepted (length d)) × PutThere d out index after
+
+-- and `marshall`, which takes no index
+abbrev pub WritesBackWhole : Type 0
+WritesBackWhole =
+    (g d rows exit : List ℕ) (r : Parsed) → WholeReading g d rows r exit
+    → (k : Counts) → parsedOf r ≡ accepted k
+    → (out : List ℕ) → length d ≤ length out
+    → (w : SizeOf) (after : List ℕ) → Marshalls (marshallValOf g exit (k .rows) d (length out) 0) 0 w out after → (sizeOf w ≡ accepted (length d)) × PutThere d out 0 after
+
+-- the first bytes, from none to all
+pub record FrontPart (part whole : List ℕ) : Type 0 where
+  pub count : ℕ
+  pub most : count ≤ length whole
+  pub first : part ≡ take count whole
+
+-- (e) "of any two different values of one such grammar, each of at most 4,096 rows and 1,048,576 bytes, neither has bytes that equal the
+-- other's or are a front part of them". It holds without these limits, so they are not asked. No reader is in it.
+-- The grammar of one uint32 has two values (`two-values`); the bytes are the byte rule's, so another one-to-one spelling is another statement
+abbrev pub NoFrontPart : Type 0
+NoFrontPart =
+    (g : List ℕ) → Grammar g → (u v : Val) → ValueOfGrammar g u → ValueOfGrammar g v → ¬ (u ≡ v)
+    → ¬ (FrontPart (bytesOf u) (bytesOf v)) × ¬ (FrontPart (bytesOf v) (bytesOf u))
+
+pub record Demand3 : Type 0 where
+  pub acceptsExactly : AcceptsExactly
+  pub handsOut : HandsOut
+  pub needsMoreRows : NeedsMoreRows
+  pub writesBack : WritesBack
+  pub writesBackWhole : WritesBackWhole
+  pub noFrontPart : NoFrontPart
