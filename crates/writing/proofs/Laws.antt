@@ -1,6 +1,6 @@
 -- GM's clauses of `MarshallVal` and `Marshall`, of a call that answers r and leaves the output `exit`.
 use mathlib.Core.Path.{_≡_, ap, sym, _∙_}
-use mathlib.Core.Option.{Option, some}
+use mathlib.Core.Option.{some}
 use mathlib.Core.List.{List, [], append-nil}
 use Prim.Native.Nat.{ℕ, _+_, _^_, _≤_, _<_}
 use native.Mathlib.Omega.{arith}
@@ -15,11 +15,10 @@ use Rattle.value.specs.Parse.{parseVal, Demarshallable}
 use Rattle.value.proofs.Laws.{length-bytesOf, parseVal-bytesOf, demarshallable-bytesOf}
 use Rattle.grammar.specs.Tree.{treeOf}
 use Rattle.grammar.proofs.Tree.{tree-valid}
-use Rattle.rows.specs.Rule.{TableOf}
 use Rattle.rows.specs.Meaning.{sizeOf}
 use Rattle.rows.specs.declared.SizeOf.{SizeOf}
 use Rattle.rows.proofs.Rule.{accepted-exactly}
-use Rattle.writing.specs.Marshall.{marshallValOf, Writes, Marshalls}
+use Rattle.writing.specs.Marshall.{marshallValOf, Marshalls}
 use Rattle.writing.proofs.Writing.{accepted-writes}
 
 module _ (g t : List ℕ) (n : ℕ) (s : List ℕ) (entry exit : List ℕ) (index : ℕ) (r : SizeOf) (m : Marshalls (marshallValOf g t n s (length entry) index) index r entry exit) where

@@ -13,7 +13,7 @@ use Rattle.packed.specs.Packed.{packLittleEndian, put, putAt}
 use Rattle.packed.proofs.Laws.{length-pack}
 use Rattle.packed.proofs.Put.{length-put, put-more}
 use Rattle.packed.proofs.Calls.{room-test}
-use Rattle.value.specs.Kinds.{Kind, kindOf}
+use Rattle.value.specs.Kinds.{kindOf}
 use Rattle.rows.specs.Row.{rowAt}
 use Rattle.rows.specs.Walk.{withinStore}
 use Rattle.rows.specs.Size.{sizeAt, bytesFrom, sizeFrom}

@@ -3,21 +3,21 @@ use mathlib.Core.Path.{_≡_, refl, ap, sym, subst, _∙_}
 use mathlib.Core.Bool.{Bool, true, false, _&&_, _||_}
 use mathlib.Core.List.{List}
 use Prim.Native.Nat.{ℕ, zero, suc, _+_, _-_, _*_, _≤_, _<_}
-use native.Mathlib.Nat.{add-zero, sub-zero}
+use native.Mathlib.Nat.{add-zero}
 use native.Mathlib.Numerals.{add-one}
 use native.Mathlib.Omega.{arith}
 use lib.ListN.{length}
-use lib.Dec.{eqb, ltb}
-use borrow.Author.Tests.{eq-eqb, ne-eqb, lt-ltb, le-ltb}
+use lib.Dec.{eqb}
+use borrow.Author.Tests.{eq-eqb, ne-eqb, le-ltb}
 use Rattle.refusal.specs.Outcome.{Outcome, accepted, refused, bind, Reason, reason, row}
-use Rattle.refusal.specs.Meaning.{reasonOf, outcomeOf}
+use Rattle.refusal.specs.Meaning.{outcomeOf}
 use Rattle.refusal.specs.declared.Refusal.{Refusal}
 use Rattle.refusal.specs.declared.Answer.{Answer}
 use Rattle.refusal.specs.declared.Answer.the-variants.{Accepted, Refused}
 use Rattle.refusal.proofs.Outcome.{test-true}
 use Rattle.refusal.proofs.Tests.{reflects-eqb, reflects-ltb, reflects-and}
 use Rattle.refusal.proofs.Meaning.{done, stopped}
-use Rattle.value.specs.Kinds.{numberKind, elementsKind, Number, uint32, uint64, Elements, bytes, uint32s, uint64s, Kind, kinds, lastKind, kindOf, other}
+use Rattle.value.specs.Kinds.{numberKind, elementsKind, Number, uint32, uint64, Elements, bytes, uint32s, uint64s, kinds, lastKind, kindOf, other}
 use Rattle.value.specs.Tree.{G, Gs, Val, Vals, VConstant, VNumber, VArray, VTuple, VNumberArray, VCase, vnil, vcons, seqG, seqV, caseAt, rowCount, rowCounts}
 use Rattle.value.proofs.Agreement.{rowCount-positive}
 use Rattle.grammar.specs.Table.{nodeCount, kindWord, firstWord, countWord, childWord}
@@ -50,6 +50,18 @@ node-kind (suc (suc (suc (suc (suc (suc (suc zero))))))) gs h = refl
 node-kind (suc (suc (suc (suc (suc (suc (suc (suc zero)))))))) gs h = refl
 node-kind (suc (suc (suc (suc (suc (suc (suc (suc (suc w))))))))) gs h = absurd (omega arith)
 
+-- a kind word whose children are fields or cases
+abbrev pub Parted : ℕ → Type 0
+Parted w = (gs : Gs) → partGrammars (nodeTree (kindOf w) gs) ≡ gs
+
+pub tuple-parts : Parted 4
+unfolding nodeTree kindOf kinds
+tuple-parts gs = refl
+
+pub union-parts : Parted 8
+unfolding nodeTree kindOf kinds
+union-parts gs = refl
+
 module _ (g : List ℕ) (p : Passes g) (k : ℕ) (b : k < nodeCount g) where
   children : Gs
   children = childTrees g (treeOf g) (firstWord g k) (countWord g k)
@@ -68,22 +80,15 @@ module _ (g : List ℕ) (p : Passes g) (k : ℕ) (b : k < nodeCount g) where
       let n : countWord g k ≡ 1 = rw e at (node-inside g p k b .3 .0) in
       ap elementGrammar (by-word 3 e) ∙ rw (n, add-zero (firstWord g k))
 
-  pub tree-fields : kindWord g k ≡ 4 → partGrammars (treeOf g k) ≡ childTrees g (treeOf g) (firstWord g k) (countWord g k)
-  unfolding children nodeTree kindOf kinds
-  tree-fields e = ap partGrammars (by-word 4 e)
+  pub tree-parts : {w : ℕ} → Parted w → kindWord g k ≡ w → partGrammars (treeOf g k) ≡ childTrees g (treeOf g) (firstWord g k) (countWord g k)
+  unfolding children
+  tree-parts {w} q e = ap partGrammars (by-word w e) ∙ q children
 
-  pub field-count : kindWord g k ≡ 4 → length (seqG (partGrammars (treeOf g k))) ≡ countWord g k
-  field-count e = ap (λ (gs : Gs). length (seqG gs)) (tree-fields e) ∙ trees-length g (treeOf g) (countWord g k) (firstWord g k)
-
-  tree-cases : kindWord g k ≡ 8 → partGrammars (treeOf g k) ≡ childTrees g (treeOf g) (firstWord g k) (countWord g k)
-  unfolding children nodeTree kindOf kinds
-  tree-cases e = ap partGrammars (by-word 8 e)
-
-  pub case-count : kindWord g k ≡ 8 → length (seqG (partGrammars (treeOf g k))) ≡ countWord g k
-  case-count e = ap (λ (gs : Gs). length (seqG gs)) (tree-cases e) ∙ trees-length g (treeOf g) (countWord g k) (firstWord g k)
+  pub part-count : {w : ℕ} → Parted w → kindWord g k ≡ w → length (seqG (partGrammars (treeOf g k))) ≡ countWord g k
+  part-count q e = ap (λ (gs : Gs). length (seqG gs)) (tree-parts q e) ∙ trees-length g (treeOf g) (countWord g k) (firstWord g k)
 
   pub tree-case : kindWord g k ≡ 8 → (c : ℕ) → c < countWord g k → caseAt (partGrammars (treeOf g k)) c ≡ treeOf g (childWord g (firstWord g k + c))
-  tree-case e c l = ap (λ (gs : Gs). caseAt gs c) (tree-cases e) ∙ trees-at g (treeOf g) (countWord g k) (firstWord g k) c l
+  tree-case e c l = ap (λ (gs : Gs). caseAt gs c) (tree-parts union-parts e) ∙ trees-at g (treeOf g) (countWord g k) (firstWord g k) c l
 
   -- ---- where its children stand
 
@@ -229,19 +234,16 @@ module _ (t : List ℕ) (i : ℕ) (h : Standing t i) where
   pub row-inside : rowWidth * i + rowWidth ≤ length t
   row-inside = omega (arith, h .within, rowCount-positive (h .value))
 
+  children-stand : (vs : Vals) → rowCount (h .value) ≡ 1 + rowCounts vs → StandForAll t (h .store) (suc i) vs → {n : ℕ} → length (seqV vs) ≡ n → StandingAll t n (i + 1)
+  children-stand vs c r m = rw add-one (record { store = h .store; values = vs; rows = r; many = m; within = omega (arith, h .within) })
+
   pub elements-stand : rowAt t i .kind ≡ 3 → StandingAll t (rowAt t i .word2) (i + 1)
   unfolding rowCount
-  elements-stand k =
-      let x = is-array t (h .store) i (h .value) (h .rows) k in
-      let w = rw (x .1) at (h .within) in
-      rw add-one (record { store = h .store; values = x .0; rows = x .2; many = x .3; within = omega arith })
+  elements-stand k = let x = is-array t (h .store) i (h .value) (h .rows) k in children-stand (x .0) (ap rowCount (x .1)) (x .2) (x .3)
 
   pub fields-stand : rowAt t i .kind ≡ 4 → StandingAll t (rowAt t i .word2) (i + 1)
   unfolding rowCount
-  fields-stand k =
-      let x = is-tuple t (h .store) i (h .value) (h .rows) k in
-      let w = rw (x .1) at (h .within) in
-      rw add-one (record { store = h .store; values = x .0; rows = x .2; many = x .3; within = omega arith })
+  fields-stand k = let x = is-tuple t (h .store) i (h .value) (h .rows) k in children-stand (x .0) (ap rowCount (x .1)) (x .2) (x .3)
 
   pub case-stands : rowAt t i .kind ≡ 8 → Standing t (i + 1)
   unfolding rowCount

@@ -15,10 +15,9 @@ use Rattle.refusal.specs.declared.Refusal.{Refusal}
 use Rattle.refusal.proofs.Outcome.{map-map, test-true, test-passed}
 use Rattle.packed.specs.Packed.{Bytes, Below, room, put}
 use Rattle.packed.proofs.Calls.{room-test, room-fits}
-use Rattle.value.specs.Tree.{Val, ValInGrammar, SizeOfV}
+use Rattle.value.specs.Tree.{Val, SizeOfV}
 use Rattle.value.specs.Bytes.{bytesOf}
 use Rattle.grammar.specs.Check.{checkGrammar}
-use Rattle.grammar.specs.Rule.{Passes}
 use Rattle.grammar.specs.Tree.{treeOf}
 use Rattle.grammar.proofs.Rule.{accepted-exactly as grammar-exactly}
 use Rattle.rows.specs.Row.{rowWidth}

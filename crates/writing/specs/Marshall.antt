@@ -2,7 +2,6 @@
 use mathlib.Core.Path.{_≡_}
 use mathlib.Core.List.{List}
 use Prim.Native.Nat.{ℕ, _+_, _≤_}
-use lib.ListN.{length}
 use lib.Dec.{leb}
 use Rattle.refusal.specs.Outcome.{Outcome, accepted, bind, test, map, contents, Reason, reason, row}
 use Rattle.packed.specs.Packed.{room, put}

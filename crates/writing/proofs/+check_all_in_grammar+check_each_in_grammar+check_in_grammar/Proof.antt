@@ -5,17 +5,16 @@ use mathlib.Core.Bool.{false}
 use Prim.Native.Nat.{_+_, _-_, _*_, _≤_}
 use native.Mathlib.Nat.{sub-zero, add-zero}
 use native.Mathlib.Omega.{arith}
-use Rattle.value.specs.Tree.{G, Gs, Vals}
+use Rattle.value.specs.Tree.{Vals}
 use Rattle.refusal.specs.Outcome.{Outcome, Reason}
 use Rattle.refusal.specs.declared.Answer.the-variants.{Accepted}
 use Rattle.grammar.specs.Table.{kindWord, firstWord, countWord, childWord}
 use Rattle.grammar.specs.Tree.{treeOf, childTrees}
-use Rattle.grammar.proofs.Rule.{node-inside, child-inside}
-use Rattle.grammar.proofs.Tree.{trees-length, trees-at}
+use Rattle.grammar.proofs.Rule.{node-inside}
 use Rattle.rows.specs.Row.{rowAt}
 use Rattle.writing.specs.InGrammar.{kindNumber, checkAllInGrammar, checkEachInGrammar}
-use Rattle.writing.specs.Checks.{Standing, StandingAll, Checks, ChecksAll, ChildInside}
-use Rattle.writing.proofs.Walk.{tree-kind, tree-element, tree-fields, field-count, case-count, tree-case, one-child, child-fits, child-above, not-named, isParent, arm-other, arm-leaf, arm-array, arm-count, arm-tuple, arm-tag, arm-case, row-inside, elements-stand, fields-stand, case-stands, first-stands, others-stand, next-inside, Left, left-all, left-none, left-stopped, left-next, all-step, each-step, none-step, none-each}
+use Rattle.writing.specs.Checks.{StandingAll, Checks}
+use Rattle.writing.proofs.Walk.{tree-kind, tree-element, tuple-parts, union-parts, tree-parts, part-count, tree-case, one-child, child-fits, child-above, not-named, isParent, arm-other, arm-leaf, arm-array, arm-count, arm-tuple, arm-tag, arm-case, row-inside, elements-stand, fields-stand, case-stands, first-stands, others-stand, next-inside, Left, left-all, left-none, left-stopped, left-next, all-step, each-step, none-step, none-each}
 use borrow.Author.Needs.{needs}
 use Prim.Native.Nat.{ℕ, _<_}
 use borrow.Fn.Kinds.{In}
@@ -468,7 +467,7 @@ check-in-grammar-returns-2 t c =
     let g = a .grammar .now in
     let q = c .before .before .before in
     let k = c .before .before .match .keys5 in
-    λ s v h. c .not-in-grammar2 .ensures ∙ arm-count (a .rows .now) s (a .row) (treeOf g (a .node)) v h (row-kind t q k) (λ e. c .before .if2 .taken (omega (arith, e, c .before .before .before .before .before .before .word2-at .ensures, c .before .before .before .before .before .word .ensures, field-count g (p .0) (a .node) (p .1) (node-word t q k))))
+    λ s v h. c .not-in-grammar2 .ensures ∙ arm-count (a .rows .now) s (a .row) (treeOf g (a .node)) v h (row-kind t q k) (λ e. c .before .if2 .taken (omega (arith, e, c .before .before .before .before .before .before .word2-at .ensures, c .before .before .before .before .before .word .ensures, part-count g (p .0) (a .node) (p .1) tuple-parts (node-word t q k))))
 
 check-in-grammar-add-check-each-in-grammar :
     (t : ℕ) → check-in-grammar-lts.Need-add-check-each-in-grammar (check-in-grammar-calls t) (check-in-grammar-at t) check-in-grammar.Post
@@ -496,7 +495,7 @@ check-in-grammar-returns-3 t c =
     let g = a .grammar .now in
     let q = c .before .before .before in
     let k = c .before .before .match .keys9 in
-    λ s v h. c .not-in-grammar3 .ensures ∙ arm-tag (a .rows .now) s (a .row) (treeOf g (a .node)) v h (row-kind t q k) (tree-is t q k) (omega (arith, c .before .before .before .before .before .before .word2-at .ensures, c .before .before .before .before .before .word .ensures, case-count g (p .0) (a .node) (p .1) (node-word t q k)))
+    λ s v h. c .not-in-grammar3 .ensures ∙ arm-tag (a .rows .now) s (a .row) (treeOf g (a .node)) v h (row-kind t q k) (tree-is t q k) (omega (arith, c .before .before .before .before .before .before .word2-at .ensures, c .before .before .before .before .before .word .ensures, part-count g (p .0) (a .node) (p .1) union-parts (node-word t q k)))
 
 check-in-grammar-add-check-in-grammar : (t : ℕ) → check-in-grammar-lts.Need-add-check-in-grammar (check-in-grammar-calls t) (check-in-grammar-at t) check-in-grammar.Post
 check-in-grammar-add-check-in-grammar t c = search needs
@@ -550,7 +549,7 @@ check-in-grammar-returns-8 t c =
     let k = c .before .before .match .keys5 in
     let e : rowAt (a .rows .now) (a .row) .word2 ≡ countWord g (a .node) = omega (arith, c .before .before .before .before .before .before .word2-at .ensures, c .before .before .before .before .before .word .ensures) in
     let n = node-word t q k in
-    λ s v h. arm-tuple (a .rows .now) s (a .row) (treeOf g (a .node)) v h (row-kind t q k) (tree-is t q k) e (field-count g (p .0) (a .node) (p .1) n) (tree-fields g (p .0) (a .node) (p .1) n) (c .check-each-in-grammar .result) (c .check-each-in-grammar .ensures)
+    λ s v h. arm-tuple (a .rows .now) s (a .row) (treeOf g (a .node)) v h (row-kind t q k) (tree-is t q k) e (part-count g (p .0) (a .node) (p .1) tuple-parts n) (tree-parts g (p .0) (a .node) (p .1) tuple-parts n) (c .check-each-in-grammar .result) (c .check-each-in-grammar .ensures)
 
 check-in-grammar-returns-9 : (t : ℕ) → check-in-grammar-lts.Need-returns-9 (check-in-grammar-calls t) (check-in-grammar-at t) check-in-grammar.Post
 check-in-grammar-returns-9 t c = leaf t (c .before) (c .match .keys6) refl
@@ -571,7 +570,7 @@ check-in-grammar-returns-12 t c =
     let l : rowAt (a .rows .now) (a .row) .word2 < countWord g (a .node) = omega (arith, c .before .before .before .before .before .before .before .word2-at .ensures, c .before .before .before .before .before .before .word .ensures) in
     let n = node-word t q k in
     let e = tree-case g (p .0) (a .node) (p .1) n (rowAt (a .rows .now) (a .row) .word2) l ∙ ap (λ (m : ℕ). treeOf g (childWord g (firstWord g (a .node) + m))) (sym (c .before .before .before .before .before .before .before .word2-at .ensures)) ∙ ap (treeOf g) (sym (c .before .child-at2 .ensures)) in
-    λ s v h. arm-case (a .rows .now) s (a .row) (treeOf g (a .node)) v h (row-kind t q k) (tree-is t q k) (omega (arith, l, case-count g (p .0) (a .node) (p .1) n)) e (c .check-in-grammar .result) (c .check-in-grammar .ensures)
+    λ s v h. arm-case (a .rows .now) s (a .row) (treeOf g (a .node)) v h (row-kind t q k) (tree-is t q k) (omega (arith, l, part-count g (p .0) (a .node) (p .1) union-parts n)) e (c .check-in-grammar .result) (c .check-in-grammar .ensures)
 
 check-in-grammar-returns-13 : (t : ℕ) → check-in-grammar-lts.Need-returns-13 (check-in-grammar-calls t) (check-in-grammar-at t) check-in-grammar.Post
 check-in-grammar-returns-13 t c =

@@ -1,5 +1,4 @@
 use mathlib.Core.Path.{ap, sym, _∙_}
-use native.Mathlib.Omega.{arith}
 use borrow.Author.Tests.{le-leb, lt-leb}
 use Rattle.refusal.specs.Outcome.{refused}
 use Rattle.refusal.proofs.Outcome.{test-true, test-false}

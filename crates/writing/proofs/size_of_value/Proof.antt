@@ -1,5 +1,4 @@
 use mathlib.Core.Path.{_≡_, sym, _∙_}
-use native.Mathlib.Omega.{arith}
 use Rattle.refusal.proofs.Meaning.{done, stopped}
 use Rattle.refusal.specs.Outcome.{accepted}
 use Rattle.grammar.specs.Check.{checkGrammar}

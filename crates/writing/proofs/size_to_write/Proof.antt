@@ -1,5 +1,3 @@
-use mathlib.Core.Path.{ap, sym, _∙_}
-use Prim.Native.Nat.{_*_}
 use Rattle.refusal.specs.Outcome.{accepted, refused}
 use Rattle.refusal.proofs.Meaning.{done, stopped}
 use Rattle.writing.proofs.Writing.{sized, size-refused, write-refused, write-room}
