@@ -59,14 +59,14 @@ pub fn run(report: &mut Report) {
 }
 
 /// Prints the times per row of a call on records of so many rows: the library's, also without what
-/// a record of one row takes, and safe Rust's.
+/// a record of one row takes, which has the limit, and safe Rust's.
 fn per_row(report: &mut Report, name: &str, call: impl Fn(usize) -> Times) {
     let one_row = call(1).library;
     let times = ROW_COUNTS.map(|rows| (rows as f64, call(rows)));
     let library = times.map(|(rows, times)| times.library / rows);
     let further = times.map(|(rows, times)| (times.library - one_row) / (rows - 1.0));
     let rust = times.map(|(rows, times)| times.other / rows);
-    report.per_row(&format!("{name}, library"), &library, Some(SPREAD));
+    report.per_row(&format!("{name}, library"), &library, None);
     report.per_row(
         &format!("{name}, library, behind the first row"),
         &further,
