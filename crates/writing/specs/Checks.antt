@@ -1,4 +1,4 @@
--- The contracts of the second walk, which goes over rows that stand for a value. They hold of every value and store for which they do.
+-- The contracts of the second walk: over rows that stand for a value, its answer is what `checkInGrammar` says of that value.
 use mathlib.Core.Path.{_≡_}
 use mathlib.Core.List.{List}
 use Prim.Native.Nat.{ℕ, _+_, _*_, _≤_, _<_}
@@ -12,7 +12,7 @@ use Rattle.rows.specs.Row.{rowWidth}
 use Rattle.rows.specs.Rule.{StandFor, StandForAll}
 use Rattle.writing.specs.InGrammar.{checkInGrammar}
 
--- the rows from row i on, all in the table, stand for a value
+-- the rows from row i on, all in the table, stand for a value, with some store
 pub record Standing (t : List ℕ) (i : ℕ) : Type 0 where
   pub store : List ℕ
   pub value : Val
@@ -27,11 +27,11 @@ pub record StandingAll (t : List ℕ) (count i : ℕ) : Type 0 where
   pub many : length (seqV values) ≡ count
   pub within : rowWidth * (i + rowCounts values) ≤ length t
 
--- the answer for the value whose own row is row i
+-- r is the answer for the value whose own row is row i, whichever value and store that is
 abbrev pub Checks : List ℕ → ℕ → G → Answer → Type 0
 Checks t i g r = (s : List ℕ) (v : Val) → StandFor t s i v → outcomeOf r ≡ checkInGrammar v g i
 
--- the answer for so many values from row i on, which `check` decides
+-- r is the answer for so many values from row i on, where `check` says what it is to be
 abbrev pub ChecksAll : List ℕ → ℕ → ℕ → (Vals → Outcome Reason (Unit {0})) → Answer → Type 0
 ChecksAll t count i check r = (s : List ℕ) (vs : Vals) → StandForAll t s i vs → length (seqV vs) ≡ count → outcomeOf r ≡ check vs
 

@@ -55,6 +55,7 @@ fn word3_at(rows: &[u64], row: usize) -> u64
     rows[ROW_WIDTH * row + 3]
 }
 
+// A grammar word as an index or a count.
 fn wide(x: u32) -> usize
     ensures { λ r. ⌜ r ≡ x ⌝ }
 {
@@ -239,6 +240,18 @@ fn put_rows(rows: &[u64], n: usize, store: &[u8], out: &mut [u8], index: usize)
         i += 1;
     }
 }
+
+// Refusal 16.
+fn check_size(size: u64) -> SizeOf
+    ensures { λ r. ⌜ sizeOf r ≡ test (leb size 1048576) (reason 16 (atRow 0)) (λ _. accepted size) ⌝ }
+{
+    if MOST_BYTES < size {
+        SizeOf::Refused(refusal::at_row(refusal::SIZE_TOO_LARGE, 0))
+    } else {
+        SizeOf::Size(size)
+    }
+}
+
 // GM's `ComputeSizeOf` of a value that may be written: 1 to 6, 12 to 14, 15, then 16.
 fn size_of_value(grammar: &[u32], rows: &[u64], n: usize, store: &[u8]) -> SizeOf
     ensures { λ r. ⌜ sizeOf r ≡ map SizeOfV (valueOf (now (grammar .entry)) (now (rows .entry)) n (now (store .entry))) ⌝ }
@@ -252,16 +265,6 @@ fn size_of_value(grammar: &[u32], rows: &[u64], n: usize, store: &[u8]) -> SizeO
                 Answer::Accepted => check_size(size),
             },
         },
-    }
-}
-
-fn check_size(size: u64) -> SizeOf
-    ensures { λ r. ⌜ sizeOf r ≡ test (leb size 1048576) (reason 16 (atRow 0)) (λ _. accepted size) ⌝ }
-{
-    if MOST_BYTES < size {
-        SizeOf::Refused(refusal::at_row(refusal::SIZE_TOO_LARGE, 0))
-    } else {
-        SizeOf::Size(size)
     }
 }
 
