@@ -7,7 +7,7 @@ use native.Mathlib.Omega.{arith}
 use lib.ListN.{length}
 use lib.Dec.{leb, ltb, eqb}
 use borrow.Author.Tests.{eqb-true}
-use Rattle.refusal.specs.Outcome.{Outcome, accepted, refused, bind, test, map, contents, Reason}
+use Rattle.refusal.specs.Outcome.{Outcome, accepted, refused, bind, test, map, contents, byte, Reason, reason}
 use Rattle.refusal.proofs.Outcome.{Post, holds, fails, post-bind, post-test, post-weaken, post-refused}
 use Rattle.refusal.proofs.Tests.{and-true}
 use Rattle.packed.specs.Packed.{present, unpackAt, unpackSeqAt, room, put, putAt}
@@ -28,9 +28,11 @@ use Rattle.reading.specs.Calls.{capacityOf, withoutState, guarded, parseValOf, 
 use Rattle.writing.specs.InGrammar.{checkInGrammar}
 use Rattle.writing.proofs.InGrammar.{in-grammar-refused}
 use Rattle.writing.specs.Marshall.{valueOf, marshallValOf}
-use Rattle.route.specs.Demands.{InTable, grammarStart, grammarLength, nodeKind, nodeRule, child, byteSlice, indexAbove, noRow, bytesMissing, tagAbove, recordEnd, rowTable, rowBroken, outsideStore, notInGrammar, sizeAbove, outputShort, notAnArray, numberOf, among, grammarNumbers, packerNumbers, unpackerNumbers, rowNumbers, locatorNumbers, readingNumbers, wholeNumbers, rewritingNumbers, writingNumbers, Refuses, Demand1}
+use Rattle.route.specs.Demands.{InTable, grammarStart, grammarLength, nodeKind, nodeRule, child, byteSlice, indexAbove, noRow, bytesMissing, tagAbove, recordEnd, rowTable, rowBroken, outsideStore, notInGrammar, sizeAbove, outputShort, notAnArray, numberOf, among, grammarNumbers, packerNumbers, unpackerNumbers, rowNumbers, locatorNumbers, readingNumbers, wholeNumbers, rewritingNumbers, recordNumbers, writingNumbers, Refuses, RefusedBy, Demand1}
 use Rattle.route.specs.Rewriting.{rewriteOf}
-use Rattle.route.proofs.Answers.{one-answer, one-unpackedU32, one-unpackedU64, one-sizeOf, one-located, one-parsedOf}
+use Rattle.route.specs.SameRoute.{NamedReason, ofGrammar, ofFirst, ofSecond, sameRouteOf, naming, readBoth}
+use Rattle.route.proofs.Answers.{one-answer, one-unpackedU32, one-unpackedU64, one-sizeOf, one-located, one-parsedOf, one-sameRoute}
+use Rattle.route.proofs.Comparing.{compares-one}
 use Rattle.route.proofs.Outcome.{map-refused}
 use Rattle.route.proofs.Reading.{rows-kept}
 
@@ -210,12 +212,16 @@ module _ (capacity : ℕ) (d : List ℕ) where
   unfolding readWhole
   whole-only g = only-bind _ (value-only endNumbers refl g (start 0)) (λ t. only-test (eqb (t .state .at) (length d)) _ _ (recordEnd (t .state .at), refl) (gives _))
 
-guarded-only : (ms ns : List ℕ) → allAmong guardNumbers ns ≡ true → allAmong ms ns ≡ true → (g d : List ℕ) (x : Unit {0} → Reading Val) → Only (Stopped ms) (x tt) → Only (Named ns) (guarded g d x)
-guarded-only ms ns h i g d x o = only-bind _ (only-more guardNumbers ns h (only-more grammarNumbers guardNumbers refl (grammar-only g))) (λ _. only-test (leb (length d) 1048576) _ _ (byteSlice, among-more guardNumbers ns h 6 refl) (only-more ms ns i (go (x tt) o)))
+-- behind the grammar's check
+behind-only : (ms ns : List ℕ) → among ns 6 ≡ true → allAmong ms ns ≡ true → (d : List ℕ) (x : Unit {0} → Reading Val) → Only (Stopped ms) (x tt) → Only (Named ns) (test (leb (length d) 1048576) (reason 6 (byte 0)) (λ _. withoutState (x tt)))
+behind-only ms ns h i d x o = only-test (leb (length d) 1048576) _ _ (byteSlice, h) (only-more ms ns i (go (x tt) o))
   where
     go : (y : Reading Val) → Only (Stopped ms) y → Only (Named ms) (withoutState y)
     go (accepted t) p = gives t
     go (refused e) p = fails (e .why) (post-refused p)
+
+guarded-only : (ms ns : List ℕ) → allAmong guardNumbers ns ≡ true → allAmong ms ns ≡ true → (g d : List ℕ) (x : Unit {0} → Reading Val) → Only (Stopped ms) (x tt) → Only (Named ns) (guarded g d x)
+guarded-only ms ns h i g d x o = only-bind _ (only-more guardNumbers ns h (only-more grammarNumbers guardNumbers refl (grammar-only g))) (λ _. behind-only ms ns (among-more guardNumbers ns h 6 refl) i d x o)
 
 parse-only : (g d : List ℕ) (index capacity : ℕ) → Only (Named readingNumbers) (parseValOf g d index capacity)
 unfolding parseValOf
@@ -228,6 +234,27 @@ demarshall-only g d capacity = guarded-only endNumbers wholeNumbers refl refl g 
 rewrite-only : (g d : List ℕ) (capacity len index : ℕ) → Only (Named rewritingNumbers) (rewriteOf g d capacity len index)
 unfolding rewriteOf
 rewrite-only g d capacity len index = only-bind _ (only-more packerNumbers rewritingNumbers refl (room-only len index (length d))) (λ _. only-more wholeNumbers rewritingNumbers refl (demarshall-only g d capacity))
+
+-- ---- two records
+
+known : {E A : Type 0} {Q : E → Type 0} {x : Outcome E A} → Only Q x → Post (λ a. x ≡ accepted a) Q x
+known (holds a p) = holds a refl
+known (fails e q) = fails e q
+
+naming-post : {A : Type 0} {P : A → Type 0} {Q : Reason → Type 0} {R : NamedReason → Type 0} (name : Reason → NamedReason) → ((e : Reason) → Q e → R (name e)) → {x : Outcome Reason A} → Post P Q x → Post P R (naming name x)
+naming-post name f (holds a p) = holds a p
+naming-post name f (fails e q) = fails (name e) (f e q)
+
+record-only : (g d : List ℕ) → checkGrammar g ≡ accepted tt → Only (Named recordNumbers) (demarshallOf g d 4096)
+unfolding demarshallOf
+record-only g d h = rw h (behind-only endNumbers recordNumbers refl refl d (λ _. readWhole 4096 d (treeOf g 0)) (whole-only 4096 d (treeOf g 0)))
+
+both-only : (g first second : List ℕ) → Only RefusedBy (readBoth g first second)
+unfolding readBoth
+both-only g first second =
+    post-bind _ (naming-post ofGrammar (λ e q. q) (known (grammar-only g)))
+    (λ u h. only-bind _ (naming-post ofFirst (λ e q. q) (record-only g first h))
+    (λ t. only-map _ (naming-post ofSecond (λ e q. q) (record-only g second h))))
 
 -- ---- writing
 
@@ -254,6 +281,7 @@ demand1 = record {
   size = one-sizeOf;
   array = one-located;
   counts = one-parsedOf;
+  route = one-sameRoute;
   grammar = λ g. refuses grammarNumbers (checkGrammar g) (grammar-only g);
   room = λ len index size. refuses packerNumbers (room len index size) (room-only len index size);
   packers = λ out index bs. refuses packerNumbers (putAt out index bs) (only-map _ (room-only _ index _));
@@ -266,6 +294,10 @@ demand1 = record {
   wholeReading = λ g d capacity. refuses wholeNumbers (demarshallOf g d capacity) (demarshall-only g d capacity);
   writing = λ g t n s len index. refuses writingNumbers (marshallValOf g t n s len index) (marshall-only g t n s len index);
   rewriting = λ g d capacity len index. refuses rewritingNumbers (rewriteOf g d capacity len index) (rewrite-only g d capacity len index);
+  routes = λ g first second e q. post-refused (rw q at (both-only g first second));
+  oneRoute = λ g first second r q a b.
+      let x = one-sameRoute (sameRouteOf q) in
+      x .2 r (compares-one g first second (sameRouteOf r) (sameRouteOf q) a b) ∙ sym (x .2 q refl);
   fillsNothing = λ o a entry exit h e q. h .buffer ∙ ap (λ (x : Outcome Reason (List ℕ)). contents x entry) (map-refused (λ _. tt) o (sym (h .answers) ∙ q));
   parsesNothing = λ o index r entry exit h e q. rows-kept h (map-refused countsOf o (sym (h .answers) ∙ q));
   marshallsNothing = λ o index w entry exit h e q. h .output ∙ ap (λ (x : Outcome Reason Val). contents (map (λ v. put entry index (bytesOf v)) x) entry) (map-refused SizeOfV o (sym (h .answers) ∙ q));

@@ -3,6 +3,7 @@ pub mod Answers
 pub mod Put
 pub mod Reading
 pub mod Writing
+pub mod Comparing
 pub mod Examples
 pub mod Demand1
 pub mod Demand2

@@ -32,14 +32,16 @@ use Rattle.reading.specs.Calls.{capacityOf, parseValOf, demarshallOf, Parses}
 use Rattle.reading.specs.declared.Parsed.{Parsed}
 use Rattle.writing.specs.Marshall.{marshallValOf, Marshalls}
 use Rattle.route.specs.Rewriting.{rewriteOf, Rewrites}
+use Rattle.route.specs.SameRoute.{NamedReason, ofGrammar, ofFirst, ofSecond, sameRouteOf, readBoth, Compares}
+use Rattle.route.specs.declared.SameRoute.{SameRoute}
 
 -- ==== Demand 1. "Every call is defined on every input: no grammar, record, row table or index is assumed sound, each call comes to an end"
 
 -- That nothing is assumed and that each call ends is in the text of the calls: no public one has a `requires`, and each is proved to end. Its
 -- contract equates answer and buffers with an outcome that is defined on all lists and numbers; and every outcome has one answer that means
 -- it, so a contract can be met and leaves nothing to the program
-abbrev pub OneAnswer : {R A : Type 0} → (R → Outcome Reason A) → Type 0
-OneAnswer {R} {A} meaning = (o : Outcome Reason A) → (r : R) × (meaning r ≡ o) × ((q : R) → meaning q ≡ o → q ≡ r)
+abbrev pub OneAnswer : {R E A : Type 0} → (R → Outcome E A) → Type 0
+OneAnswer {R} {E} {A} meaning = (o : Outcome E A) → (r : R) × (meaning r ≡ o) × ((q : R) → meaning q ≡ o → q ≡ r)
 
 -- "a refusal names its number and place": the rows of document 01's table, but for 19, which only the program gives
 pub data InTable : Reason → Type 0 where
@@ -96,6 +98,10 @@ wholeNumbers = 1 ∷ 2 ∷ 3 ∷ 4 ∷ 5 ∷ 6 ∷ 8 ∷ 9 ∷ 10 ∷ 11 ∷ []
 abbrev pub rewritingNumbers : List ℕ
 rewritingNumbers = 17 ∷ wholeNumbers
 
+-- of a record under a grammar that passes
+abbrev pub recordNumbers : List ℕ
+recordNumbers = 6 ∷ 8 ∷ 9 ∷ 10 ∷ 11 ∷ []
+
 abbrev pub writingNumbers : List ℕ
 writingNumbers = 1 ∷ 2 ∷ 3 ∷ 4 ∷ 5 ∷ 6 ∷ 12 ∷ 13 ∷ 14 ∷ 15 ∷ 16 ∷ 17 ∷ []
 
@@ -103,6 +109,12 @@ writingNumbers = 1 ∷ 2 ∷ 3 ∷ 4 ∷ 5 ∷ 6 ∷ 12 ∷ 13 ∷ 14 ∷ 15 ∷
 -- the answer: one that never refuses, or always, is another definition
 abbrev pub Refuses : {A : Type 0} → List ℕ → Outcome Reason A → Type 0
 Refuses numbers o = (e : Reason) → o ≡ refused e → InTable e × (among numbers (numberOf e) ≡ true)
+
+-- `same_route`: a refusal of the grammar, which names neither record, or of the record that it names
+abbrev pub RefusedBy : NamedReason → Type 0
+RefusedBy (ofGrammar e) = InTable e × (among grammarNumbers (numberOf e) ≡ true)
+RefusedBy (ofFirst e) = InTable e × (among recordNumbers (numberOf e) ≡ true)
+RefusedBy (ofSecond e) = InTable e × (among recordNumbers (numberOf e) ≡ true)
 
 -- A check's answer is a function of the outcome that is named here, so its refusals are these
 pub record Demand1 : Type 0 where
@@ -113,6 +125,7 @@ pub record Demand1 : Type 0 where
   pub size : OneAnswer sizeOf
   pub array : OneAnswer located
   pub counts : OneAnswer parsedOf
+  pub route : OneAnswer sameRouteOf
   -- `check_grammar`
   pub grammar : (g : List ℕ) → Refuses grammarNumbers (checkGrammar g)
   -- `room` of `packed`
@@ -136,6 +149,9 @@ pub record Demand1 : Type 0 where
   pub writing : (g t : List ℕ) (n : ℕ) (s : List ℕ) (len index : ℕ) → Refuses writingNumbers (marshallValOf g t n s len index)
   -- `rewrite`
   pub rewriting : (g d : List ℕ) (capacity len index : ℕ) → Refuses rewritingNumbers (rewriteOf g d capacity len index)
+  -- `same_route`, whose contract allows one answer
+  pub routes : (g first second : List ℕ) (e : NamedReason) → readBoth g first second ≡ refused e → RefusedBy e
+  pub oneRoute : (g first second : List ℕ) (r q : SameRoute) → Compares g first second (sameRouteOf r) → Compares g first second (sameRouteOf q) → r ≡ q
   -- "and a refusal alters no buffer lent to the call": a slice of numbers or bytes, rows, the output
   pub fillsNothing : (o : Outcome Reason (List ℕ)) (a : Outcome Reason (Unit {0})) (entry exit : List ℕ) → Fills o a entry exit → (e : Reason) → a ≡ refused e → exit ≡ entry
   pub parsesNothing : (o : Outcome Reason (Step State Val)) (index : ℕ) (r : Parsed) (entry exit : List ℕ) → Parses o index r entry exit → (e : Reason) → parsedOf r ≡ refused e → exit ≡ entry

@@ -1,2 +1,3 @@
 pub mod Rewriting
+pub mod SameRoute
 pub mod Demands

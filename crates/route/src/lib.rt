@@ -1,8 +1,23 @@
-// The demands: statements in specs/, their proofs in proofs/. And a call that reads a record and writes it again.
+// The demands: statements in specs/, their proofs in proofs/. And calls made of the others: a record read and written again, and two
+// records compared.
+ghost use mathlib.Core.Path.{_≡_};
+ghost use mathlib.Core.Bool.{true};
+ghost use mathlib.Core.Logic.{_↔_};
 ghost use Rattle.route.specs.Rewriting.{Rewrites};
+ghost use Rattle.route.specs.SameRoute.{sameRouteOf, Compares};
 use reading::Parsed;
 use refusal::Answer;
+use refusal::Refusal;
 use rows::SizeOf;
+
+// The answer of `same_route`: yes, no, or the refusal of the grammar, of the first record or of the second.
+pub enum SameRoute {
+    Yes,
+    No,
+    Grammar(Refusal),
+    First(Refusal),
+    Second(Refusal),
+}
 
 // Reads a record whole and writes it again, at an index of the output, from the rows handed out: demand 3 of code.
 pub fn rewrite(
@@ -21,6 +36,44 @@ pub fn rewrite(
             Parsed::Value { rows: n, .. } => {
                 writing::marshall_val(grammar, rows, n, record, out, index)
             }
+        },
+    }
+}
+
+fn same_bytes(a: &[u8], b: &[u8]) -> bool
+    ensures { λ r. ⌜ (now (a .entry) ≡ now (b .entry)) ↔ (r ≡ true) ⌝ }
+{
+    if a.len() != b.len() {
+        return false;
+    }
+    let mut i: usize = 0;
+    while i < a.len() {
+        if a[i] != b[i] {
+            return false;
+        }
+        i += 1;
+    }
+    true
+}
+
+// Whether two records under one grammar have equal values. A record is the bytes of its value, so the bytes are compared.
+pub fn same_route(grammar: &[u32], first: &[u8], second: &[u8]) -> SameRoute
+    ensures { λ r. ⌜ Compares (now (grammar .entry)) (now (first .entry)) (now (second .entry)) (sameRouteOf r) ⌝ }
+{
+    match grammar::check_grammar(grammar) {
+        Answer::Refused(r) => SameRoute::Grammar(r),
+        Answer::Accepted => match reading::check_whole(grammar, first) {
+            Parsed::Refused(r) => SameRoute::First(r),
+            Parsed::Value { .. } => match reading::check_whole(grammar, second) {
+                Parsed::Refused(r) => SameRoute::Second(r),
+                Parsed::Value { .. } => {
+                    if same_bytes(first, second) {
+                        SameRoute::Yes
+                    } else {
+                        SameRoute::No
+                    }
+                }
+            },
         },
     }
 }
