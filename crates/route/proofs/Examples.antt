@@ -10,7 +10,7 @@ use borrow.Author.Tests.{ltb-true}
 use Rattle.refusal.proofs.Tests.{and-true}
 use Rattle.packed.specs.Packed.{Bytes, Below, unpackLittleEndian, unpackLittleEndianSeq, packLittleEndian, packLittleEndianSeq, put}
 use Rattle.value.specs.Kinds.{kinds, kindOf}
-use Rattle.value.specs.Tree.{GConstant, Val, Vals, VConstant, VArray, VTuple, VUint32, VByteArray, vnil, vcons, seqV, AllInGrammar, inConstant, inNumber, inArray, inTuple, inNumberArray, allNil, allCons, eachNil, eachCons, CountsBelow, CountsBelowAll, TypedVal, TypedVals, SizeOfV, rowCount, rowCounts}
+use Rattle.value.specs.Tree.{GConstant, Vals, VConstant, VArray, VUint32, vnil, vcons, seqV, AllInGrammar, inConstant, inNumber, inArray, inTuple, inNumberArray, allNil, allCons, eachNil, eachCons, CountsBelow, CountsBelowAll, TypedVal, TypedVals, SizeOfV, rowCount, rowCounts}
 use Rattle.value.specs.Bytes.{bytesOf}
 use Rattle.value.specs.Reading.{claim, takeNumber, takeNumbers, readBody, readWhole}
 use Rattle.value.proofs.Laws.{bytesOf-bytes}
@@ -20,6 +20,7 @@ use Rattle.rows.specs.Layout.{ownRow, rowsOf}
 use Rattle.reading.specs.Calls.{capacityOf, demarshallOf}
 use Rattle.reading.specs.declared.Parsed.the-variants as P
 use Rattle.route.specs.Demands.{Grammar, ValueOfGrammar, RecordOf, WholeReading}
+use Rattle.route.specs.Bench.{grammarA, recordA, valueA, grammarC}
 
 -- a list whose elements are tested one by one
 abbrev allBelow : ℕ → List ℕ → Bool
@@ -32,15 +33,6 @@ all-below b (n ∷ ns) h zero l = ltb-true n b (and-true (ltb n b) (allBelow b n
 all-below b (n ∷ ns) h (suc j) l = all-below b ns (and-true (ltb n b) (allBelow b ns) h .1) j (omega arith)
 
 -- ---- case A of document 01: its record is the bytes of a value, and there is a reading of it
-
-abbrev grammarA : List ℕ
-grammarA = 3 ∷ 4 ∷ 0 ∷ 2 ∷ 1 ∷ 0 ∷ 0 ∷ 5 ∷ 0 ∷ 0 ∷ 2 ∷ 1 ∷ 2 ∷ []
-
-abbrev recordA : List ℕ
-recordA = 7 ∷ 0 ∷ 0 ∷ 0 ∷ 2 ∷ 0 ∷ 0 ∷ 0 ∷ 0 ∷ 0 ∷ 0 ∷ 0 ∷ 65 ∷ 66 ∷ []
-
-abbrev valueA : Val
-valueA = VTuple (vcons (VUint32 7) (vcons (VByteArray (65 ∷ 66 ∷ [])) vnil))
 
 -- 3 rows and one word more are lent
 abbrev lentA : List ℕ
@@ -74,9 +66,6 @@ reading-A = record {
 }
 
 -- ---- an array of constants: the record has 8 bytes, and its rows are one more than are ever lent
-
-abbrev grammarC : List ℕ
-grammarC = 2 ∷ 3 ∷ 0 ∷ 1 ∷ 0 ∷ 0 ∷ 0 ∷ 1 ∷ 1 ∷ []
 
 unfoldable pub constants : ℕ → Vals
 constants zero = vnil

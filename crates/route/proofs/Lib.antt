@@ -4,6 +4,7 @@ pub mod Put
 pub mod Reading
 pub mod Writing
 pub mod Comparing
+pub mod Bench
 pub mod Examples
 pub mod Demand1
 pub mod Demand2

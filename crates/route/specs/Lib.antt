@@ -1,3 +1,4 @@
 pub mod Rewriting
 pub mod SameRoute
 pub mod Demands
+pub mod Bench

@@ -1,0 +1,16 @@
+-- Document 01's bench examples, by computation.
+use mathlib.Core.Path.{refl}
+use Rattle.packed.specs.Packed.{unpackLittleEndian, unpackLittleEndianSeq}
+use Rattle.value.specs.Kinds.{kinds, kindOf}
+use Rattle.value.specs.Tree.{SizeOfV, rowCount}
+use Rattle.value.specs.Step.{elements}
+use Rattle.value.specs.Reading.{claim, takeNumber, takeNumbers, readBody, readWhole}
+use Rattle.grammar.specs.Check.{checkLayout, checkNode, checkChildren, checkNodes, checkGrammar}
+use Rattle.grammar.specs.Tree.{nodeTree, childTrees, treeTo, treeOf}
+use Rattle.rows.specs.Layout.{ownRow, rowsOf}
+use Rattle.reading.specs.Calls.{demarshallOf}
+use Rattle.route.specs.Bench.{constantNodes, BenchHolds}
+
+pub bench-holds : BenchHolds
+unfolding demarshallOf checkGrammar checkLayout checkNodes checkNode checkChildren treeOf treeTo nodeTree childTrees kindOf kinds readWhole claim takeNumber takeNumbers readBody elements unpackLittleEndian unpackLittleEndianSeq rowsOf ownRow rowCount SizeOfV constantNodes
+bench-holds = refl

@@ -1,0 +1,120 @@
+-- Document 01's bench examples A to F, all their cases, as one list: a call with its inputs, and what the paper expects of it.
+use mathlib.Core.Path.{_≡_}
+use mathlib.Core.List.{List, [], _∷_, map}
+use Prim.Native.Nat.{ℕ, zero, suc}
+use Rattle.refusal.specs.Outcome.{Outcome, accepted, refused, Location, word, byte, Reason, reason}
+use Rattle.value.specs.Tree.{Val, VConstant, VArray, VTuple, VUint32, VByteArray, VUint32Array, vnil, vcons}
+use Rattle.value.specs.Step.{Step}
+use Rattle.value.specs.Reading.{State}
+use Rattle.grammar.specs.Check.{checkGrammar}
+use Rattle.rows.specs.Layout.{rowsOf}
+use Rattle.reading.specs.Calls.{demarshallOf}
+
+-- the calls of the examples
+pub data Call : Type 0 where
+  -- the grammar check
+  check : (grammar : List ℕ) → Call
+  -- the whole reading; the capacity is 4,096 where the paper names none
+  read : (grammar bytes : List ℕ) (capacity : ℕ) → Call
+
+-- what they answer, in the paper's values
+pub data Result : Type 0 where
+  passes : Result
+  -- the row count, the words of the rows, four to a row, and the value that they stand for
+  handsOut : (n : ℕ) (words : List ℕ) (value : Val) → Result
+  refuses : (number : ℕ) (place : Location) → Result
+
+-- by the definitions that the contracts of `check_grammar` and `demarshall` cite
+abbrev pub checked : Outcome Reason (Unit {0}) → Result
+checked (accepted u) = passes
+checked (refused (reason number place)) = refuses number place
+
+abbrev pub handed : Outcome Reason (Step State Val) → Result
+handed (accepted t) = handsOut (t .state .begun) (rowsOf (t .value) 0) (t .value)
+handed (refused (reason number place)) = refuses number place
+
+abbrev pub resultOf : Call → Result
+resultOf (check grammar) = checked (checkGrammar grammar)
+resultOf (read grammar bytes capacity) = handed (demarshallOf grammar bytes capacity)
+
+-- the paper's letters
+pub data Letter : Type 0 where
+  A : Letter
+  B : Letter
+  C : Letter
+  D : Letter
+  E : Letter
+  F : Letter
+
+pub record Example : Type 0 where
+  pub letter : Letter
+  pub call : Call
+  pub expected : Result
+
+-- a tuple of a uint32 and a byte array
+abbrev pub grammarA : List ℕ
+grammarA = 3 ∷ 4 ∷ 0 ∷ 2 ∷ 1 ∷ 0 ∷ 0 ∷ 5 ∷ 0 ∷ 0 ∷ 2 ∷ 1 ∷ 2 ∷ []
+
+abbrev pub recordA : List ℕ
+recordA = 0x07 ∷ 0 ∷ 0 ∷ 0 ∷ 0x02 ∷ 0 ∷ 0 ∷ 0 ∷ 0 ∷ 0 ∷ 0 ∷ 0 ∷ 0x41 ∷ 0x42 ∷ []
+
+abbrev pub recordA-cut : List ℕ
+recordA-cut = 0x07 ∷ 0 ∷ 0 ∷ 0 ∷ 0x02 ∷ 0 ∷ 0 ∷ 0 ∷ 0 ∷ 0 ∷ 0 ∷ 0 ∷ 0x41 ∷ []
+
+abbrev pub valueA : Val
+valueA = VTuple (vcons (VUint32 7) (vcons (VByteArray (0x41 ∷ 0x42 ∷ [])) vnil))
+
+-- one constant
+abbrev pub grammarB : List ℕ
+grammarB = 1 ∷ 0 ∷ 0 ∷ 0 ∷ 0 ∷ []
+
+-- an array of constants
+abbrev pub grammarC : List ℕ
+grammarC = 2 ∷ 3 ∷ 0 ∷ 1 ∷ 0 ∷ 0 ∷ 0 ∷ 1 ∷ 1 ∷ []
+
+-- a count of 3 in 8 bytes
+abbrev pub recordC : List ℕ
+recordC = 3 ∷ 0 ∷ 0 ∷ 0 ∷ 0 ∷ 0 ∷ 0 ∷ 0 ∷ []
+
+-- the empty union
+abbrev pub grammarD : List ℕ
+grammarD = 1 ∷ 8 ∷ 0 ∷ 0 ∷ 0 ∷ []
+
+-- an array of uint32
+abbrev pub grammarE : List ℕ
+grammarE = 1 ∷ 6 ∷ 0 ∷ 0 ∷ 0 ∷ []
+
+-- N nodes 0 0 0, and M 0
+unfoldable pub constantNodes : ℕ → List ℕ
+constantNodes zero = 0 ∷ []
+constantNodes (suc n) = 0 ∷ 0 ∷ 0 ∷ constantNodes n
+
+abbrev pub grammarF : ℕ → List ℕ
+grammarF nodes = nodes ∷ constantNodes nodes
+
+-- The paper gives the places of A's refusal, B's, C's at capacity 3 and F's 5. The others follow from its table: a value's 8, 9 and 10 are
+-- placed where the value starts, at byte 0 for the root, and 1 at word 0
+abbrev pub bench : List Example
+bench =
+    record { letter = A; call = read grammarA recordA 4096; expected = handsOut 3 (4 ∷ 3 ∷ 2 ∷ 0 ∷ 1 ∷ 1 ∷ 7 ∷ 0 ∷ 5 ∷ 1 ∷ 2 ∷ 12 ∷ []) valueA }
+    ∷ record { letter = A; call = read grammarA recordA-cut 4096; expected = refuses 9 (byte 4) }
+    ∷ record { letter = B; call = read grammarB [] 4096; expected = handsOut 1 (0 ∷ 1 ∷ 0 ∷ 0 ∷ []) VConstant }
+    ∷ record { letter = B; call = read grammarB (0 ∷ []) 4096; expected = refuses 11 (byte 0) }
+    ∷ record { letter = C; call = read grammarC recordC 4096; expected = handsOut 4 (3 ∷ 4 ∷ 3 ∷ 0 ∷ 0 ∷ 1 ∷ 0 ∷ 0 ∷ 0 ∷ 1 ∷ 0 ∷ 0 ∷ 0 ∷ 1 ∷ 0 ∷ 0 ∷ []) (VArray (vcons VConstant (vcons VConstant (vcons VConstant vnil)))) }
+    ∷ record { letter = C; call = read grammarC recordC 3; expected = refuses 8 (byte 0) }
+    -- a count of 2^64 − 1
+    ∷ record { letter = C; call = read grammarC (0xff ∷ 0xff ∷ 0xff ∷ 0xff ∷ 0xff ∷ 0xff ∷ 0xff ∷ 0xff ∷ []) 4096; expected = refuses 8 (byte 0) }
+    ∷ record { letter = C; call = read grammarC (3 ∷ 0 ∷ 0 ∷ 0 ∷ 0 ∷ 0 ∷ 0 ∷ []) 4096; expected = refuses 9 (byte 0) }
+    ∷ record { letter = D; call = read grammarD (0 ∷ 0 ∷ 0 ∷ 0 ∷ 0 ∷ 0 ∷ 0 ∷ 0 ∷ []) 4096; expected = refuses 10 (byte 0) }
+    ∷ record { letter = D; call = read grammarD [] 4096; expected = refuses 9 (byte 0) }
+    ∷ record { letter = E; call = read grammarE (1 ∷ 0 ∷ 0 ∷ 0 ∷ 0 ∷ 0 ∷ 0 ∷ 0 ∷ 0x78 ∷ 0x56 ∷ 0x34 ∷ 0x12 ∷ []) 4096; expected = handsOut 1 (6 ∷ 1 ∷ 1 ∷ 8 ∷ []) (VUint32Array (305419896 ∷ [])) }
+    -- a count of 2^62
+    ∷ record { letter = E; call = read grammarE (0 ∷ 0 ∷ 0 ∷ 0 ∷ 0 ∷ 0 ∷ 0 ∷ 0x40 ∷ 0x78 ∷ 0x56 ∷ 0x34 ∷ 0x12 ∷ []) 4096; expected = refuses 9 (byte 0) }
+    ∷ record { letter = F; call = check (1 ∷ 4 ∷ 0 ∷ 1 ∷ 1 ∷ 0 ∷ []); expected = refuses 5 (word 5) }
+    ∷ record { letter = F; call = check (grammarF 256); expected = passes }
+    ∷ record { letter = F; call = check (grammarF 257); expected = refuses 1 (word 0) }
+    ∷ []
+
+-- every call of the list answers as expected
+abbrev pub BenchHolds : Type 0
+BenchHolds = map (λ e. resultOf (e .call)) bench ≡ map (λ e. e .expected) bench
