@@ -5,7 +5,7 @@ use mathlib.Core.Bool.{Bool, true, false}
 use mathlib.Core.List.{List}
 use Prim.Native.Nat.{ℕ, _^_}
 use native.Mathlib.Omega.{arith}
-use Rattle.refusal.specs.Outcome.{Outcome, accepted, refused, bind, map, Reason}
+use Rattle.refusal.specs.Outcome.{Outcome, accepted, refused, map, Reason}
 use Rattle.refusal.proofs.Tests.{refuted, refutes}
 use Rattle.packed.specs.Packed.{Bytes, Below}
 use Rattle.value.specs.Tree.{Val}
@@ -14,11 +14,10 @@ use Rattle.value.specs.Step.{Step}
 use Rattle.value.specs.Reading.{State}
 use Rattle.value.proofs.Laws.{demarshallable-value}
 use Rattle.grammar.specs.Check.{checkGrammar}
-use Rattle.grammar.specs.Tree.{treeOf}
 use Rattle.reading.specs.Meaning.{Counts}
 use Rattle.reading.specs.Calls.{demarshallOf, countsOf}
 use Rattle.reading.proofs.Bridge.{demarshall-accepted}
-use Rattle.route.specs.SameRoute.{NamedReason, ofGrammar, ofFirst, ofSecond, naming, Both, readBoth, Same, Compares}
+use Rattle.route.specs.SameRoute.{NamedReason, ofGrammar, ofFirst, ofSecond, Both, readBoth, Same, Compares}
 use Rattle.route.proofs.Outcome.{map-accepted, map-refused}
 
 -- an accepted record is the bytes of its value

@@ -1,5 +1,6 @@
 -- The words of a C answer: what an outcome means at the C interface.
 use mathlib.Core.Path.{_≡_}
+use mathlib.Core.Bool.{Bool, true, false}
 use mathlib.Core.List.{List}
 use Prim.Native.Nat.{ℕ}
 use Rattle.refusal.specs.Outcome.{Outcome, accepted, refused, map, contents, Location, word, byte, row, Reason, reason}
@@ -12,6 +13,7 @@ use Rattle.rows.specs.Locate.{Part}
 use Rattle.rows.specs.Layout.{rowsOf}
 use Rattle.reading.specs.Meaning.{Counts}
 use Rattle.reading.specs.Calls.{countsOf}
+use Rattle.route.specs.SameRoute.{NamedReason, ofGrammar, ofFirst, ofSecond, Compares}
 use Rattle.route_c.specs.declared.RouteAnswer.{RouteAnswer}
 
 -- the values of an accepted call; 0 where it gives fewer than two
@@ -29,10 +31,14 @@ numberOf (word n) = n
 numberOf (byte n) = n
 numberOf (row n) = n
 
--- an accepted answer has number 0, kind of place 0 and place 0; a refusal has no values
+-- a refusal has no values; `second` is the record that it names, 1 or 2, and 0 where it names none
+abbrev pub refusalOf : Reason → ℕ → RouteAnswer
+refusalOf (reason n l) named = record { number = n; «place_kind» = kindOf l; place = numberOf l; first = 0; second = named }
+
+-- an accepted answer has number 0, kind of place 0 and place 0
 abbrev pub answerOf : Outcome Reason Values → RouteAnswer
 answerOf (accepted (values a b)) = record { number = 0; «place_kind» = 0; place = 0; first = a; second = b }
-answerOf (refused (reason n l)) = record { number = n; «place_kind» = kindOf l; place = numberOf l; first = 0; second = 0 }
+answerOf (refused e) = refusalOf e 0
 
 abbrev pub noValue : {A : Type 0} → A → Values
 noValue a = values 0 0
@@ -48,6 +54,14 @@ partValues p = values (p .start) (p .size)
 abbrev pub countValues : Counts → Values
 countValues c = values (c .rows) (c .restIndex)
 
+-- of same route: 1 for yes, 0 for no
+abbrev pub sameAnswerOf : Outcome NamedReason Bool → RouteAnswer
+sameAnswerOf (accepted true) = answerOf (accepted (oneValue 1))
+sameAnswerOf (accepted false) = answerOf (accepted (oneValue 0))
+sameAnswerOf (refused (ofGrammar e)) = refusalOf e 0
+sameAnswerOf (refused (ofFirst e)) = refusalOf e 1
+sameAnswerOf (refused (ofSecond e)) = refusalOf e 2
+
 -- a call over a lent buffer answers and fills as the outcome o says
 pub record Answers (o : Outcome Reason (List ℕ)) (answer : RouteAnswer) (entry exit : List ℕ) : Type 0 where
   pub answers : answer ≡ answerOf (map noValue o)
@@ -62,3 +76,9 @@ pub record AnswersRows (o : Outcome Reason (Step State Val)) (index : ℕ) (answ
 pub record AnswersBytes (o : Outcome Reason Val) (index : ℕ) (answer : RouteAnswer) (entry exit : List ℕ) : Type 0 where
   pub answers : answer ≡ answerOf (map oneValue (map SizeOfV o))
   pub output : exit ≡ contents (map (λ v. put entry index (bytesOf v)) o) entry
+
+-- same route answers by the outcome that its contract allows
+pub record AnswersSame (g first second : List ℕ) (answer : RouteAnswer) : Type 0 where
+  pub outcome : Outcome NamedReason Bool
+  pub compares : Compares g first second outcome
+  pub answers : answer ≡ sameAnswerOf outcome

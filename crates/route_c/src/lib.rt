@@ -12,13 +12,15 @@ ghost use Rattle.rows.specs.Meaning.{sizeOf, located};
 ghost use Rattle.reading.specs.Calls.{capacityOf, parseValOf, demarshallOf, countsOf};
 ghost use Rattle.reading.specs.Meaning.{parsedOf};
 ghost use Rattle.writing.specs.Marshall.{marshallValOf};
-ghost use Rattle.route_c.specs.Answer.{answerOf, noValue, oneValue, partValues, countValues, Answers, AnswersRows, AnswersBytes};
+ghost use Rattle.route.specs.SameRoute.{sameRouteOf};
+ghost use Rattle.route_c.specs.Answer.{answerOf, refusalOf, noValue, oneValue, partValues, countValues, sameAnswerOf, Answers, AnswersRows, AnswersBytes, AnswersSame};
 use packed::UnpackedU32;
 use packed::UnpackedU64;
 use reading::Parsed;
 use refusal::Answer;
 use refusal::Place;
 use refusal::Refusal;
+use route::SameRoute;
 use rows::Located;
 use rows::SizeOf;
 
@@ -65,6 +67,20 @@ fn refuse_at(number: u64, place_kind: u64, place: u64) -> RouteAnswer
         place: place,
         first: 0,
         second: 0,
+    }
+}
+
+// A refusal that names a record.
+fn refuse_record(refusal: Refusal, named: u64) -> RouteAnswer
+    ensures { λ r. ⌜ r ≡ refusalOf (reasonOf refusal) named ⌝ }
+{
+    let r = refuse(refusal);
+    RouteAnswer {
+        number: r.number,
+        place_kind: r.place_kind,
+        place: r.place,
+        first: 0,
+        second: named,
     }
 }
 
@@ -119,6 +135,18 @@ fn of_parsed(answer: Parsed) -> RouteAnswer
     match answer {
         Parsed::Value { rows, rest_index } => accept(rows as u64, rest_index as u64),
         Parsed::Refused(r) => refuse(r),
+    }
+}
+
+fn of_same_route(answer: SameRoute) -> RouteAnswer
+    ensures { λ r. ⌜ r ≡ sameAnswerOf (sameRouteOf answer) ⌝ }
+{
+    match answer {
+        SameRoute::Yes => accept(1, 0),
+        SameRoute::No => accept(0, 0),
+        SameRoute::Grammar(r) => refuse(r),
+        SameRoute::First(r) => refuse_record(r, 1),
+        SameRoute::Second(r) => refuse_record(r, 2),
     }
 }
 
@@ -270,4 +298,11 @@ pub extern "C" fn route_marshall(
     ensures { λ r. ⌜ AnswersBytes (marshallValOf (now (grammar .entry)) (now (rows .entry)) n (now (store .entry)) (length (now (out .entry))) 0) 0 r (now (out .entry)) (now (out .exit)) ⌝ }
 {
     of_size(writing::marshall(grammar, rows, n, store, out))
+}
+
+#[no_mangle]
+pub extern "C" fn route_same_route(grammar: &[u32], first: &[u8], second: &[u8]) -> RouteAnswer
+    ensures { λ r. ⌜ AnswersSame (now (grammar .entry)) (now (first .entry)) (now (second .entry)) r ⌝ }
+{
+    of_same_route(route::same_route(grammar, first, second))
 }
