@@ -10,6 +10,7 @@ mod packed;
 mod reading;
 mod refusal;
 mod rows;
+mod same_route;
 mod writing;
 
 pub use grammar::check_grammar;
@@ -17,4 +18,5 @@ pub use packed::{pack, pack_seq, unpack, unpack_seq};
 pub use reading::{capacity, demarshall, parse_val, Reading};
 pub use refusal::{Place, Refusal};
 pub use rows::{array_bytes, check_rows, compute_size_of, locate_array};
+pub use same_route::{same_route, SameRouteRefusal};
 pub use writing::{marshall, marshall_val, Writing};

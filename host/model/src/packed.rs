@@ -4,7 +4,7 @@
 use crate::refusal::{at_byte, Refusal};
 
 /// `unpack_LittleEndian_Uint32` over 4 bytes, `unpack_LittleEndian_Uint64` over 8.
-fn sum(bytes: &[u8]) -> u64 {
+pub(crate) fn sum(bytes: &[u8]) -> u64 {
     let terms = bytes
         .iter()
         .zip(0..)

@@ -24,14 +24,14 @@ pub fn capacity(words: usize) -> usize {
 
 /// A reader of values: the table of a checked grammar, the record, the next byte to read and the
 /// number of rows still free.
-struct Reader<'a> {
-    grammar: &'a [u32],
+struct Reader<'g, 'a> {
+    grammar: &'g [u32],
     record: &'a [u8],
     position: usize,
     rows_left: usize,
 }
 
-impl<'a> Reader<'a> {
+impl<'a> Reader<'_, 'a> {
     /// Reads a number of `width` bytes.
     fn number(&mut self, width: usize) -> Result<u64, Refusal> {
         let number = unpack(width, self.record, self.position)?;
@@ -134,14 +134,14 @@ fn rows(value: &V) -> Vec<u64> {
     [vec![kind, span, word2, word3], below].concat()
 }
 
-/// Reads a value of the grammar's root from `index`, in at most `capacity` rows. A capacity is at
-/// most 4,096.
-pub fn parse_val(
+/// Reads a value of the grammar's root from `index`, in at most `capacity` rows; given is also the
+/// first byte behind it.
+fn read<'a>(
     grammar: &[u32],
-    record: &[u8],
+    record: &'a [u8],
     index: usize,
     capacity: usize,
-) -> Result<Reading, Refusal> {
+) -> Result<(V<'a>, usize), Refusal> {
     check_grammar(grammar)?;
     check_length(record)?;
     if index > record.len() {
@@ -154,17 +154,40 @@ pub fn parse_val(
         rows_left: capacity,
     };
     let value = reader.value(0)?;
-    Ok(Reading {
-        rows: rows(&value),
-        rest_index: reader.position,
-    })
+    Ok((value, reader.position))
+}
+
+/// The value of a record that is one of the grammar's root, of at most `capacity` rows.
+pub(crate) fn read_whole<'a>(
+    grammar: &[u32],
+    record: &'a [u8],
+    capacity: usize,
+) -> Result<V<'a>, Refusal> {
+    let (value, rest_index) = read(grammar, record, 0, capacity)?;
+    if rest_index < record.len() {
+        return Err(at_byte(11, rest_index));
+    }
+    Ok(value)
+}
+
+/// Reads a value of the grammar's root from `index`, in at most `capacity` rows. A capacity is at
+/// most 4,096.
+pub fn parse_val(
+    grammar: &[u32],
+    record: &[u8],
+    index: usize,
+    capacity: usize,
+) -> Result<Reading, Refusal> {
+    let (value, rest_index) = read(grammar, record, index, capacity)?;
+    let rows = rows(&value);
+    Ok(Reading { rows, rest_index })
 }
 
 /// Reads a record that is a value of the grammar's root, in at most `capacity` rows.
 pub fn demarshall(grammar: &[u32], record: &[u8], capacity: usize) -> Result<Reading, Refusal> {
-    let reading = parse_val(grammar, record, 0, capacity)?;
-    if reading.rest_index < record.len() {
-        return Err(at_byte(11, reading.rest_index));
-    }
-    Ok(reading)
+    let value = read_whole(grammar, record, capacity)?;
+    Ok(Reading {
+        rows: rows(&value),
+        rest_index: record.len(),
+    })
 }
