@@ -11,6 +11,7 @@ mod reading;
 mod refusal;
 mod rows;
 mod same_route;
+mod show;
 mod writing;
 
 pub use grammar::check_grammar;
@@ -19,4 +20,5 @@ pub use reading::{capacity, demarshall, parse_val, Reading};
 pub use refusal::{Place, Refusal};
 pub use rows::{array_bytes, check_rows, compute_size_of, locate_array};
 pub use same_route::{same_route, SameRouteRefusal};
+pub use show::show;
 pub use writing::{marshall, marshall_val, Writing};
