@@ -114,6 +114,14 @@ extern "C" {
         out: *mut u8,
         out_len: usize,
     ) -> Answer;
+    fn route_same_route(
+        grammar: *const u32,
+        grammar_len: usize,
+        first: *const u8,
+        first_len: usize,
+        second: *const u8,
+        second_len: usize,
+    ) -> Answer;
 }
 
 pub fn unpack_u32(packed: &[u8], index: usize) -> Answer {
@@ -257,4 +265,12 @@ pub fn marshall(grammar: &[u32], rows: &[u64], n: usize, store: &[u8], out: &mut
             out.len(),
         )
     }
+}
+
+pub fn same_route(grammar: &[u32], first: &[u8], second: &[u8]) -> Answer {
+    let (words, count) = (grammar.as_ptr(), grammar.len());
+    let (bytes, length) = (first.as_ptr(), first.len());
+    // SAFETY: each pointer and length are those of one slice; `grammar` is aligned for u32, and all
+    // three are only read.
+    unsafe { route_same_route(words, count, bytes, length, second.as_ptr(), second.len()) }
 }

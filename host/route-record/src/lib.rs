@@ -23,6 +23,7 @@ mod packed;
 mod reading;
 mod refusal;
 mod rows;
+mod same_route;
 mod writing;
 
 pub use grammar::check_grammar;
@@ -33,4 +34,5 @@ pub use packed::{
 pub use reading::{check_val, check_whole, demarshall, parse_val, Parsed};
 pub use refusal::{Place, Refusal};
 pub use rows::{compute_size_of, locate_array};
+pub use same_route::{same_route, SameRouteRefusal};
 pub use writing::{marshall, marshall_val};

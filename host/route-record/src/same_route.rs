@@ -1,0 +1,113 @@
+//! Whether two records are of the same route.
+
+use crate::ffi::{self, Answer};
+use crate::refusal::Refusal;
+
+/// Why [`same_route`] was refused, with the record of the refusal.
+#[derive(Clone, Copy, Debug, PartialEq, Eq)]
+pub enum SameRouteRefusal {
+    /// The grammar's refusal, which is of neither record.
+    Grammar(Refusal),
+    /// The first record's refusal.
+    First(Refusal),
+    /// The second record's refusal. The first record is accepted.
+    Second(Refusal),
+}
+
+/// Yes or no, or the refusal with its record, whose number is 1, 2 or, for neither, 0.
+fn is_same(answer: Answer) -> Result<bool, SameRouteRefusal> {
+    let record = answer.second;
+    match (answer.into_result(), record) {
+        (Ok(Answer { first: 0, .. }), _) => Ok(false),
+        (Ok(Answer { first: 1, .. }), _) => Ok(true),
+        (Ok(Answer { first, .. }), _) => panic!("the library gave {first} for yes or no"),
+        (Err(refusal), 0) => Err(SameRouteRefusal::Grammar(refusal)),
+        (Err(refusal), 1) => Err(SameRouteRefusal::First(refusal)),
+        (Err(refusal), 2) => Err(SameRouteRefusal::Second(refusal)),
+        (Err(_), _) => panic!("the library named record {record}"),
+    }
+}
+
+/// Whether the values of two records, each read whole as a value of the grammar's root, are equal.
+///
+/// Refused by 1 to 5 as [`check_grammar`](crate::check_grammar) refuses, and then neither record is
+/// named; then by 6 and 8 to 11 as [`check_whole`](crate::check_whole) refuses the first record;
+/// then by 6 and 8 to 11 as it refuses the second.
+///
+/// ```
+/// use route_record::{same_route, Place, Refusal, SameRouteRefusal};
+///
+/// let bytes = [1, 5, 0, 0, 0];
+/// let one = [1, 0, 0, 0, 0, 0, 0, 0, 0x41];
+/// let two = [2, 0, 0, 0, 0, 0, 0, 0, 0x41, 0x42];
+/// assert_eq!(same_route(&bytes, &one, &one), Ok(true));
+/// assert_eq!(same_route(&bytes, &one, &two), Ok(false));
+///
+/// let refusal = Refusal { number: 9, place: Place::Byte(0) };
+/// let answer = same_route(&bytes, &one, &two[..9]);
+/// assert_eq!(answer, Err(SameRouteRefusal::Second(refusal)));
+/// let answer = same_route(&bytes, &two[..9], &two[..9]);
+/// assert_eq!(answer, Err(SameRouteRefusal::First(refusal)));
+///
+/// let refusal = Refusal { number: 2, place: Place::Word(4) };
+/// let answer = same_route(&bytes[..4], &one, &one);
+/// assert_eq!(answer, Err(SameRouteRefusal::Grammar(refusal)));
+/// ```
+pub fn same_route(grammar: &[u32], first: &[u8], second: &[u8]) -> Result<bool, SameRouteRefusal> {
+    is_same(ffi::same_route(grammar, first, second))
+}
+
+#[cfg(test)]
+mod tests {
+    use super::*;
+    use crate::refusal::Place;
+
+    fn accepted(first: u64) -> Answer {
+        Answer {
+            number: 0,
+            place_kind: 0,
+            place: 0,
+            first,
+            second: 0,
+        }
+    }
+
+    fn refused(record: u64) -> Answer {
+        Answer {
+            number: 9,
+            place_kind: 2,
+            place: 4,
+            first: 0,
+            second: record,
+        }
+    }
+
+    #[test]
+    fn no_is_0_and_yes_is_1() {
+        assert_eq!(is_same(accepted(0)), Ok(false));
+        assert_eq!(is_same(accepted(1)), Ok(true));
+    }
+
+    #[test]
+    fn each_record_has_its_number() {
+        let refusal = Refusal {
+            number: 9,
+            place: Place::Byte(4),
+        };
+        assert_eq!(is_same(refused(0)), Err(SameRouteRefusal::Grammar(refusal)));
+        assert_eq!(is_same(refused(1)), Err(SameRouteRefusal::First(refusal)));
+        assert_eq!(is_same(refused(2)), Err(SameRouteRefusal::Second(refusal)));
+    }
+
+    #[test]
+    #[should_panic(expected = "gave 2 for yes or no")]
+    fn another_number_for_yes_or_no_is_a_fault() {
+        let _ = is_same(accepted(2));
+    }
+
+    #[test]
+    #[should_panic(expected = "named record 3")]
+    fn a_third_record_is_a_fault() {
+        let _ = is_same(refused(3));
+    }
+}
