@@ -23,7 +23,8 @@ typedef struct route_answer {
     uint64_t place_kind; /* of a refusal 1: grammar word, 2: byte, 3: row; 0 if accepted */
     uint64_t place;      /* of a refusal: which word, byte or row; 0 if accepted */
     uint64_t first;      /* the first value of an accepted call that gives one; else 0 */
-    uint64_t second;     /* the second value of an accepted call that gives two; else 0 */
+    uint64_t second;     /* the second value of an accepted call that gives two; of a refusal of
+                            route_same_route which record, 1 or 2; else 0 */
 } route_answer;
 
 /* Packed integers: a number is 4 or 8 bytes, least byte first, the sum of byte i times 256 to the
@@ -174,6 +175,15 @@ route_answer route_marshall_val(const uint32_t *grammar, size_t grammar_len, con
 route_answer route_marshall(const uint32_t *grammar, size_t grammar_len, const uint64_t *rows,
                             size_t rows_len, size_t n, const uint8_t *store, size_t store_len,
                             uint8_t *out, size_t out_len);
+
+/* Says whether two records are of the same route. Reads each of them as route_check_whole does and
+ * gives in `first` 1 for yes, when both are accepted and their values are equal, and 0 for no, when
+ * both are accepted and their values differ. The records may overlap. Changes nothing.
+ * Refused: 1 to 5 as route_check_grammar, with 0 in `second`;
+ * 6 and 8 to 11 as route_check_whole refuses the first record, with 1 in `second`;
+ * 6 and 8 to 11 as route_check_whole refuses the second record, with 2 in `second`. */
+route_answer route_same_route(const uint32_t *grammar, size_t grammar_len, const uint8_t *first,
+                              size_t first_len, const uint8_t *second, size_t second_len);
 
 #ifdef __cplusplus
 }

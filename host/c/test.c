@@ -26,10 +26,16 @@ static int accepted_with(route_answer answer, uint64_t first, uint64_t second)
            answer.first == first && answer.second == second;
 }
 
-static int refused_at(route_answer answer, uint64_t number, uint64_t place_kind, uint64_t place)
+static int refused_with(route_answer answer, uint64_t number, uint64_t place_kind, uint64_t place,
+                        uint64_t second)
 {
     return answer.number == number && answer.place_kind == place_kind && answer.place == place &&
-           answer.first == 0 && answer.second == 0;
+           answer.first == 0 && answer.second == second;
+}
+
+static int refused_at(route_answer answer, uint64_t number, uint64_t place_kind, uint64_t place)
+{
+    return refused_with(answer, number, place_kind, place, 0);
 }
 
 static int gives(route_answer answer, uint64_t first)
@@ -1019,6 +1025,153 @@ static void test_write_longest(void)
     CHECK(memcmp(out, expected, LENGTH) == 0);
 }
 
+/* The bytes of a record, and how many they are. */
+#define RECORD(...) (const uint8_t[]){__VA_ARGS__}, sizeof((const uint8_t[]){__VA_ARGS__})
+
+/* Checks that the values of two records differ, in either order, and that each is the same route as
+ * itself and as a copy of it. */
+static void check_differ(int line, const uint32_t *grammar, size_t grammar_len, const uint8_t *one,
+                         size_t one_len, const uint8_t *other, size_t other_len)
+{
+    uint8_t copy[40];
+    memcpy(copy, one, one_len);
+    check(line, "one and other",
+          gives(route_same_route(grammar, grammar_len, one, one_len, other, other_len), 0));
+    check(line, "other and one",
+          gives(route_same_route(grammar, grammar_len, other, other_len, one, one_len), 0));
+    check(line, "one and itself",
+          gives(route_same_route(grammar, grammar_len, one, one_len, one, one_len), 1));
+    check(line, "other and itself",
+          gives(route_same_route(grammar, grammar_len, other, other_len, other, other_len), 1));
+    check(line, "one and a copy",
+          gives(route_same_route(grammar, grammar_len, one, one_len, copy, one_len), 1));
+    check(line, "the copy stays as it was", memcmp(copy, one, one_len) == 0);
+}
+
+#define CHECK_DIFFER(...) check_differ(__LINE__, __VA_ARGS__)
+
+static void test_same_route(void)
+{
+    /* in the last byte of the array, in the number, and in the array's length */
+    CHECK_DIFFER(tuple_grammar, 13, tuple_record, 14,
+                 RECORD(7, 0, 0, 0, 2, 0, 0, 0, 0, 0, 0, 0, 0x41, 0x43));
+    CHECK_DIFFER(tuple_grammar, 13, tuple_record, 14,
+                 RECORD(7, 0, 0, 1, 2, 0, 0, 0, 0, 0, 0, 0, 0x41, 0x42));
+    CHECK_DIFFER(tuple_grammar, 13, tuple_record, 14,
+                 RECORD(7, 0, 0, 0, 1, 0, 0, 0, 0, 0, 0, 0, 0x41));
+
+    /* numbers, and arrays of them */
+    CHECK_DIFFER(GRAMMAR(1, 1, 0, 0, 0), RECORD(7, 0, 0, 0), RECORD(7, 0, 0, 0x80));
+    CHECK_DIFFER(GRAMMAR(1, 2, 0, 0, 0), RECORD(7, 0, 0, 0, 0, 0, 0, 0),
+                 RECORD(7, 0, 0, 0, 0, 0, 0, 0x80));
+    CHECK_DIFFER(GRAMMAR(1, 5, 0, 0, 0), RECORD(1, 0, 0, 0, 0, 0, 0, 0, 0),
+                 RECORD(0, 0, 0, 0, 0, 0, 0, 0));
+    CHECK_DIFFER(GRAMMAR(1, 6, 0, 0, 0), RECORD(1, 0, 0, 0, 0, 0, 0, 0, 0, 0, 0, 0),
+                 RECORD(1, 0, 0, 0, 0, 0, 0, 0, 0, 0, 0, 1));
+    CHECK_DIFFER(GRAMMAR(1, 7, 0, 0, 0), RECORD(1, 0, 0, 0, 0, 0, 0, 0, 0, 0, 0, 0, 0, 0, 0, 0),
+                 RECORD(1, 0, 0, 0, 0, 0, 0, 0, 0, 0, 0, 0, 0, 0, 0, 1));
+
+    /* arrays of constants; tags of two cases of one node */
+    CHECK_DIFFER(GRAMMAR(2, 3, 0, 1, 0, 0, 0, 1, 1), RECORD(3, 0, 0, 0, 0, 0, 0, 0),
+                 RECORD(4, 0, 0, 0, 0, 0, 0, 0));
+    CHECK_DIFFER(GRAMMAR(2, 8, 0, 2, 0, 0, 0, 2, 1, 1), RECORD(0, 0, 0, 0, 0, 0, 0, 0),
+                 RECORD(1, 0, 0, 0, 0, 0, 0, 0));
+}
+
+/* values of no byte: a constant and an empty tuple */
+static void test_same_route_of_nothing(void)
+{
+    static const uint32_t constant[] = {1, 0, 0, 0, 0}, tuple[] = {1, 4, 0, 0, 0};
+    CHECK(gives(route_same_route(constant, 5, NULL, 0, NULL, 0), 1));
+    CHECK(gives(route_same_route(constant, 5, tuple_record, 0, NULL, 0), 1));
+    CHECK(gives(route_same_route(constant, 5, NULL, 0, tuple_record, 0), 1));
+    CHECK(gives(route_same_route(constant, 5, tuple_record, 0, tuple_record + 1, 0), 1));
+    CHECK(gives(route_same_route(tuple, 5, NULL, 0, NULL, 0), 1));
+}
+
+/* Which record a refusal names. */
+enum { NEITHER = 0, FIRST = 1, SECOND = 2 };
+
+/* Checks that a record is refused and named beside one that is accepted, as the first and as the
+ * second, and that the first is named of two that are refused. */
+static void check_refused_record(int line, const uint32_t *grammar, size_t grammar_len,
+                                 const uint8_t *sound, size_t sound_len, const uint8_t *record,
+                                 size_t record_len, uint64_t number, uint64_t byte)
+{
+    check(line, "first",
+          refused_with(
+              route_same_route(grammar, grammar_len, record, record_len, sound, sound_len), number,
+              BYTE, byte, FIRST));
+    check(line, "second",
+          refused_with(
+              route_same_route(grammar, grammar_len, sound, sound_len, record, record_len), number,
+              BYTE, byte, SECOND));
+    check(line, "both",
+          refused_with(
+              route_same_route(grammar, grammar_len, record, record_len, record, record_len),
+              number, BYTE, byte, FIRST));
+}
+
+#define CHECK_REFUSED_RECORD(...) check_refused_record(__LINE__, __VA_ARGS__)
+
+/* A record of a byte too many. */
+static uint8_t long_record[MOST_BYTES + 1];
+
+static void test_same_route_refused_records(void)
+{
+    CHECK_REFUSED_RECORD(tuple_grammar, 13, tuple_record, 14, long_record, MOST_BYTES + 1, 6, 0);
+    CHECK_REFUSED_RECORD(GRAMMAR(2, 3, 0, 1, 0, 0, 0, 1, 1), RECORD(0xff, 0x0f, 0, 0, 0, 0, 0, 0),
+                         RECORD(0x00, 0x10, 0, 0, 0, 0, 0, 0), 8, 0);
+    CHECK_REFUSED_RECORD(tuple_grammar, 13, tuple_record, 14, tuple_record, 13, 9, 4);
+    CHECK_REFUSED_RECORD(tuple_grammar, 13, tuple_record, 14, NULL, 0, 9, 0);
+    CHECK_REFUSED_RECORD(GRAMMAR(2, 8, 0, 2, 0, 0, 0, 2, 1, 1), RECORD(1, 0, 0, 0, 0, 0, 0, 0),
+                         RECORD(2, 0, 0, 0, 0, 0, 0, 0), 10, 0);
+    CHECK_REFUSED_RECORD(GRAMMAR(1, 1, 0, 0, 0), RECORD(7, 0, 0, 0), RECORD(7, 0, 0, 0, 0), 11, 4);
+    CHECK_REFUSED_RECORD(GRAMMAR(1, 0, 0, 0, 0), NULL, 0, RECORD(0), 11, 0);
+}
+
+/* The grammar's refusal, then the first record's, then the second's, whatever their numbers are. */
+static void test_same_route_order(void)
+{
+    const uint8_t *record = tuple_record;
+    CHECK(refused_with(route_same_route(NULL, 0, NULL, 0, NULL, 0), 1, WORD, 0, NEITHER));
+    CHECK(refused_with(route_same_route(tuple_grammar, 12, record, 14, record, 14), 2, WORD, 10,
+                       NEITHER));
+    CHECK(refused_with(route_same_route(GRAMMAR(1, 9, 0, 0, 0), record, 1, NULL, 0), 3, WORD, 1,
+                       NEITHER));
+    CHECK(refused_with(route_same_route(GRAMMAR(1, 0, 0, 1, 0), NULL, 0, record, 1), 4, WORD, 2,
+                       NEITHER));
+    CHECK(refused_with(route_same_route(GRAMMAR(1, 4, 0, 1, 1, 0), long_record, MOST_BYTES + 1,
+                                        long_record, MOST_BYTES + 1),
+                       5, WORD, 5, NEITHER));
+
+    CHECK(refused_with(route_same_route(tuple_grammar, 13, record, 13, long_record, MOST_BYTES + 1),
+                       9, BYTE, 4, FIRST));
+    CHECK(refused_with(route_same_route(tuple_grammar, 13, long_record, MOST_BYTES + 1, record, 13),
+                       6, BYTE, 0, FIRST));
+    CHECK(refused_with(route_same_route(tuple_grammar, 13, long_record, 13, record, 13), 11, BYTE,
+                       12, FIRST));
+    CHECK(refused_with(route_same_route(tuple_grammar, 13, record, 13, long_record, 13), 9, BYTE,
+                       4, FIRST));
+}
+
+/* records of the most bytes, and records that overlap */
+static void test_same_route_longest(void)
+{
+    static const uint32_t bytes[] = {1, 5, 0, 0, 0};
+    static const uint8_t count[8] = {0xf8, 0xff, 0x0f};
+    static uint8_t first[MOST_BYTES], second[MOST_BYTES];
+    memcpy(first, count, 8);
+    memcpy(second, count, 8);
+    CHECK(gives(route_same_route(bytes, 5, first, MOST_BYTES, second, MOST_BYTES), 1));
+    second[MOST_BYTES - 1] = 1;
+    CHECK(gives(route_same_route(bytes, 5, first, MOST_BYTES, second, MOST_BYTES), 0));
+    CHECK(gives(route_same_route(bytes, 5, second, MOST_BYTES, first, MOST_BYTES), 0));
+
+    CHECK(gives(route_same_route(bytes, 5, first + 8, 8, first + 12, 8), 1));
+    CHECK(gives(route_same_route(bytes, 5, first, MOST_BYTES, first + 8, 8), 0));
+}
+
 int main(void)
 {
     /* so that a call that ends the program leaves the lines before it */
@@ -1052,6 +1205,11 @@ int main(void)
     test_write_refusals();
     test_write_of_another_grammar();
     test_write_longest();
+    test_same_route();
+    test_same_route_of_nothing();
+    test_same_route_refused_records();
+    test_same_route_order();
+    test_same_route_longest();
     printf("%u passed, %u failed\n", passed, failed);
     return failed != 0 || passed == 0;
 }
