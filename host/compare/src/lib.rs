@@ -1,6 +1,6 @@
-//! Comparison of the library, called through its bindings, with the model. A comparison runs one
-//! case through both, panics with the case where they differ, and gives the answer or whether the
-//! case was accepted.
+//! Comparison of the library, called through its bindings, and of the show program with the model.
+//! A comparison runs one case through both, panics with the case where they differ, and gives the
+//! answer or whether the case was accepted.
 
 #![forbid(unsafe_code)]
 #![deny(missing_docs)]
@@ -13,6 +13,7 @@ mod record;
 mod row_table;
 mod rows;
 mod same_route;
+mod show;
 mod table;
 mod tally;
 mod writing;
@@ -21,10 +22,11 @@ pub use grammar::check_grammar;
 pub use packed::{narrow, Calls, Number, MARGIN, U32, U64};
 pub use random::Random;
 pub use reading::{check_val, check_whole, demarshall, parse_val};
-pub use record::{for_each_record, Record, RECORDS};
+pub use record::{for_each_record, for_some_records, Record, RECORDS};
 pub use row_table::{element_width, RowTable};
 pub use rows::{compute_size_of, locate_array};
 pub use same_route::same_route;
+pub use show::{show, show_from, show_in_pieces, show_input};
 pub use table::{chain, Table};
 pub use tally::Tally;
 pub use writing::Value;

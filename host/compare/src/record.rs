@@ -61,10 +61,19 @@ impl Record {
 pub const RECORDS: usize = 1_000;
 
 /// Calls `test` with random grammars that have a value, and a record of each.
-pub fn for_each_record(seed: u64, mut test: impl FnMut(&mut Random, &[u32], Record)) {
+pub fn for_each_record(seed: u64, test: impl FnMut(&mut Random, &[u32], Record)) {
+    for_some_records(RECORDS, seed, test);
+}
+
+/// Calls `test` this many times, with random grammars that have a value, and a record of each.
+pub fn for_some_records(
+    count: usize,
+    seed: u64,
+    mut test: impl FnMut(&mut Random, &[u32], Record),
+) {
     let mut random = Random::new(seed);
     let mut records = 0;
-    while records < RECORDS {
+    while records < count {
         let table = Table::any(&mut random);
         let spare = random.pick(&[0, 5, 30, 100]);
         if let Some(record) = Record::of(&table, &mut random, spare) {

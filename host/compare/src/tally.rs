@@ -11,7 +11,11 @@ pub struct Tally(BTreeMap<u64, usize>);
 impl Tally {
     /// Counts an answer.
     pub fn count<T>(&mut self, answer: Result<T, Refusal>) {
-        let number = answer.map_or_else(|refusal| refusal.number, |_| 0);
+        self.count_number(answer.map_or_else(|refusal| refusal.number, |_| 0));
+    }
+
+    /// Counts an answer by its number.
+    pub fn count_number(&mut self, number: u64) {
         *self.0.entry(number).or_default() += 1;
     }
 
