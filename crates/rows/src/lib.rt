@@ -139,7 +139,7 @@ fn check_row(rows: &[u64], store: &[u8], row: usize, end: usize) -> Wanted
     }
 }
 
-// The children that a row wants, which are to fill its span. It calls itself once for each level, of which 4,096 rows have 4,096 at most.
+// The children that a row wants, which are to fill its span. Its calls nest once for each level, of which 4,096 rows have 4,096 at most.
 fn check_children(rows: &[u64], store: &[u8], parent: usize, count: u64, end: usize) -> Answer
     requires { ⌜ (parent < end) × (rowWidth * end ≤ length (now rows)) ⌝ }
     ensures { λ r. ⌜ outcomeOf r ≡ map (λ _. tt) (walkChildren (now (rows .entry)) (walkRow (now (rows .entry)) (now (store .entry)) end) parent end count (parent + 1)) ⌝ }

@@ -35,7 +35,8 @@ pub record Writes (g t : List ℕ) (n : ℕ) (s : List ℕ) (len index : ℕ) (v
   pub small : SizeOfV v ≤ 1048576
   pub room : index + SizeOfV v ≤ len
 
--- a writer's answer is the value's size, and the output at exit is that at entry with the value's bytes at the index
+-- a writer's answer is the value's size, and the output at exit is that at entry with the value's bytes at the index; after a refusal
+-- it is that at entry
 pub record Marshalls (o : Outcome Reason Val) (index : ℕ) (r : SizeOf) (entry exit : List ℕ) : Type 0 where
   pub answers : sizeOf r ≡ map SizeOfV o
   pub output : exit ≡ contents (map (λ v. put entry index (bytesOf v)) o) entry

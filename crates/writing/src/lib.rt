@@ -86,7 +86,7 @@ fn not_in_grammar(row: usize) -> Answer
 }
 
 // GM's `ValInGrammar`, of the value whose own row this is and the tree of a node: 15 at the first row of another kind, count or
-// tag. It calls itself once for each level of the tree, of which 256 nodes have 256 at most.
+// tag. Its calls nest once for each level of the tree, of which 256 nodes have 256 at most.
 fn check_in_grammar(rows: &[u64], grammar: &[u32], row: usize, node: usize) -> Answer
     requires { ⌜ Passes (now grammar) × (node < nodeCount (now grammar)) × Standing (now rows) row ⌝ }
     ensures { λ r. ⌜ Checks (now (rows .entry)) row (treeOf (now (grammar .entry)) node) r ⌝ }
@@ -168,8 +168,8 @@ fn check_each_in_grammar(rows: &[u64], grammar: &[u32], row: usize, node: usize)
     Answer::Accepted
 }
 
-// Puts a 4-byte number, which has room, and gives the index behind it.
-fn put_uint32(n: u32, out: &mut [u8], index: usize) -> usize
+// GM's `MarshallUint32`: puts a 4-byte number, which has room, and gives the index behind it.
+fn marshall_uint32(n: u32, out: &mut [u8], index: usize) -> usize
     requires { ⌜ index + 4 ≤ length (now out) ⌝ }
     ensures { λ r. ⌜ (r ≡ index + 4) × (now (out .exit) ≡ put (now (out .entry)) index (packLittleEndian 4 n)) ⌝ }
 {
@@ -177,8 +177,8 @@ fn put_uint32(n: u32, out: &mut [u8], index: usize) -> usize
     index + 4
 }
 
-// Puts an 8-byte number, count or tag, which has room, and gives the index behind it.
-fn put_uint64(n: u64, out: &mut [u8], index: usize) -> usize
+// GM's `MarshallUint64`: puts an 8-byte number, count or tag, which has room, and gives the index behind it.
+fn marshall_uint64(n: u64, out: &mut [u8], index: usize) -> usize
     requires { ⌜ index + 8 ≤ length (now out) ⌝ }
     ensures { λ r. ⌜ (r ≡ index + 8) × (now (out .exit) ≡ put (now (out .entry)) index (packLittleEndian 8 n)) ⌝ }
 {
@@ -187,7 +187,7 @@ fn put_uint64(n: u64, out: &mut [u8], index: usize) -> usize
 }
 
 // Puts the count of an array of numbers of a width and its bytes, which lie in the store, and gives the index behind them.
-fn put_elements(
+fn marshall_elements(
     count: u64,
     width: u64,
     store: &[u8],
@@ -198,7 +198,7 @@ fn put_elements(
     requires { ⌜ (place + width * count ≤ length (now store)) × (index + (8 + width * count) ≤ length (now out)) ⌝ }
     ensures { λ r. ⌜ (r ≡ index + (8 + width * count)) × (now (out .exit) ≡ put (now (out .entry)) index (packLittleEndian 8 count ++ take (width * count) (drop place (now (store .entry))))) ⌝ }
 {
-    let at = put_uint64(count, out, index);
+    let at = marshall_uint64(count, out, index);
     let start = place as usize;
     let size = (width * count) as usize;
     let end = start + size;
@@ -207,7 +207,7 @@ fn put_elements(
 }
 
 // Puts a row's own bytes, without its children's, and gives the index behind them.
-fn put_row(rows: &[u64], row: usize, store: &[u8], out: &mut [u8], index: usize) -> usize
+fn marshall_row(rows: &[u64], row: usize, store: &[u8], out: &mut [u8], index: usize) -> usize
     requires { ⌜ (rowWidth * row + rowWidth ≤ length (now rows)) × RowHolds (now rows) (now store) row × (index + sizeAt (now rows) row ≤ length (now out)) ⌝ }
     ensures { λ r. ⌜ (r ≡ index + sizeAt (now (rows .entry)) row) × (now (out .exit) ≡ put (now (out .entry)) index (ownBytesAt (now (rows .entry)) (now (store .entry)) row)) ⌝ }
 {
@@ -216,27 +216,27 @@ fn put_row(rows: &[u64], row: usize, store: &[u8], out: &mut [u8], index: usize)
     let place = word3_at(rows, row);
     match kind {
         0 => index,
-        1 => put_uint32(word2 as u32, out, index),
-        2 => put_uint64(word2, out, index),
-        3 => put_uint64(word2, out, index),
+        1 => marshall_uint32(word2 as u32, out, index),
+        2 => marshall_uint64(word2, out, index),
+        3 => marshall_uint64(word2, out, index),
         4 => index,
-        5 => put_elements(word2, 1, store, place, out, index),
-        6 => put_elements(word2, 4, store, place, out, index),
-        7 => put_elements(word2, 8, store, place, out, index),
-        8 => put_uint64(word2, out, index),
+        5 => marshall_elements(word2, 1, store, place, out, index),
+        6 => marshall_elements(word2, 4, store, place, out, index),
+        7 => marshall_elements(word2, 8, store, place, out, index),
+        8 => marshall_uint64(word2, out, index),
         9.. => index,
     }
 }
 
 // Puts the own bytes of all rows, one behind the other: a value's rows are in the order of its bytes.
-fn put_rows(rows: &[u64], n: usize, store: &[u8], out: &mut [u8], index: usize)
+fn marshall_rows(rows: &[u64], n: usize, store: &[u8], out: &mut [u8], index: usize)
     requires { ⌜ (rowWidth * n ≤ length (now rows)) × ((j : ℕ) → j < n → RowHolds (now rows) (now store) j) × (index + sizeFrom (now rows) 0 n ≤ length (now out)) ⌝ }
     ensures { λ _. ⌜ now (out .exit) ≡ put (now (out .entry)) index (bytesFrom (now (rows .entry)) (now (store .entry)) 0 n) ⌝ }
 {
     let mut at = index;
     let mut i: usize = 0;
     while i < n {
-        at = put_row(rows, i, store, out, at);
+        at = marshall_row(rows, i, store, out, at);
         i += 1;
     }
 }
@@ -302,7 +302,7 @@ pub fn marshall_val(
     match size_to_write(grammar, rows, n, store, out.len(), index) {
         SizeOf::Refused(r) => SizeOf::Refused(r),
         SizeOf::Size(size) => {
-            put_rows(rows, n, store, out, index);
+            marshall_rows(rows, n, store, out, index);
             SizeOf::Size(size)
         }
     }

@@ -24,8 +24,8 @@ enum-known-r c = search needs
 enum-known-size : tie.Need-enum-known-size
 enum-known-size c = search needs
 
-put-rows-requires : tie.Need-put-rows-requires
-put-rows-requires c κs =
+marshall-rows-requires : tie.Need-marshall-rows-requires
+marshall-rows-requires c κs =
     let a = c .before .before .before .before .before .before .before .before .before .args in
     put-ready (a .grammar .now) (a .rows .now) (a .n) (a .store .now) (length (a .out .now)) (a .index) (decided (c .before))
 
@@ -44,7 +44,7 @@ returns-2 c =
     marshalls-put (marshallValOf (a .grammar .now) (a .rows .now) (a .n) (a .store .now) (length (a .out .now)) (a .index)) (a .index) (a .out .now)
     (sized (c .before .before .before .before .before .size .given .1) (c .before .before .before .before .before .before .before .size-to-write .ensures))
     (w .decided)
-    (c .before .before .put-rows .ensures ∙ ap (put (a .out .now) (a .index)) (table-bytes (a .rows .now) (a .n) (a .store .now) (w .value) (w .table)))
+    (c .before .before .marshall-rows .ensures ∙ ap (put (a .out .now) (a .index)) (table-bytes (a .rows .now) (a .n) (a .store .now) (w .value) (w .table)))
 
 pub marshall-val-spec : {M : Type 1} → statement M
 marshall-val-spec =
@@ -53,7 +53,7 @@ marshall-val-spec =
     size-to-write-requires
     enum-known-r
     enum-known-size
-    put-rows-requires
+    marshall-rows-requires
     returns
     same-length
     returns-2)

@@ -16,8 +16,8 @@ use Rattle.rows.specs.Walk.{keepsRule, withinStore}
 use Rattle.rows.specs.Size.{ownBytes, ownSize}
 use Rattle.rows.proofs.Laws.{none-of}
 use borrow.Author.Needs.{needs}
-use Rattle.writing.proofs.put_row.Statement.{statement}
-use Rattle.writing.proofs.put_row.Tie as tie
+use Rattle.writing.proofs.marshall_row.Statement.{statement}
+use Rattle.writing.proofs.marshall_row.Tie as tie
 
 -- behind the reads: the row, and the output before it
 abbrev this : tie.After-word3-at → Row
@@ -64,37 +64,37 @@ word2-at-requires c κs = search needs
 word3-at-requires : tie.Need-word3-at-requires
 word3-at-requires c κs = search needs
 
-cast-put-uint32 : tie.Need-cast-put-uint32
+cast-marshall-uint32 : tie.Need-cast-marshall-uint32
 unfolding kindOf kinds ownBytes
-cast-put-uint32 c = omega (arith, number-fits (c .before) (class (c .before) (c .match .keys2)))
+cast-marshall-uint32 c = omega (arith, number-fits (c .before) (class (c .before) (c .match .keys2)))
 
-put-uint32-requires : tie.Need-put-uint32-requires
+marshall-uint32-requires : tie.Need-marshall-uint32-requires
 unfolding kindOf kinds ownBytes
-put-uint32-requires c κs = room (c .before .before) (class (c .before .before) (c .before .match .keys2))
+marshall-uint32-requires c κs = room (c .before .before) (class (c .before .before) (c .before .match .keys2))
 
-put-uint64-requires : tie.Need-put-uint64-requires
+marshall-uint64-requires : tie.Need-marshall-uint64-requires
 unfolding kindOf kinds ownBytes
-put-uint64-requires c κs = room (c .before .before) (class (c .before .before) (c .before .match .keys3))
+marshall-uint64-requires c κs = room (c .before .before) (class (c .before .before) (c .before .match .keys3))
 
-put-uint64-requires-2 : tie.Need-put-uint64-requires-2
+marshall-uint64-requires-2 : tie.Need-marshall-uint64-requires-2
 unfolding kindOf kinds ownBytes
-put-uint64-requires-2 c κs = room (c .before .before) (class (c .before .before) (c .before .match .keys4))
+marshall-uint64-requires-2 c κs = room (c .before .before) (class (c .before .before) (c .before .match .keys4))
 
-put-elements-requires : tie.Need-put-elements-requires
+marshall-elements-requires : tie.Need-marshall-elements-requires
 unfolding kindOf kinds ownBytes
-put-elements-requires c κs = elements-fit (c .before .before) bytes (class (c .before .before) (c .before .match .keys6))
+marshall-elements-requires c κs = elements-fit (c .before .before) bytes (class (c .before .before) (c .before .match .keys6))
 
-put-elements-requires-2 : tie.Need-put-elements-requires-2
+marshall-elements-requires-2 : tie.Need-marshall-elements-requires-2
 unfolding kindOf kinds ownBytes
-put-elements-requires-2 c κs = elements-fit (c .before .before) uint32s (class (c .before .before) (c .before .match .keys7))
+marshall-elements-requires-2 c κs = elements-fit (c .before .before) uint32s (class (c .before .before) (c .before .match .keys7))
 
-put-elements-requires-3 : tie.Need-put-elements-requires-3
+marshall-elements-requires-3 : tie.Need-marshall-elements-requires-3
 unfolding kindOf kinds ownBytes
-put-elements-requires-3 c κs = elements-fit (c .before .before) uint64s (class (c .before .before) (c .before .match .keys8))
+marshall-elements-requires-3 c κs = elements-fit (c .before .before) uint64s (class (c .before .before) (c .before .match .keys8))
 
-put-uint64-requires-3 : tie.Need-put-uint64-requires-3
+marshall-uint64-requires-3 : tie.Need-marshall-uint64-requires-3
 unfolding kindOf kinds ownBytes
-put-uint64-requires-3 c κs = room (c .before .before) (class (c .before .before) (c .before .match .keys9))
+marshall-uint64-requires-3 c κs = room (c .before .before) (class (c .before .before) (c .before .match .keys9))
 
 returns : tie.Need-returns
 unfolding kindOf kinds ownBytes
@@ -105,21 +105,21 @@ same-length c = search needs
 
 returns-2 : tie.Need-returns-2
 unfolding kindOf kinds ownBytes
-returns-2 c = arm (c .before .before .before .before .before) (class (c .before .before .before .before .before) (c .before .before .before .before .match .keys2)) (rw (c .before .before .before .before .before .before .word2-at .ensures) at (c .before .before .put-uint32 .ensures))
+returns-2 c = arm (c .before .before .before .before .before) (class (c .before .before .before .before .before) (c .before .before .before .before .match .keys2)) (rw (c .before .before .before .before .before .before .word2-at .ensures) at (c .before .before .marshall-uint32 .ensures))
 
 same-length-2 : tie.Need-same-length-2
 same-length-2 c = search needs
 
 returns-3 : tie.Need-returns-3
 unfolding kindOf kinds ownBytes
-returns-3 c = arm (c .before .before .before .before .before) (class (c .before .before .before .before .before) (c .before .before .before .before .match .keys3)) (rw (c .before .before .before .before .before .before .word2-at .ensures) at (c .before .before .put-uint64 .ensures))
+returns-3 c = arm (c .before .before .before .before .before) (class (c .before .before .before .before .before) (c .before .before .before .before .match .keys3)) (rw (c .before .before .before .before .before .before .word2-at .ensures) at (c .before .before .marshall-uint64 .ensures))
 
 same-length-3 : tie.Need-same-length-3
 same-length-3 c = search needs
 
 returns-4 : tie.Need-returns-4
 unfolding kindOf kinds ownBytes
-returns-4 c = arm (c .before .before .before .before .before) (class (c .before .before .before .before .before) (c .before .before .before .before .match .keys4)) (rw (c .before .before .before .before .before .before .word2-at .ensures) at (c .before .before .put-uint642 .ensures))
+returns-4 c = arm (c .before .before .before .before .before) (class (c .before .before .before .before .before) (c .before .before .before .before .match .keys4)) (rw (c .before .before .before .before .before .before .word2-at .ensures) at (c .before .before .marshall-uint642 .ensures))
 
 returns-5 : tie.Need-returns-5
 unfolding kindOf kinds ownBytes
@@ -130,48 +130,48 @@ same-length-4 c = search needs
 
 returns-6 : tie.Need-returns-6
 unfolding kindOf kinds ownBytes
-returns-6 c = arm (c .before .before .before .before .before) (class (c .before .before .before .before .before) (c .before .before .before .before .match .keys6)) (rw (c .before .before .before .before .before .word3-at .ensures, c .before .before .before .before .before .before .word2-at .ensures) at (c .before .before .put-elements .ensures))
+returns-6 c = arm (c .before .before .before .before .before) (class (c .before .before .before .before .before) (c .before .before .before .before .match .keys6)) (rw (c .before .before .before .before .before .word3-at .ensures, c .before .before .before .before .before .before .word2-at .ensures) at (c .before .before .marshall-elements .ensures))
 
 same-length-5 : tie.Need-same-length-5
 same-length-5 c = search needs
 
 returns-7 : tie.Need-returns-7
 unfolding kindOf kinds ownBytes
-returns-7 c = arm (c .before .before .before .before .before) (class (c .before .before .before .before .before) (c .before .before .before .before .match .keys7)) (rw (c .before .before .before .before .before .word3-at .ensures, c .before .before .before .before .before .before .word2-at .ensures) at (c .before .before .put-elements2 .ensures))
+returns-7 c = arm (c .before .before .before .before .before) (class (c .before .before .before .before .before) (c .before .before .before .before .match .keys7)) (rw (c .before .before .before .before .before .word3-at .ensures, c .before .before .before .before .before .before .word2-at .ensures) at (c .before .before .marshall-elements2 .ensures))
 
 same-length-6 : tie.Need-same-length-6
 same-length-6 c = search needs
 
 returns-8 : tie.Need-returns-8
 unfolding kindOf kinds ownBytes
-returns-8 c = arm (c .before .before .before .before .before) (class (c .before .before .before .before .before) (c .before .before .before .before .match .keys8)) (rw (c .before .before .before .before .before .word3-at .ensures, c .before .before .before .before .before .before .word2-at .ensures) at (c .before .before .put-elements3 .ensures))
+returns-8 c = arm (c .before .before .before .before .before) (class (c .before .before .before .before .before) (c .before .before .before .before .match .keys8)) (rw (c .before .before .before .before .before .word3-at .ensures, c .before .before .before .before .before .before .word2-at .ensures) at (c .before .before .marshall-elements3 .ensures))
 
 same-length-7 : tie.Need-same-length-7
 same-length-7 c = search needs
 
 returns-9 : tie.Need-returns-9
 unfolding kindOf kinds ownBytes
-returns-9 c = arm (c .before .before .before .before .before) (class (c .before .before .before .before .before) (c .before .before .before .before .match .keys9)) (rw (c .before .before .before .before .before .before .word2-at .ensures) at (c .before .before .put-uint643 .ensures))
+returns-9 c = arm (c .before .before .before .before .before) (class (c .before .before .before .before .before) (c .before .before .before .before .match .keys9)) (rw (c .before .before .before .before .before .before .word2-at .ensures) at (c .before .before .marshall-uint643 .ensures))
 
 returns-10 : tie.Need-returns-10
 unfolding kindOf kinds ownBytes
 returns-10 c = arm (c .before) (ap kindOf (sym (c .before .before .before .kind-at .ensures)) ∙ none-of (c .before .before .before .kind-at .result) (c .match .rest)) (nothing (c .before))
 
-pub put-row-spec : {M : Type 1} → statement M
-put-row-spec =
+pub marshall-row-spec : {M : Type 1} → statement M
+marshall-row-spec =
     tie.close
     (tie.spec
     kind-at-requires
     word2-at-requires
     word3-at-requires
-    cast-put-uint32
-    put-uint32-requires
-    put-uint64-requires
-    put-uint64-requires-2
-    put-elements-requires
-    put-elements-requires-2
-    put-elements-requires-3
-    put-uint64-requires-3
+    cast-marshall-uint32
+    marshall-uint32-requires
+    marshall-uint64-requires
+    marshall-uint64-requires-2
+    marshall-elements-requires
+    marshall-elements-requires-2
+    marshall-elements-requires-3
+    marshall-uint64-requires-3
     returns
     same-length
     returns-2

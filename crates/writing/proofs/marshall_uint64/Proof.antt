@@ -1,8 +1,8 @@
 use mathlib.Core.Path.{refl}
 use Rattle.writing.proofs.Put.{number-put}
 use borrow.Author.Needs.{needs}
-use Rattle.writing.proofs.put_uint64.Statement.{statement}
-use Rattle.writing.proofs.put_uint64.Tie as tie
+use Rattle.writing.proofs.marshall_uint64.Statement.{statement}
+use Rattle.writing.proofs.marshall_uint64.Tie as tie
 
 pack-little-endian-uint64-into-array-requires : tie.Need-pack-little-endian-uint64-into-array-requires
 pack-little-endian-uint64-into-array-requires c κs = search needs
@@ -18,5 +18,5 @@ returns c =
     let s = c .before .before .before .before .before in
     (refl, number-put 8 (s .args .n) (s .args .out .now) (s .args .index) (s .pre) (c .before .before .pack-little-endian-uint64-into-array .ensures))
 
-pub put-uint64-spec : {M : Type 1} → statement M
-put-uint64-spec = tie.close (tie.spec pack-little-endian-uint64-into-array-requires add-result same-length returns)
+pub marshall-uint64-spec : {M : Type 1} → statement M
+marshall-uint64-spec = tie.close (tie.spec pack-little-endian-uint64-into-array-requires add-result same-length returns)

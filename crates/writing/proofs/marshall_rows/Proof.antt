@@ -9,8 +9,8 @@ use Rattle.rows.specs.Size.{bytesFrom, sizeFrom}
 use Rattle.rows.proofs.Size.{size-none, size-next}
 use Rattle.writing.proofs.Put.{size-within, bytes-none, rows-next}
 use borrow.Author.Needs.{needs}
-use Rattle.writing.proofs.put_rows.Statement.{statement}
-use Rattle.writing.proofs.put_rows.Tie as tie
+use Rattle.writing.proofs.marshall_rows.Statement.{statement}
+use Rattle.writing.proofs.marshall_rows.Tie as tie
 
 abbrev Inv-loop : tie.InvT-loop
 Inv-loop rows n store out₀ index at₀ i₀ out at i = (i ≤ n) × (at ≡ index + sizeFrom rows 0 i) × (out ≡ put out₀ index (bytesFrom rows store 0 i)) × (length out ≡ length out₀)
@@ -23,8 +23,8 @@ loop-holds c =
     let a = c .before .before .before .args in
     (omega arith, omega (arith, size-none (a .rows .now) 0), sym (ap (put (a .out .now) (a .index)) (bytes-none (a .rows .now) (a .store .now) 0) ∙ put-nothing (a .out .now) (a .index)), refl)
 
-put-row-requires : tie.Need-put-row-requires Inv-loop μ-loop
-put-row-requires c κs =
+marshall-row-requires : tie.Need-marshall-row-requires Inv-loop μ-loop
+marshall-row-requires c κs =
     let s = c .before .before .before .before .before .before in
     let l = c .before .before .loop in
     (omega (arith, s .pre .0), s .pre .1 (l .i) (c .before .loop-test .taken), omega (arith, s .pre .2, size-within (s .args .rows .now) (s .args .store .now) (l .i) (s .args .n) (c .before .loop-test .taken)))
@@ -40,7 +40,7 @@ loop-again c =
     let s = c .before .before .before .before .before .before .before .before .before in
     let a = s .args in
     let l = c .before .before .before .before .before .loop in
-    let q = c .before .before .put-row in
+    let q = c .before .before .marshall-row in
     let r = rows-next (a .rows .now) (a .store .now) (a .n) (a .out .now) (a .index) (s .pre .1) (s .pre .2) (l .out) _ (l .at) (l .i) (c .before .before .before .before .loop-test .taken) (l .inv .1) (l .inv .2) (q .ensures .1) in
     (omega arith, omega (arith, q .ensures .0, size-next (a .rows .now) (l .i)), r .0, r .1)
 
@@ -53,14 +53,14 @@ returns c =
     let e : c .before .loop .i ≡ a .n = omega arith in
     c .before .loop .inv .2 ∙ ap (λ (i : ℕ). put (a .out .now) (a .index) (bytesFrom (a .rows .now) (a .store .now) 0 i)) e
 
-pub put-rows-spec : {M : Type 1} → statement M
-put-rows-spec =
+pub marshall-rows-spec : {M : Type 1} → statement M
+marshall-rows-spec =
     tie.close
     (tie.spec
     Inv-loop
     μ-loop
     loop-holds
-    put-row-requires
+    marshall-row-requires
     add-i
     loop-less
     loop-again

@@ -7,11 +7,11 @@ use lib.Seq.{length-take-le}
 use Rattle.packed.specs.Packed.{packLittleEndian, put}
 use Rattle.writing.proofs.Put.{count-put}
 use borrow.Author.Needs.{needs}
-use Rattle.writing.proofs.put_elements.Statement.{statement}
-use Rattle.writing.proofs.put_elements.Tie as tie
+use Rattle.writing.proofs.marshall_elements.Statement.{statement}
+use Rattle.writing.proofs.marshall_elements.Tie as tie
 
-put-uint64-requires : tie.Need-put-uint64-requires
-put-uint64-requires c κs = search needs
+marshall-uint64-requires : tie.Need-marshall-uint64-requires
+marshall-uint64-requires c κs = search needs
 
 mul-size : tie.Need-mul-size
 mul-size c = search needs
@@ -45,17 +45,17 @@ returns c =
     let m = a .place + n - a .place in
     let e : m ≡ n = omega arith in
     let l : length (take m (drop (a .place) (a .store .now))) ≡ m = length-take-le m (drop (a .place) (a .store .now)) (rw length-drop (omega arith)) in
-    let u = c .before .before .before .before .before .before .before .put-uint64 in (
+    let u = c .before .before .before .before .before .before .before .marshall-uint64 in (
       omega (arith, u .ensures .0),
       count-put (a .out .now) _ (a .index) (u .result) (a .count) (take m (drop (a .place) (a .store .now))) (omega arith) (u .ensures .0) (u .ensures .1) (c .before .before .copy-seq-into-array .ensures)
           ∙ ap (λ (k : ℕ). put (a .out .now) (a .index) (packLittleEndian 8 (a .count) ++ take k (drop (a .place) (a .store .now)))) e,
     )
 
-pub put-elements-spec : {M : Type 1} → statement M
-put-elements-spec =
+pub marshall-elements-spec : {M : Type 1} → statement M
+marshall-elements-spec =
     tie.close
     (tie.spec
-    put-uint64-requires
+    marshall-uint64-requires
     mul-size
     add-end
     sub-copy-seq-into-array
