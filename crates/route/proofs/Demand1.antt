@@ -212,7 +212,7 @@ module _ (capacity : ℕ) (d : List ℕ) where
   unfolding readWhole
   whole-only g = only-bind _ (value-only endNumbers refl g (start 0)) (λ t. only-test (eqb (t .state .at) (length d)) _ _ (recordEnd (t .state .at), refl) (gives _))
 
--- behind the grammar's check
+-- of what comes behind the grammar's check
 behind-only : (ms ns : List ℕ) → among ns 6 ≡ true → allAmong ms ns ≡ true → (d : List ℕ) (x : Unit {0} → Reading Val) → Only (Stopped ms) (x tt) → Only (Named ns) (test (leb (length d) 1048576) (reason 6 (byte 0)) (λ _. withoutState (x tt)))
 behind-only ms ns h i d x o = only-test (leb (length d) 1048576) _ _ (byteSlice, h) (only-more ms ns i (go (x tt) o))
   where
@@ -237,6 +237,7 @@ rewrite-only g d capacity len index = only-bind _ (only-more packerNumbers rewri
 
 -- ---- two records
 
+-- the value of an accepted outcome is its own
 known : {E A : Type 0} {Q : E → Type 0} {x : Outcome E A} → Only Q x → Post (λ a. x ≡ accepted a) Q x
 known (holds a p) = holds a refl
 known (fails e q) = fails e q
@@ -245,6 +246,7 @@ naming-post : {A : Type 0} {P : A → Type 0} {Q : Reason → Type 0} {R : Named
 naming-post name f (holds a p) = holds a p
 naming-post name f (fails e q) = fails (name e) (f e q)
 
+-- of a record under a grammar that passes
 record-only : (g d : List ℕ) → checkGrammar g ≡ accepted tt → Only (Named recordNumbers) (demarshallOf g d 4096)
 unfolding demarshallOf
 record-only g d h = rw h (behind-only endNumbers recordNumbers refl refl d (λ _. readWhole 4096 d (treeOf g 0)) (whole-only 4096 d (treeOf g 0)))

@@ -1,5 +1,5 @@
-// The demands: statements in specs/, their proofs in proofs/. And calls made of the others: a record read and written again, and two
-// records compared.
+// The demands and the bench examples: statements in specs/, their proofs in proofs/. And calls made of the other crates' calls: a record
+// read and written again, and two records compared.
 ghost use mathlib.Core.Path.{_≡_};
 ghost use mathlib.Core.Bool.{true};
 ghost use mathlib.Core.Logic.{_↔_};
