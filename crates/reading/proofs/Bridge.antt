@@ -1,10 +1,11 @@
 -- The calls beside GM's definitions: what `parse_val` accepts is what `parse_Val` parses, and `demarshall` accepts exactly what is
 -- `Demarshallable`, where none of 1 to 8 is given.
-use mathlib.Core.Path.{_≡_, refl, sym, ap, _∙_}
+use mathlib.Core.Path.{_≡_, refl, sym, ap, subst, _∙_}
 use mathlib.Core.Bool.{Bool, true, false}
 use mathlib.Core.Option.{none, some}
-use mathlib.Core.List.{List, []}
+use mathlib.Core.List.{List, [], _++_}
 use Prim.Native.Nat.{ℕ, _^_, _≤_, _<_}
+use native.Mathlib.Nat.{zero-add}
 use native.Mathlib.Omega.{arith}
 use native.Mathlib.Decide.{decLe}
 use lib.ListN.{length, drop}
@@ -24,6 +25,9 @@ use Rattle.grammar.specs.Rule.{FirstRefusal, first1, first2, first3, first4, fi
 use Rattle.grammar.specs.Tree.{treeOf}
 use Rattle.grammar.proofs.Rule.{refused-exactly}
 use Rattle.grammar.proofs.Tree.{tree-valid}
+use Rattle.rows.specs.Layout.{rowsOf}
+use Rattle.rows.specs.Rule.{TableOf}
+use Rattle.rows.proofs.LayoutLaws.{layout-table}
 use Rattle.reading.specs.Calls.{withoutState, guarded, parseValOf, demarshallOf}
 use Rattle.reading.proofs.Calls.{withoutState-accepted, parse-accepted, admitted}
 
@@ -79,6 +83,15 @@ module _ (g d : List ℕ) (index capacity : ℕ) where
       let a = parse-accepted g d index capacity t h in
       let x = read-accepted capacity d (treeOf g 0) (start index) (admitted g d index (a .0) .2) (tree-valid g w 0) b t (a .1) in
       (x .0, omega (arith, x .1), x .2)
+
+  -- the rows laid out, whatever follows them, are a table of the value with the record as store, so the walk gives it back
+  pub parse-table : Below (2 ^ 32) g → Bytes d → capacity ≤ 4096 → (t : Step State Val) → parseValOf g d index capacity ≡ accepted t → (more : List ℕ) → TableOf (rowsOf (t .value) index ++ more) (t .state .begun) d (t .value)
+  parse-table w b l t h more =
+      let a = parse-accepted g d index capacity t h in
+      let x = parse-stands w b t h in
+      let n : t .state .begun ≡ rowCount (t .value) = ap (λ (u : Step State Val). u .state .begun) (x .2) ∙ zero-add (rowCount (t .value)) in
+      subst (λ (k : ℕ). TableOf (rowsOf (t .value) index ++ more) k d (t .value)) (sym n)
+      (layout-table (t .value) index more d (omega (arith, x .1)) (admitted g d index (a .0) .1) (x .0 .ofGrammar .valid) (x .0 .ofGrammar .typed) (x .0 .bytes))
 
   -- it ends within the record
   pub parse-inside : (t : Step State Val) → parseValOf g d index capacity ≡ accepted t → t .state .at ≤ length d
