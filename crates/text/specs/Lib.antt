@@ -1,0 +1,4 @@
+pub mod Digits
+pub mod Text
+pub mod Layout
+pub mod Show
