@@ -1,5 +1,13 @@
+-- A number from 10 on has the digits of its tenth before its last: the measure is the number.
+use mathlib.Core.Path.{ap}
+use mathlib.Core.List.{[], _∷_}
+use native.Mathlib.Omega.{arith}
+use lib.ListN.{length}
+use Rattle.text.specs.Digits.{digit, digits}
+use Rattle.text.proofs.Digits.{digits-one, digits-more}
+use Rattle.text.proofs.Puts.{room-first, room-then, puts-then}
 use borrow.Author.Needs.{needs}
-use Prim.Native.Nat.{ℕ, _<_}
+use Prim.Native.Nat.{ℕ, _/_, _%_, _<_}
 use borrow.Fn.Kinds.{In}
 use borrow.Fn.PlainCycle.{Measures, is, falls, and}
 use Rattle.text.proofs.put_digits.Reads as put-digits
@@ -10,7 +18,7 @@ use Rattle.text.proofs.+put_digits.{statement}
 use Rattle.text.proofs.+put_digits.Tie.{close}
 
 abbrev μ-put-digits : Measures 1 put-digits-kinds.ps ℕ
-μ-put-digits κs a = ?
+μ-put-digits κs a = a .0
 
 abbrev put-digits-at : ℕ → In 1 put-digits-kinds.ps
 put-digits-at t =
@@ -20,112 +28,58 @@ abbrev put-digits-below : ℕ → In 1 put-digits-kinds.ps
 put-digits-below t =
     and 1 put-digits-kinds.ps (falls 1 put-digits-kinds.ps _<_ μ-put-digits t) put-digits.Pre
 
--- src/lib.rt:31:30
-put-digits-cast-put-byte : (t : ℕ) → put-digits-lts.Need-cast-put-byte (
-  put-byte-reads.Asked,
-  put-byte-reads.Learnt,
-  put-digits-below t,
-  put-digits.Post,
-) (put-digits-at t) put-digits.Post
+abbrev put-digits-calls : ℕ → put-digits-lts.Claims
+put-digits-calls t = (put-byte-reads.Asked, put-byte-reads.Learnt, put-digits-below t, put-digits.Post)
+
+put-digits-cast-put-byte : (t : ℕ) → put-digits-lts.Need-cast-put-byte (put-digits-calls t) (put-digits-at t) put-digits.Post
 put-digits-cast-put-byte t c = search needs
 
--- src/lib.rt:31:25
-put-digits-add-put-byte : (t : ℕ) → put-digits-lts.Need-add-put-byte (
-  put-byte-reads.Asked,
-  put-byte-reads.Learnt,
-  put-digits-below t,
-  put-digits.Post,
-) (put-digits-at t) put-digits.Post
+put-digits-add-put-byte : (t : ℕ) → put-digits-lts.Need-add-put-byte (put-digits-calls t) (put-digits-at t) put-digits.Post
 put-digits-add-put-byte t c = search needs
 
--- src/lib.rt:31:9
-put-digits-put-byte-requires : (t : ℕ) → put-digits-lts.Need-put-byte-requires (
-  put-byte-reads.Asked,
-  put-byte-reads.Learnt,
-  put-digits-below t,
-  put-digits.Post,
-) (put-digits-at t) put-digits.Post
-put-digits-put-byte-requires t c κs = search needs
+put-digits-put-byte-requires : (t : ℕ) → put-digits-lts.Need-put-byte-requires (put-digits-calls t) (put-digits-at t) put-digits.Post
+put-digits-put-byte-requires t c κs =
+    let s = c .before .before .before in
+    omega (arith, s .pre .1, ap length (digits-one (s .args .n) (c .before .if1 .taken)))
 
--- src/lib.rt:31:9
-put-digits-same-length : (t : ℕ) → put-digits-lts.Need-same-length (
-  put-byte-reads.Asked,
-  put-byte-reads.Learnt,
-  put-digits-below t,
-  put-digits.Post,
-) (put-digits-at t) put-digits.Post
+put-digits-same-length : (t : ℕ) → put-digits-lts.Need-same-length (put-digits-calls t) (put-digits-at t) put-digits.Post
 put-digits-same-length t c = search needs
 
--- src/lib.rt:31:9
-put-digits-returns : (t : ℕ) → put-digits-lts.Need-returns (
-  put-byte-reads.Asked,
-  put-byte-reads.Learnt,
-  put-digits-below t,
-  put-digits.Post,
-) (put-digits-at t) put-digits.Post
-put-digits-returns t c = search needs
+put-digits-returns : (t : ℕ) → put-digits-lts.Need-returns (put-digits-calls t) (put-digits-at t) put-digits.Post
+put-digits-returns t c =
+    let s = c .before .before .before .before .before .before in
+    rw (digits-one (s .args .n) (c .before .before .before .before .if1 .taken)) (c .before .before .put-byte .ensures)
 
--- src/lib.rt:33:9
-put-digits-put-digits-requires : (t : ℕ) → put-digits-lts.Need-put-digits-requires (
-  put-byte-reads.Asked,
-  put-byte-reads.Learnt,
-  put-digits-below t,
-  put-digits.Post,
-) (put-digits-at t) put-digits.Post
-put-digits-put-digits-requires t c κs = search needs
+put-digits-put-digits-requires : (t : ℕ) → put-digits-lts.Need-put-digits-requires (put-digits-calls t) (put-digits-at t) put-digits.Post
+put-digits-put-digits-requires t c κs =
+    let s = c .before .before .before in
+    let n = s .args .n in
+    (omega (arith, s .pre .0), room-first (digits (n / 10)) (digit (n % 10) ∷ []) (s .args .index) (s .args .out .now) (rw (digits-more n (c .before .if1 .left)) at (s .pre .1)))
 
--- src/lib.rt:34:19
-put-digits-cast-put-byte-2 : (t : ℕ) → put-digits-lts.Need-cast-put-byte-2 (
-  put-byte-reads.Asked,
-  put-byte-reads.Learnt,
-  put-digits-below t,
-  put-digits.Post,
-) (put-digits-at t) put-digits.Post
+put-digits-cast-put-byte-2 : (t : ℕ) → put-digits-lts.Need-cast-put-byte-2 (put-digits-calls t) (put-digits-at t) put-digits.Post
 put-digits-cast-put-byte-2 t c = search needs
 
--- src/lib.rt:34:14
-put-digits-add-put-byte-2 : (t : ℕ) → put-digits-lts.Need-add-put-byte-2 (
-  put-byte-reads.Asked,
-  put-byte-reads.Learnt,
-  put-digits-below t,
-  put-digits.Post,
-) (put-digits-at t) put-digits.Post
+put-digits-add-put-byte-2 : (t : ℕ) → put-digits-lts.Need-add-put-byte-2 (put-digits-calls t) (put-digits-at t) put-digits.Post
 put-digits-add-put-byte-2 t c = search needs
 
--- src/lib.rt:34:5
-put-digits-put-byte-requires-2 : (t : ℕ) → put-digits-lts.Need-put-byte-requires-2 (
-  put-byte-reads.Asked,
-  put-byte-reads.Learnt,
-  put-digits-below t,
-  put-digits.Post,
-) (put-digits-at t) put-digits.Post
-put-digits-put-byte-requires-2 t c κs = search needs
+put-digits-put-byte-requires-2 : (t : ℕ) → put-digits-lts.Need-put-byte-requires-2 (put-digits-calls t) (put-digits-at t) put-digits.Post
+put-digits-put-byte-requires-2 t c κs =
+    let s = c .before .before .before .before .before .before .before in
+    let n = s .args .n in
+    room-then (digits (n / 10)) (digit (n % 10) ∷ []) (s .args .index) (s .args .out .now) (rw (digits-more n (c .before .before .before .before .before .if1 .left)) at (s .pre .1)) (c .before .before .before .put-digits .ensures)
 
--- src/lib.rt:26:1
-put-digits-same-length-2 : (t : ℕ) → put-digits-lts.Need-same-length-2 (
-  put-byte-reads.Asked,
-  put-byte-reads.Learnt,
-  put-digits-below t,
-  put-digits.Post,
-) (put-digits-at t) put-digits.Post
+put-digits-same-length-2 : (t : ℕ) → put-digits-lts.Need-same-length-2 (put-digits-calls t) (put-digits-at t) put-digits.Post
 put-digits-same-length-2 t c = search needs
 
--- src/lib.rt:26:1
-put-digits-returns-2 : (t : ℕ) → put-digits-lts.Need-returns-2 (
-  put-byte-reads.Asked,
-  put-byte-reads.Learnt,
-  put-digits-below t,
-  put-digits.Post,
-) (put-digits-at t) put-digits.Post
-put-digits-returns-2 t c = search needs
+put-digits-returns-2 : (t : ℕ) → put-digits-lts.Need-returns-2 (put-digits-calls t) (put-digits-at t) put-digits.Post
+put-digits-returns-2 t c =
+    let s = c .before .before .before .before .before .before .before .before .before .before in
+    let n = s .args .n in
+    let l = c .before .before .before .before .before .before .before .before .if1 .left in
+    rw (digits-more n l) (puts-then (digits (n / 10)) (digit (n % 10) ∷ []) (s .args .index) (s .args .out .now) (rw (digits-more n l) at (s .pre .1)) (c .before .before .before .before .before .before .put-digits .ensures) (c .before .before .put-byte2 .ensures))
 
 pub +put-digits-spec : {M : Type 1} → statement M
-+put-digits-spec = close μ-put-digits λ t. put-digits-lts.spec (
-  put-byte-reads.Asked,
-  put-byte-reads.Learnt,
-  put-digits-below t,
-  put-digits.Post,
-)
++put-digits-spec = close μ-put-digits λ t. put-digits-lts.spec (put-digits-calls t)
     (put-digits-at t)
     put-digits.Post
     (put-digits-cast-put-byte t)

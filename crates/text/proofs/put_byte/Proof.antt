@@ -1,3 +1,4 @@
+use Rattle.text.proofs.Puts.{puts-byte}
 use borrow.Author.Needs.{needs}
 use Rattle.text.proofs.put_byte.Statement.{statement}
 use Rattle.text.proofs.put_byte.Tie as tie
@@ -18,7 +19,7 @@ same-length c = search needs
 
 -- src/lib.rt:17:1
 returns : tie.Need-returns
-returns c = search needs
+returns c = puts-byte (c .args .out .now) (c .args .index) (c .args .b) (c .pre)
 
 pub put-byte-spec : {M : Type 1} → statement M
 put-byte-spec = tie.close (tie.spec slice-write-out add-result same-length returns)
