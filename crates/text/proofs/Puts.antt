@@ -5,27 +5,41 @@ use Prim.Native.Nat.{ℕ, _+_, _≤_}
 use native.Mathlib.Nat.{add-zero}
 use native.Mathlib.Omega.{arith}
 use lib.ListN.{length, set, length-append}
-use Rattle.packed.specs.Packed.{put}
+use borrow.Author.Tests.{le-leb}
+use Rattle.refusal.specs.Outcome.{Outcome, map, contents, Fills, Reason}
+use Rattle.refusal.proofs.Outcome.{test-true}
+use Rattle.packed.specs.Packed.{put, putAt}
 use Rattle.packed.proofs.Put.{length-put, put-nothing, put-next, put-more}
-use Rattle.text.specs.Text.{Puts}
+use Rattle.packed.proofs.Calls.{room-test}
+use Rattle.text.specs.Text.{RoomFor, Puts}
 
 -- one byte
-pub puts-byte : (out : List ℕ) (index b : ℕ) → index + 1 ≤ length out → Puts (b ∷ []) index (index + 1) out (set out index b)
+pub puts-byte : (out : List ℕ) (index b : ℕ) → RoomFor (b ∷ []) index out → Puts (b ∷ []) index (index + 1) out (set out index b)
 puts-byte out index b h = record {
   behind = refl;
-  output = ap (λ (k : ℕ). set out k b) (sym (add-zero index)) ∙ put-next out out index 0 b [] (sym (put-nothing out index)) refl (omega arith);
+  output = ap (λ (k : ℕ). set out k b) (sym (add-zero index)) ∙ put-next out out index 0 b [] (sym (put-nothing out index)) refl (omega (arith, h .within));
 }
 
-module _ (xs ys : List ℕ) (index : ℕ) (out : List ℕ) (h : index + length (xs ++ ys) ≤ length out) where
-  pub room-first : index + length xs ≤ length out
-  room-first = omega (arith, simp length-append at h)
+-- a run of bytes, which `copy_seq_into_array` puts
+pub puts-copy : (bs out : List ℕ) (index : ℕ) {answer : Outcome Reason (Unit {0})} {exit : List ℕ} → RoomFor bs index out → Fills (putAt out index bs) answer out exit → Puts bs index (index + length bs) out exit
+puts-copy bs out index h f = record {
+  behind = refl;
+  output = f .buffer ∙ ap (λ (o : Outcome Reason (Unit {0})). contents (map (λ _. put out index bs) o) out) (room-test (length out) index (length bs) ∙ test-true _ _ (le-leb (index + length bs) (length out) (h .within)));
+}
+
+module _ (xs ys : List ℕ) {index : ℕ} {out : List ℕ} (h : RoomFor (xs ++ ys) index out) where
+  both-within : index + length xs + length ys ≤ length out
+  both-within = omega (arith, simp length-append at (h .within))
+
+  pub room-first : RoomFor xs index out
+  room-first = record { within = omega (arith, both-within) }
 
   module _ {at : ℕ} {mid : List ℕ} (p : Puts xs index at out mid) where
-    pub room-then : at + length ys ≤ length mid
-    room-then = rw (p .behind, p .output, length-put out index xs room-first) (omega (arith, simp length-append at h))
+    pub room-then : RoomFor ys at mid
+    room-then = record { within = rw (p .behind, p .output, length-put out index xs (room-first .within)) both-within }
 
     pub puts-then : {next : ℕ} {exit : List ℕ} → Puts ys at next mid exit → Puts (xs ++ ys) index next out exit
-    puts-then {next} {exit} q = record {
+    puts-then q = record {
       behind = q .behind ∙ rw (p .behind, length-append) (omega arith);
-      output = q .output ∙ rw (p .output, p .behind) (put-more out index xs ys (index + length xs) refl (omega (arith, simp length-append at h)));
+      output = q .output ∙ rw (p .output, p .behind) (put-more out index xs ys (index + length xs) refl both-within);
     }

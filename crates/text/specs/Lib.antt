@@ -1,4 +1,4 @@
 pub mod Digits
 pub mod Text
-pub mod Layout
+pub mod Input
 pub mod Show

@@ -10,7 +10,7 @@ use Rattle.value.specs.Reading.{State}
 use Rattle.rows.specs.Layout.{rowsOf}
 use Rattle.reading.specs.Calls.{demarshallOf}
 use Rattle.text.specs.Text.{rowsText, refusalText}
-use Rattle.text.specs.Layout.{layoutOf, grammarOf, recordOf}
+use Rattle.text.specs.Input.{layoutOf, grammarOf, recordOf}
 
 -- the rows with which a record is read
 abbrev pub mostRows : ℕ

@@ -1,7 +1,7 @@
 -- The text that the program prints, in ASCII: the lines of rows, or of a refusal.
 use mathlib.Core.Path.{_≡_}
 use mathlib.Core.List.{List, [], _∷_, _++_}
-use Prim.Native.Nat.{ℕ, zero, suc, _+_}
+use Prim.Native.Nat.{ℕ, zero, suc, _+_, _≤_}
 use lib.ListN.{length}
 use Rattle.refusal.specs.Outcome.{Location, word, byte, row, Reason, reason}
 use Rattle.packed.specs.Packed.{put}
@@ -45,6 +45,10 @@ placeNumber (row n) = n
 -- `refused`, the number, then the place: its kind and its number
 unfoldable pub refusalText : Reason → List ℕ
 refusalText (reason n place) = (114 ∷ 101 ∷ 102 ∷ 117 ∷ 115 ∷ 101 ∷ 100 ∷ space ∷ []) ++ (numeral n space ++ (placeWord place ++ numeral (placeNumber place) newline))
+
+-- the output has room for bytes from an index on
+pub record RoomFor (bs : List ℕ) (index : ℕ) (out : List ℕ) : Type 0 where
+  pub within : index + length bs ≤ length out
 
 -- a function that puts bytes at an index: it gives the index behind them, and all else is as it was
 pub record Puts (bs : List ℕ) (index next : ℕ) (entry exit : List ℕ) : Type 0 where

@@ -1,8 +1,6 @@
 -- A number from 10 on has the digits of its tenth before its last: the measure is the number.
-use mathlib.Core.Path.{ap}
 use mathlib.Core.List.{[], _∷_}
 use native.Mathlib.Omega.{arith}
-use lib.ListN.{length}
 use Rattle.text.specs.Digits.{digit, digits}
 use Rattle.text.proofs.Digits.{digits-one, digits-more}
 use Rattle.text.proofs.Puts.{room-first, room-then, puts-then}
@@ -40,7 +38,7 @@ put-digits-add-put-byte t c = search needs
 put-digits-put-byte-requires : (t : ℕ) → put-digits-lts.Need-put-byte-requires (put-digits-calls t) (put-digits-at t) put-digits.Post
 put-digits-put-byte-requires t c κs =
     let s = c .before .before .before in
-    omega (arith, s .pre .1, ap length (digits-one (s .args .n) (c .before .if1 .taken)))
+    rw (digits-one (s .args .n) (c .before .if1 .taken)) at (s .pre .1)
 
 put-digits-same-length : (t : ℕ) → put-digits-lts.Need-same-length (put-digits-calls t) (put-digits-at t) put-digits.Post
 put-digits-same-length t c = search needs
@@ -54,7 +52,7 @@ put-digits-put-digits-requires : (t : ℕ) → put-digits-lts.Need-put-digits-re
 put-digits-put-digits-requires t c κs =
     let s = c .before .before .before in
     let n = s .args .n in
-    (omega (arith, s .pre .0), room-first (digits (n / 10)) (digit (n % 10) ∷ []) (s .args .index) (s .args .out .now) (rw (digits-more n (c .before .if1 .left)) at (s .pre .1)))
+    (omega (arith, s .pre .0), room-first (digits (n / 10)) (digit (n % 10) ∷ []) (rw (digits-more n (c .before .if1 .left)) at (s .pre .1)))
 
 put-digits-cast-put-byte-2 : (t : ℕ) → put-digits-lts.Need-cast-put-byte-2 (put-digits-calls t) (put-digits-at t) put-digits.Post
 put-digits-cast-put-byte-2 t c = search needs
@@ -66,7 +64,7 @@ put-digits-put-byte-requires-2 : (t : ℕ) → put-digits-lts.Need-put-byte-requ
 put-digits-put-byte-requires-2 t c κs =
     let s = c .before .before .before .before .before .before .before in
     let n = s .args .n in
-    room-then (digits (n / 10)) (digit (n % 10) ∷ []) (s .args .index) (s .args .out .now) (rw (digits-more n (c .before .before .before .before .before .if1 .left)) at (s .pre .1)) (c .before .before .before .put-digits .ensures)
+    room-then (digits (n / 10)) (digit (n % 10) ∷ []) (rw (digits-more n (c .before .before .before .before .before .if1 .left)) at (s .pre .1)) (c .before .before .before .put-digits .ensures)
 
 put-digits-same-length-2 : (t : ℕ) → put-digits-lts.Need-same-length-2 (put-digits-calls t) (put-digits-at t) put-digits.Post
 put-digits-same-length-2 t c = search needs
@@ -76,7 +74,7 @@ put-digits-returns-2 t c =
     let s = c .before .before .before .before .before .before .before .before .before .before in
     let n = s .args .n in
     let l = c .before .before .before .before .before .before .before .before .if1 .left in
-    rw (digits-more n l) (puts-then (digits (n / 10)) (digit (n % 10) ∷ []) (s .args .index) (s .args .out .now) (rw (digits-more n l) at (s .pre .1)) (c .before .before .before .before .before .before .put-digits .ensures) (c .before .before .put-byte2 .ensures))
+    rw (digits-more n l) (puts-then (digits (n / 10)) (digit (n % 10) ∷ []) (rw (digits-more n l) at (s .pre .1)) (c .before .before .before .before .before .before .put-digits .ensures) (c .before .before .put-byte2 .ensures))
 
 pub +put-digits-spec : {M : Type 1} → statement M
 +put-digits-spec = close μ-put-digits λ t. put-digits-lts.spec (put-digits-calls t)

@@ -1,0 +1,59 @@
+use mathlib.Core.Path.{ap, _∙_}
+use Rattle.refusal.specs.Outcome.{refused}
+use Rattle.text.proofs.Input.{matched, layout-long, layout-short, layout-many, layout-record}
+use borrow.Author.Needs.{needs}
+use Rattle.text.proofs.lay_out.Statement.{statement}
+use Rattle.text.proofs.lay_out.Tie as tie
+
+not-laid-out-requires : tie.Need-not-laid-out-requires
+not-laid-out-requires c κs = search needs
+
+returns : tie.Need-returns
+returns c = ap refused (c .not-laid-out .ensures) ∙ layout-long (c .before .before .before .args .input .now) (c .before .if1 .taken)
+
+count-at-requires : tie.Need-count-at-requires
+count-at-requires c κs = search needs
+
+enum-known-r : tie.Need-enum-known-r
+enum-known-r c = search needs
+
+enum-known-words : tie.Need-enum-known-words
+enum-known-words c = search needs
+
+not-laid-out-requires-2 : tie.Need-not-laid-out-requires-2
+not-laid-out-requires-2 c κs = search needs
+
+returns-2 : tie.Need-returns-2
+returns-2 c =
+    ap refused (c .not-laid-out2 .ensures)
+    ∙ layout-many (c .before .before .before .before .before .before .before .before .args .input .now) (c .before .before .before .before .before .before .if1 .left) (matched (c .before .before .before .words .given .1) (c .before .before .before .before .before .count-at .ensures)) (c .before .if2 .taken)
+
+cast-record-after : tie.Need-cast-record-after
+cast-record-after c = search needs
+
+record-after-requires : tie.Need-record-after-requires
+record-after-requires c κs = search needs
+
+returns-3 : tie.Need-returns-3
+returns-3 c = layout-short (c .before .before .before .before .before .before .args .input .now) (c .before .before .before .before .if1 .left) (matched (c .before .r .given .1) (c .before .before .before .count-at .ensures))
+
+returns-4 : tie.Need-returns-4
+returns-4 c =
+    c .record-after .ensures
+    ∙ layout-record (c .before .before .before .before .before .before .before .before .args .input .now) (c .before .before .before .before .before .before .if1 .left) (matched (c .before .before .before .words .given .1) (c .before .before .before .before .before .count-at .ensures)) (c .before .if2 .left)
+
+pub lay-out-spec : {M : Type 1} → statement M
+lay-out-spec =
+    tie.close
+    (tie.spec
+    not-laid-out-requires
+    returns
+    count-at-requires
+    enum-known-r
+    enum-known-words
+    not-laid-out-requires-2
+    returns-2
+    cast-record-after
+    record-after-requires
+    returns-3
+    returns-4)
