@@ -43,3 +43,9 @@ module _ (xs ys : List ℕ) {index : ℕ} {out : List ℕ} (h : RoomFor (xs ++ y
       behind = q .behind ∙ rw (p .behind, length-append) (omega arith);
       output = q .output ∙ rw (p .output, p .behind) (put-more out index xs ys (index + length xs) refl both-within);
     }
+
+pub puts-nothing : (out : List ℕ) (index : ℕ) → Puts [] index index out out
+puts-nothing out index = record { behind = sym (add-zero index); output = sym (put-nothing out index) }
+
+pub puts-length : {bs : List ℕ} {index next : ℕ} {out exit : List ℕ} → RoomFor bs index out → Puts bs index next out exit → length exit ≡ length out
+puts-length {bs} {index} {next} {out} h p = ap length (p .output) ∙ length-put out index bs (h .within)

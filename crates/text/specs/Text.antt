@@ -27,24 +27,26 @@ unfoldable pub linesOf : List ℕ → ℕ → List ℕ
 linesOf t zero = []
 linesOf t (suc n) = linesOf t n ++ line (rowAt t n)
 
--- `rows N`, then the rows
+-- `rows ` and `refused `
+abbrev pub rowsWord : List ℕ
+rowsWord = 114 ∷ 111 ∷ 119 ∷ 115 ∷ space ∷ []
+
+abbrev pub refusedWord : List ℕ
+refusedWord = 114 ∷ 101 ∷ 102 ∷ 117 ∷ 115 ∷ 101 ∷ 100 ∷ space ∷ []
+
+-- the row count, then the rows
 unfoldable pub rowsText : List ℕ → ℕ → List ℕ
-rowsText t n = (114 ∷ 111 ∷ 119 ∷ 115 ∷ space ∷ []) ++ (numeral n newline ++ linesOf t n)
+rowsText t n = rowsWord ++ (numeral n newline ++ linesOf t n)
 
--- `word`, `byte` or `row`
-unfoldable pub placeWord : Location → List ℕ
-placeWord (word n) = 119 ∷ 111 ∷ 114 ∷ 100 ∷ space ∷ []
-placeWord (byte n) = 98 ∷ 121 ∷ 116 ∷ 101 ∷ space ∷ []
-placeWord (row n) = 114 ∷ 111 ∷ 119 ∷ space ∷ []
+-- a place: `word `, `byte ` or `row `, and its number
+unfoldable pub placeText : Location → List ℕ
+placeText (word n) = (119 ∷ 111 ∷ 114 ∷ 100 ∷ space ∷ []) ++ numeral n newline
+placeText (byte n) = (98 ∷ 121 ∷ 116 ∷ 101 ∷ space ∷ []) ++ numeral n newline
+placeText (row n) = (114 ∷ 111 ∷ 119 ∷ space ∷ []) ++ numeral n newline
 
-abbrev pub placeNumber : Location → ℕ
-placeNumber (word n) = n
-placeNumber (byte n) = n
-placeNumber (row n) = n
-
--- `refused`, the number, then the place: its kind and its number
+-- the line of a refusal: its number, then its place
 unfoldable pub refusalText : Reason → List ℕ
-refusalText (reason n place) = (114 ∷ 101 ∷ 102 ∷ 117 ∷ 115 ∷ 101 ∷ 100 ∷ space ∷ []) ++ (numeral n space ++ (placeWord place ++ numeral (placeNumber place) newline))
+refusalText (reason n place) = refusedWord ++ (numeral n space ++ placeText place)
 
 -- the output has room for bytes from an index on
 pub record RoomFor (bs : List ℕ) (index : ℕ) (out : List ℕ) : Type 0 where

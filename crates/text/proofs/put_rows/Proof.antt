@@ -1,43 +1,58 @@
+-- The loop's invariant: exactly the lines of the first i rows are put.
+use mathlib.Core.Path.{_≡_, subst}
+use Prim.Native.Nat.{ℕ, _+_, _-_, _≤_}
+use native.Mathlib.Omega.{arith}
+use Rattle.rows.specs.Row.{rowAt}
+use Rattle.text.specs.Text.{line, linesOf, Puts}
+use Rattle.text.proofs.Puts.{room-then, puts-then, puts-length}
+use Rattle.text.proofs.Lines.{lines-none, lines-next, lines-room}
 use borrow.Author.Needs.{needs}
 use Rattle.text.proofs.put_rows.Statement.{statement}
 use Rattle.text.proofs.put_rows.Tie as tie
-use Rattle.text.proofs.put_rows.Reads as reads
-use Rattle.text.proofs.put_rows.Lts as lts
-use Rattle.text.proofs.put_row.Reads as put-row-reads
 
 abbrev Inv-loop : tie.InvT-loop
-Inv-loop rows n out₀ index at₀ i₀ out at i = ?
+Inv-loop rows n out₀ index at₀ i₀ out at i = (i ≤ n) × Puts (linesOf rows i) index at out₀ out
 
 abbrev μ-loop : tie.MeasureT-loop
-μ-loop rows n out₀ index at₀ i₀ out at i = ?
+μ-loop rows n out₀ index at₀ i₀ out at i = n - i
 
--- src/lib.rt:146:5
 loop-holds : tie.Need-loop-holds Inv-loop μ-loop
-loop-holds c = search needs
+loop-holds c =
+    let a = c .before .before .args in
+    (omega arith, lines-none (a .rows .now) (a .out .now) (a .index))
 
--- src/lib.rt:147:9
 put-row-requires : tie.Need-put-row-requires Inv-loop μ-loop
-put-row-requires c κs = search needs
+put-row-requires c κs =
+    let s = c .before .before .before .before .before in
+    let t = s .args .rows .now in
+    let l = c .before .before .loop in
+    (omega (arith, s .pre .0), room-then (linesOf t (l .i)) (line (rowAt t (l .i))) (rw lines-next at (lines-room t (l .i + 1) (s .args .n) (omega arith) (s .pre .1))) (l .inv .1))
 
--- src/lib.rt:148:9
 add-i : tie.Need-add-i Inv-loop μ-loop
 add-i c = search needs
 
--- src/lib.rt:146:5
 loop-less : tie.Need-loop-less Inv-loop μ-loop
 loop-less c = search needs
 
--- src/lib.rt:146:5
 loop-again : tie.Need-loop-again Inv-loop μ-loop
-loop-again c = search needs
+loop-again c =
+    let s = c .before .before .before .before .before .before .before .before in
+    let t = s .args .rows .now in
+    let l = c .before .before .before .before .before .loop in
+    (omega arith, rw lines-next (puts-then (linesOf t (l .i)) (line (rowAt t (l .i))) (rw lines-next at (lines-room t (l .i + 1) (s .args .n) (omega arith) (s .pre .1))) (l .inv .1) (c .before .before .put-row .ensures)))
 
--- src/lib.rt:140:1
 same-length : tie.Need-same-length Inv-loop μ-loop
-same-length c = search needs
+same-length c =
+    let s = c .before .before .before .before in
+    let l = c .before .loop in
+    puts-length (lines-room (s .args .rows .now) (l .i) (s .args .n) (l .inv .0) (s .pre .1)) (l .inv .1)
 
--- src/lib.rt:140:1
 returns : tie.Need-returns Inv-loop μ-loop
-returns c = search needs
+returns c =
+    let a = c .before .before .before .before .args in
+    let l = c .before .loop in
+    let e : l .i ≡ a .n = omega arith in
+    subst (λ (i : ℕ). Puts (linesOf (a .rows .now) i) (a .index) (l .at) (a .out .now) (l .out)) e (l .inv .1)
 
 pub put-rows-spec : {M : Type 1} → statement M
 put-rows-spec =
