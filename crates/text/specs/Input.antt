@@ -44,9 +44,13 @@ layoutOf input =
     bind (countAt input 0) (λ words.
     test (leb words mostWords) (notLaidOut input) (λ _. recordAfter input words)))
 
+-- so many words from byte 4 on
+abbrev pub wordsAt : List ℕ → ℕ → List ℕ
+wordsAt input words = unpackLittleEndianSeq 4 (take (4 * words) (drop 4 input)) words
+
 -- the grammar words and the record of an input
 abbrev pub grammarOf : List ℕ → Parts → List ℕ
-grammarOf input p = unpackLittleEndianSeq 4 (take (4 * p .words) (drop 4 input)) (p .words)
+grammarOf input p = wordsAt input (p .words)
 
 abbrev pub recordOf : List ℕ → Parts → List ℕ
 recordOf input p = take (p .size) (drop (p .start) input)

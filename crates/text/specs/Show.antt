@@ -4,10 +4,14 @@ use mathlib.Core.List.{List}
 use Prim.Native.Nat.{ℕ, _*_, _≤_}
 use lib.ListN.{length}
 use Rattle.refusal.specs.Outcome.{Outcome, accepted, refused, bind, Reason}
+use Rattle.refusal.specs.Meaning.{reasonOf}
 use Rattle.value.specs.Tree.{Val}
 use Rattle.value.specs.Step.{Step}
 use Rattle.value.specs.Reading.{State}
 use Rattle.rows.specs.Layout.{rowsOf}
+use Rattle.rows.specs.Row.{rowWidth}
+use Rattle.reading.specs.declared.Parsed.{Parsed}
+use Rattle.reading.specs.declared.Parsed.the-variants as P
 use Rattle.reading.specs.Calls.{demarshallOf}
 use Rattle.text.specs.Text.{rowsText, refusalText}
 use Rattle.text.specs.Input.{layoutOf, grammarOf, recordOf}
@@ -24,3 +28,13 @@ readInput input = bind (layoutOf input) (λ p. demarshallOf (grammarOf input p) 
 unfoldable pub shown : Outcome Reason (Step State Val) → List ℕ
 shown (accepted t) = rowsText (rowsOf (t .value) 0) (t .state .begun)
 shown (refused r) = refusalText r
+
+-- the text of what the code's reading answered, its rows those of a table
+abbrev pub textOf : List ℕ → Parsed → List ℕ
+textOf t (P.Value n rest) = rowsText t n
+textOf t (P.Refused r) = refusalText (reasonOf r)
+
+-- the rows to be printed are in the table, and are no more than were lent
+abbrev pub FewRows : List ℕ → Parsed → Type 0
+FewRows t (P.Value n rest) = (n ≤ mostRows) × (rowWidth * n ≤ length t)
+FewRows t (P.Refused r) = Unit {0}

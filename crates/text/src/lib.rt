@@ -3,14 +3,17 @@ ghost use mathlib.Core.Path.{_≡_};
 ghost use mathlib.Core.List.{_∷_, [], _++_};
 ghost use Prim.Native.Nat.{_+_, _*_, _≤_, min};
 ghost use lib.ListN.{length};
-ghost use Rattle.refusal.specs.Meaning.{reasonOf};
+ghost use Rattle.refusal.specs.Meaning.{locationOf, reasonOf};
 ghost use Rattle.refusal.specs.Outcome.{reason, byte};
 ghost use Rattle.packed.specs.Meaning.{unpackedU32};
 ghost use Rattle.rows.specs.Row.{rowWidth, rowAt};
+ghost use Rattle.reading.specs.Calls.{demarshallOf, Parses};
 ghost use Rattle.text.specs.Digits.{digits};
-ghost use Rattle.text.specs.Text.{newline, numeral, line, linesOf, rowsText, refusalText, RoomFor, Puts};
-ghost use Rattle.text.specs.Input.{partsOf, countAt, recordAfter, layoutOf};
+ghost use Rattle.text.specs.Text.{newline, numeral, line, linesOf, rowsText, placeText, refusalText, RoomFor, Puts};
+ghost use Rattle.text.specs.Input.{partsOf, countAt, recordAfter, layoutOf, wordsAt};
+ghost use Rattle.text.specs.Show.{mostRows, readInput, shown, FewRows, textOf};
 use packed::UnpackedU32;
+use reading::Parsed;
 use refusal::Place;
 use refusal::Refusal;
 
@@ -160,26 +163,82 @@ fn put_rows_text(rows: &[u64], n: usize, out: &mut [u8]) -> usize
     put_rows(rows, n, out, at2)
 }
 
-// Puts a place: its kind and its number.
-fn put_place(kind: &[u8], n: u64, out: &mut [u8], index: usize) -> usize
-    requires { ⌜ RoomFor (now kind ++ numeral n newline) index (now out) ⌝ }
-    ensures { λ r. ⌜ Puts (now (kind .entry) ++ numeral n newline) index r (now (out .entry)) (now (out .exit)) ⌝ }
+// Puts a word and a number behind it, with which a line ends.
+fn put_named(name: &[u8], n: u64, out: &mut [u8], index: usize) -> usize
+    requires { ⌜ RoomFor (now name ++ numeral n newline) index (now out) ⌝ }
+    ensures { λ r. ⌜ Puts (now (name .entry) ++ numeral n newline) index r (now (out .entry)) (now (out .exit)) ⌝ }
 {
-    let at = put_bytes(kind, out, index);
+    let at = put_bytes(name, out, index);
     put_number(n, b'\n', out, at)
 }
 
+// Puts a place: what it is, and its number.
+fn put_place(place: Place, out: &mut [u8], index: usize) -> usize
+    requires { ⌜ RoomFor (placeText (locationOf place)) index (now out) ⌝ }
+    ensures { λ r. ⌜ Puts (placeText (locationOf place)) index r (now (out .entry)) (now (out .exit)) ⌝ }
+{
+    match place {
+        Place::Word(n) => put_named(b"word ", n, out, index),
+        Place::Byte(n) => put_named(b"byte ", n, out, index),
+        Place::Row(n) => put_named(b"row ", n, out, index),
+    }
+}
+
 // Puts the line of a refusal.
-fn put_refusal(r: Refusal, out: &mut [u8]) -> usize
-    requires { ⌜ RoomFor (refusalText (reasonOf r)) 0 (now out) ⌝ }
-    ensures { λ n. ⌜ Puts (refusalText (reasonOf r)) 0 n (now (out .entry)) (now (out .exit)) ⌝ }
+fn put_refusal(refusal: Refusal, out: &mut [u8]) -> usize
+    requires { ⌜ RoomFor (refusalText (reasonOf refusal)) 0 (now out) ⌝ }
+    ensures { λ r. ⌜ Puts (refusalText (reasonOf refusal)) 0 r (now (out .entry)) (now (out .exit)) ⌝ }
 {
     let at1 = put_bytes(b"refused ", out, 0);
-    let at2 = put_number(r.number, b' ', out, at1);
-    let place = r.place;
-    match place {
-        Place::Word(n) => put_place(b"word ", n, out, at2),
-        Place::Byte(n) => put_place(b"byte ", n, out, at2),
-        Place::Row(n) => put_place(b"row ", n, out, at2),
+    let at2 = put_number(refusal.number, b' ', out, at1);
+    let place = refusal.place;
+    put_place(place, out, at2)
+}
+
+// Puts the text of what a reading answered.
+fn put_text(parsed: Parsed, rows: &[u64], out: &mut [u8; 86026]) -> usize
+    requires { ⌜ FewRows (now rows) parsed ⌝ }
+    ensures { λ r. ⌜ Puts (textOf (now (rows .entry)) parsed) 0 r (now (out .entry)) (now (out .exit)) × (r ≤ 86026) ⌝ }
+{
+    match parsed {
+        Parsed::Value { rows: n, .. } => put_rows_text(rows, n, out),
+        Parsed::Refused(r) => put_refusal(r, out),
     }
+}
+
+// The record by its grammar words, which stand from byte 4 on. As many are read as `words` holds.
+fn read_record(input: &[u8], words: &mut [u32], record: &[u8], rows: &mut [u64]) -> Parsed
+    requires { ⌜ (4 + 4 * length (now words) ≤ length (now input)) × (length (now rows) ≡ 4096) ⌝ }
+    ensures { λ r. ⌜ Parses (demarshallOf (wordsAt (now (input .entry)) (length (now (words .entry)))) (now («record» .entry)) mostRows) 0 r (now (rows .entry)) (now (rows .exit)) ⌝ }
+{
+    packed::unpack_little_endian_uint32_seq(input, 4, words);
+    reading::demarshall(words, record, rows)
+}
+
+// The record of an input, read whole: 19 before any other refusal.
+fn read_input(input: &[u8], words: &mut [u32], rows: &mut [u64]) -> Parsed
+    requires { ⌜ (length (now words) ≡ 1794) × (length (now rows) ≡ 4096) ⌝ }
+    ensures { λ r. ⌜ Parses (readInput (now (input .entry))) 0 r (now (rows .entry)) (now (rows .exit)) ⌝ }
+{
+    match lay_out(input) {
+        Layout::Refused(r) => Parsed::Refused(r),
+        Layout::Parts {
+            words: count,
+            start,
+            size,
+        } => {
+            let end = start + size;
+            read_record(input, &mut words[..count], &input[start..end], rows)
+        }
+    }
+}
+
+// All that the program does between reading and writing: the text for its input, which always has room.
+pub fn show(input: &[u8], out: &mut [u8; 86026]) -> usize
+    ensures { λ r. ⌜ Puts (shown (readInput (now (input .entry)))) 0 r (now (out .entry)) (now (out .exit)) × (r ≤ 86026) ⌝ }
+{
+    let mut words = [0u32; 1794];
+    let mut rows = [0u64; 4096];
+    let parsed = read_input(input, &mut words, &mut rows);
+    put_text(parsed, &rows, out)
 }

@@ -1,35 +1,37 @@
+use Rattle.text.specs.Text.{newline, numeral, rowsWord, linesOf, rowsText}
+use Rattle.text.proofs.Puts.{room-first, room-then, puts-then}
 use borrow.Author.Needs.{needs}
 use Rattle.text.proofs.put_rows_text.Statement.{statement}
 use Rattle.text.proofs.put_rows_text.Tie as tie
-use Rattle.text.proofs.put_rows_text.Reads as reads
-use Rattle.text.proofs.put_rows_text.Lts as lts
-use Rattle.text.proofs.put_bytes.Reads as put-bytes-reads
-use Rattle.text.proofs.put_number.Reads as put-number-reads
-use Rattle.text.proofs.put_rows.Reads as put-rows-reads
 
--- src/lib.rt:158:25
 slice-aggregate-put-bytes : tie.Need-slice-aggregate-put-bytes
 slice-aggregate-put-bytes c = search needs
 
--- src/lib.rt:158:9
 put-bytes-requires : tie.Need-put-bytes-requires
-put-bytes-requires c κs = search needs
+unfolding rowsText
+put-bytes-requires c κs = room-first rowsWord _ (c .before .before .before .before .pre .1)
 
--- src/lib.rt:159:9
 put-number-requires : tie.Need-put-number-requires
-put-number-requires c κs = search needs
+unfolding rowsText
+put-number-requires c κs =
+    let s = c .before .before .before .before .before .before .before .before in
+    room-first (numeral (s .args .n) newline) _ (room-then rowsWord _ (s .pre .1) (c .before .before .before .put-bytes .ensures))
 
--- src/lib.rt:160:5
 put-rows-requires : tie.Need-put-rows-requires
-put-rows-requires c κs = search needs
+unfolding rowsText
+put-rows-requires c κs =
+    let s = c .before .before .before .before .before .before .before .before .before .before .before .before in
+    (s .pre .0, room-then (numeral (s .args .n) newline) _ (room-then rowsWord _ (s .pre .1) (c .before .before .before .before .before .before .before .put-bytes .ensures)) (c .before .before .before .put-number .ensures))
 
--- src/lib.rt:154:1
 same-length : tie.Need-same-length
 same-length c = search needs
 
--- src/lib.rt:154:1
 returns : tie.Need-returns
-returns c = search needs
+unfolding rowsText
+returns c =
+    let s = c .before .before .before .before .before .before .before .before .before .before .before .before .before .before .before in
+    let p = c .before .before .before .before .before .before .before .before .before .before .put-bytes .ensures in
+    puts-then rowsWord _ (s .pre .1) p (puts-then (numeral (s .args .n) newline) _ (room-then rowsWord _ (s .pre .1) p) (c .before .before .before .before .before .before .put-number .ensures) (c .before .before .put-rows .ensures))
 
 pub put-rows-text-spec : {M : Type 1} → statement M
 put-rows-text-spec =
