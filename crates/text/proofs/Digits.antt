@@ -79,3 +79,10 @@ few-more (suc k) n ds h l f = let m : n < 10 ^ suc k * 10 = rw (pow-suc 10 (suc 
 -- a number below 10 to the power k has k digits at most
 pub digits-few : (n k : ℕ) → n < 10 ^ suc k → length (digits n) ≤ suc k
 digits-few = along (λ n ds. (k : ℕ) → n < 10 ^ suc k → length ds ≤ suc k) (λ n h k l. omega arith) (λ n ds h f k l. few-more k n ds h l f)
+
+-- a 64-bit number has 20 at most
+pub digits-bound : (n : ℕ) → n < 2 ^ 64 → length (digits n) ≤ 20
+digits-bound n h = digits-few n 19 (omega arith)
+
+pub digits-longer : (n : ℕ) → 10 ≤ n → length (digits n) ≡ length (digits (n / 10)) + 1
+digits-longer n h = rw (digits-more n h, length-append)

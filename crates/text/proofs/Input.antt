@@ -1,18 +1,19 @@
 -- The layout of the input, as the functions decide it.
-use mathlib.Core.Path.{_≡_, refl, ap, sym, _∙_}
+use mathlib.Core.Path.{_≡_, refl, ap, sym, subst, _∙_}
+use mathlib.Core.Logic.{_↔_}
 use mathlib.Core.Bool.{Bool, true, false}
 use mathlib.Core.List.{List}
 use Prim.Native.Nat.{ℕ, _+_, _*_, _≤_, _<_}
 use native.Mathlib.Omega.{arith}
 use lib.ListN.{length, take, drop}
 use lib.Dec.{leb, eqb}
-use borrow.Author.Tests.{le-leb, lt-leb, leb-true, eq-eqb, ne-eqb}
+use borrow.Author.Tests.{le-leb, lt-leb, leb-true, eq-eqb, ne-eqb, eqb-true}
 use Rattle.refusal.specs.Outcome.{Outcome, accepted, refused, bind, test, map, Reason, reason, byte}
-use Rattle.refusal.proofs.Outcome.{test-true, test-false}
+use Rattle.refusal.proofs.Outcome.{test-true, test-false, test-passed}
 use Rattle.packed.specs.declared.UnpackedU32.{UnpackedU32}
 use Rattle.packed.specs.Meaning.{unpackedU32}
 use Rattle.packed.specs.Packed.{unpackLittleEndian, present, unpackAt}
-use Rattle.text.specs.Input.{Parts, mostInput, mostWords, notLaidOut, countAt, recordAfter, layoutOf}
+use Rattle.text.specs.Input.{Parts, mostInput, mostWords, notLaidOut, countAt, recordAfter, layoutOf, LaidOut}
 
 -- an answer that was matched
 pub matched : {o : Outcome Reason ℕ} {p q : UnpackedU32} → p ≡ q → unpackedU32 p ≡ o → unpackedU32 q ≡ o
@@ -86,3 +87,46 @@ module _ (input : List ℕ) where
       pub layout-record : words ≤ mostWords → recordAfter input words ≡ layoutOf input
       unfolding afterWords
       layout-record m = sym (test-true _ _ (le-leb words mostWords m)) ∙ layout-by h
+
+test-inverse : {A : Type 0} (b : Bool) (e : Reason) (k : Unit {0} → Outcome Reason A) (a : A) → test b e k ≡ accepted a → (b ≡ true) × (k tt ≡ accepted a)
+test-inverse b e k a h = let t = test-passed b e k a h in (t, sym (test-true e k t) ∙ h)
+
+bind-inverse : {A B : Type 0} (x : Outcome Reason A) (k : A → Outcome Reason B) (b : B) → bind x k ≡ accepted b → (a : A) × (x ≡ accepted a) × (k a ≡ accepted b)
+bind-inverse (accepted a) k b h = (a, refl, h)
+bind-inverse (refused e) k b h = let z : _≡_ {A = ℕ} 0 1 = cc in absurd (omega arith)
+
+module _ (input : List ℕ) (p : Parts) where
+  count-inverse : (index n : ℕ) → countAt input index ≡ accepted n → unpackLittleEndian 4 (take 4 (drop index input)) ≡ n
+  unfolding countAt
+  count-inverse index n h = let q = test-inverse (leb (index + 4) (length input)) (notLaidOut input) (λ _. accepted (unpackLittleEndian 4 (take 4 (drop index input)))) n h .1 in cc
+
+  count-accepted : (index n : ℕ) → index + 4 ≤ length input → unpackLittleEndian 4 (take 4 (drop index input)) ≡ n → countAt input index ≡ accepted n
+  unfolding countAt
+  count-accepted index n l e = test-true _ _ (le-leb (index + 4) (length input) l) ∙ ap accepted e
+
+  laid-out : layoutOf input ≡ accepted p → LaidOut input p
+  unfolding layoutOf recordAfter
+  laid-out h =
+      let s = test-inverse (leb (length input) mostInput) (notLaidOut input) _ p h in
+      let w = bind-inverse (countAt input 0) _ p (s .1) in
+      let m = test-inverse (leb (w .0) mostWords) (notLaidOut input) _ p (w .2) in
+      let z = bind-inverse (countAt input (4 + 4 * w .0)) _ p (m .1) in
+      let e = test-inverse (eqb (8 + 4 * w .0 + z .0) (length input)) (notLaidOut input) _ p (z .2) in
+      let q : record { words = w .0; start = 8 + 4 * w .0; size = z .0 } ≡ p = cc in
+      subst (LaidOut input) q
+      (record {
+        short = leb-true (length input) mostInput (s .0);
+        counted = count-inverse 0 (w .0) (w .1);
+        few = leb-true (w .0) mostWords (m .0);
+        start = refl;
+        sized = count-inverse (4 + 4 * w .0) (z .0) (z .1);
+        whole = eqb-true (8 + 4 * w .0 + z .0) (length input) (e .0);
+      })
+
+  accepts : LaidOut input p → layoutOf input ≡ accepted p
+  unfolding layoutOf recordAfter
+  accepts l = ?
+
+  -- an input is accepted exactly where it is laid out
+  pub layout-exactly : (layoutOf input ≡ accepted p) ↔ LaidOut input p
+  layout-exactly = (laid-out, accepts)

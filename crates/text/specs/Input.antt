@@ -1,6 +1,7 @@
 -- The layout of the input: the word count, the words, the record length, the record.
+use mathlib.Core.Path.{_≡_}
 use mathlib.Core.List.{List}
-use Prim.Native.Nat.{ℕ, _+_, _*_, min}
+use Prim.Native.Nat.{ℕ, _+_, _*_, _≤_, min}
 use lib.ListN.{length, take, drop}
 use lib.Dec.{leb, eqb}
 use Rattle.refusal.specs.Outcome.{Outcome, accepted, refused, bind, test, Reason, reason, byte}
@@ -59,3 +60,12 @@ recordOf input p = take (p .size) (drop (p .start) input)
 abbrev pub partsOf : Layout → Outcome Reason Parts
 partsOf (L.Parts words start size) = accepted (record { words = words; start = start; size = size })
 partsOf (L.Refused r) = refused (reasonOf r)
+
+-- when an input is laid out: the four parts one behind the other, and nothing left over (`layout-exactly` of proofs/)
+pub record LaidOut (input : List ℕ) (p : Parts) : Type 0 where
+  pub short : length input ≤ mostInput
+  pub counted : unpackLittleEndian 4 (take 4 (drop 0 input)) ≡ p .words
+  pub few : p .words ≤ mostWords
+  pub start : p .start ≡ 8 + 4 * p .words
+  pub sized : unpackLittleEndian 4 (take 4 (drop (4 + 4 * p .words) input)) ≡ p .size
+  pub whole : p .start + p .size ≡ length input

@@ -48,11 +48,29 @@ placeText (row n) = (114 ∷ 111 ∷ 119 ∷ space ∷ []) ++ numeral n newline
 unfoldable pub refusalText : Reason → List ℕ
 refusalText (reason n place) = refusedWord ++ (numeral n space ++ placeText place)
 
--- the output has room for bytes from an index on
-pub record RoomFor (bs : List ℕ) (index : ℕ) (out : List ℕ) : Type 0 where
-  pub within : index + length bs ≤ length out
+-- the output has room for so many bytes from an index on
+pub record RoomFor (most index : ℕ) (out : List ℕ) : Type 0 where
+  pub room : index + most ≤ length out
 
--- a function that puts bytes at an index: it gives the index behind them, and all else is as it was
-pub record Puts (bs : List ℕ) (index next : ℕ) (entry exit : List ℕ) : Type 0 where
+-- a function that puts bytes at an index, at most so many: it gives the index behind them, and all else is as it was
+pub record Puts (bs : List ℕ) (most index next : ℕ) (entry exit : List ℕ) : Type 0 where
   pub behind : next ≡ index + length bs
   pub output : exit ≡ put entry index bs
+  pub within : length bs ≤ most
+
+-- a number's 20 digits at most and the byte behind them; a row's line; a place; the line of a refusal
+abbrev pub mostNumeral : ℕ
+mostNumeral = 21
+
+abbrev pub mostLine : ℕ
+mostLine = 84
+
+abbrev pub mostPlace : ℕ
+mostPlace = 26
+
+abbrev pub mostRefusal : ℕ
+mostRefusal = 55
+
+-- the longest text: `rows `, the row count and the lines of 1,024 rows
+abbrev pub mostText : ℕ
+mostText = 86042

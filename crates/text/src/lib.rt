@@ -9,7 +9,7 @@ ghost use Rattle.packed.specs.Meaning.{unpackedU32};
 ghost use Rattle.rows.specs.Row.{rowWidth, rowAt};
 ghost use Rattle.reading.specs.Calls.{demarshallOf, Parses};
 ghost use Rattle.text.specs.Digits.{digits};
-ghost use Rattle.text.specs.Text.{newline, numeral, line, linesOf, rowsText, placeText, refusalText, RoomFor, Puts};
+ghost use Rattle.text.specs.Text.{newline, numeral, line, linesOf, rowsText, placeText, refusalText, RoomFor, Puts, mostNumeral, mostLine, mostPlace, mostRefusal, mostText};
 ghost use Rattle.text.specs.Input.{partsOf, countAt, recordAfter, layoutOf, wordsAt};
 ghost use Rattle.text.specs.Show.{mostRows, readInput, shown, FewRows, textOf};
 use packed::UnpackedU32;
@@ -90,8 +90,8 @@ pub fn lay_out(input: &[u8]) -> Layout
 
 // Puts a byte, which has room, and gives the index behind it.
 fn put_byte(b: u8, out: &mut [u8], index: usize) -> usize
-    requires { ⌜ RoomFor (b ∷ []) index (now out) ⌝ }
-    ensures { λ r. ⌜ Puts (b ∷ []) index r (now (out .entry)) (now (out .exit)) ⌝ }
+    requires { ⌜ RoomFor 1 index (now out) ⌝ }
+    ensures { λ r. ⌜ Puts (b ∷ []) 1 index r (now (out .entry)) (now (out .exit)) ⌝ }
 {
     out[index] = b;
     index + 1
@@ -99,8 +99,8 @@ fn put_byte(b: u8, out: &mut [u8], index: usize) -> usize
 
 // Puts the digits of n, which have room, and gives the index behind them.
 fn put_digits(n: u64, out: &mut [u8], index: usize) -> usize
-    requires { ⌜ RoomFor (digits n) index (now out) ⌝ }
-    ensures { λ r. ⌜ Puts (digits n) index r (now (out .entry)) (now (out .exit)) ⌝ }
+    requires { ⌜ RoomFor (length (digits n)) index (now out) ⌝ }
+    ensures { λ r. ⌜ Puts (digits n) (length (digits n)) index r (now (out .entry)) (now (out .exit)) ⌝ }
 {
     if n < 10 {
         return put_byte(48 + n as u8, out, index);
@@ -111,8 +111,8 @@ fn put_digits(n: u64, out: &mut [u8], index: usize) -> usize
 
 // Puts bytes, which have room, and gives the index behind them.
 fn put_bytes(bytes: &[u8], out: &mut [u8], index: usize) -> usize
-    requires { ⌜ RoomFor (now bytes) index (now out) ⌝ }
-    ensures { λ r. ⌜ Puts (now (bytes .entry)) index r (now (out .entry)) (now (out .exit)) ⌝ }
+    requires { ⌜ RoomFor (length (now bytes)) index (now out) ⌝ }
+    ensures { λ r. ⌜ Puts (now (bytes .entry)) (length (now (bytes .entry))) index r (now (out .entry)) (now (out .exit)) ⌝ }
 {
     packed::copy_seq_into_array(bytes, out, index);
     index + bytes.len()
@@ -120,8 +120,8 @@ fn put_bytes(bytes: &[u8], out: &mut [u8], index: usize) -> usize
 
 // Puts a number and the byte behind it.
 fn put_number(n: u64, end: u8, out: &mut [u8], index: usize) -> usize
-    requires { ⌜ RoomFor (numeral n end) index (now out) ⌝ }
-    ensures { λ r. ⌜ Puts (numeral n end) index r (now (out .entry)) (now (out .exit)) ⌝ }
+    requires { ⌜ RoomFor mostNumeral index (now out) ⌝ }
+    ensures { λ r. ⌜ Puts (numeral n end) mostNumeral index r (now (out .entry)) (now (out .exit)) ⌝ }
 {
     let at = put_digits(n, out, index);
     put_byte(end, out, at)
@@ -129,8 +129,8 @@ fn put_number(n: u64, end: u8, out: &mut [u8], index: usize) -> usize
 
 // Puts the line of a row.
 fn put_row(rows: &[u64], row: usize, out: &mut [u8], index: usize) -> usize
-    requires { ⌜ (rowWidth * row + rowWidth ≤ length (now rows)) × RoomFor (line (rowAt (now rows) row)) index (now out) ⌝ }
-    ensures { λ r. ⌜ Puts (line (rowAt (now (rows .entry)) row)) index r (now (out .entry)) (now (out .exit)) ⌝ }
+    requires { ⌜ (rowWidth * row + rowWidth ≤ length (now rows)) × RoomFor mostLine index (now out) ⌝ }
+    ensures { λ r. ⌜ Puts (line (rowAt (now (rows .entry)) row)) mostLine index r (now (out .entry)) (now (out .exit)) ⌝ }
 {
     let first = ROW_WIDTH * row;
     let at1 = put_number(rows[first], b' ', out, index);
@@ -141,8 +141,8 @@ fn put_row(rows: &[u64], row: usize, out: &mut [u8], index: usize) -> usize
 
 // Puts the lines of rows 0 to n − 1.
 fn put_rows(rows: &[u64], n: usize, out: &mut [u8], index: usize) -> usize
-    requires { ⌜ (rowWidth * n ≤ length (now rows)) × RoomFor (linesOf (now rows) n) index (now out) ⌝ }
-    ensures { λ r. ⌜ Puts (linesOf (now (rows .entry)) n) index r (now (out .entry)) (now (out .exit)) ⌝ }
+    requires { ⌜ (rowWidth * n ≤ length (now rows)) × RoomFor (mostLine * n) index (now out) ⌝ }
+    ensures { λ r. ⌜ Puts (linesOf (now (rows .entry)) n) (mostLine * n) index r (now (out .entry)) (now (out .exit)) ⌝ }
 {
     let mut at = index;
     let mut i: usize = 0;
@@ -155,8 +155,8 @@ fn put_rows(rows: &[u64], n: usize, out: &mut [u8], index: usize) -> usize
 
 // Puts the row count and the rows.
 fn put_rows_text(rows: &[u64], n: usize, out: &mut [u8]) -> usize
-    requires { ⌜ (rowWidth * n ≤ length (now rows)) × RoomFor (rowsText (now rows) n) 0 (now out) ⌝ }
-    ensures { λ r. ⌜ Puts (rowsText (now (rows .entry)) n) 0 r (now (out .entry)) (now (out .exit)) ⌝ }
+    requires { ⌜ (rowWidth * n ≤ length (now rows)) × RoomFor (5 + (mostNumeral + mostLine * n)) 0 (now out) ⌝ }
+    ensures { λ r. ⌜ Puts (rowsText (now (rows .entry)) n) (5 + (mostNumeral + mostLine * n)) 0 r (now (out .entry)) (now (out .exit)) ⌝ }
 {
     let at1 = put_bytes(b"rows ", out, 0);
     let at2 = put_number(n as u64, b'\n', out, at1);
@@ -165,8 +165,8 @@ fn put_rows_text(rows: &[u64], n: usize, out: &mut [u8]) -> usize
 
 // Puts a word and a number behind it, with which a line ends.
 fn put_named(name: &[u8], n: u64, out: &mut [u8], index: usize) -> usize
-    requires { ⌜ RoomFor (now name ++ numeral n newline) index (now out) ⌝ }
-    ensures { λ r. ⌜ Puts (now (name .entry) ++ numeral n newline) index r (now (out .entry)) (now (out .exit)) ⌝ }
+    requires { ⌜ (length (now name) ≤ 5) × RoomFor mostPlace index (now out) ⌝ }
+    ensures { λ r. ⌜ Puts (now (name .entry) ++ numeral n newline) mostPlace index r (now (out .entry)) (now (out .exit)) ⌝ }
 {
     let at = put_bytes(name, out, index);
     put_number(n, b'\n', out, at)
@@ -174,8 +174,8 @@ fn put_named(name: &[u8], n: u64, out: &mut [u8], index: usize) -> usize
 
 // Puts a place: what it is, and its number.
 fn put_place(place: Place, out: &mut [u8], index: usize) -> usize
-    requires { ⌜ RoomFor (placeText (locationOf place)) index (now out) ⌝ }
-    ensures { λ r. ⌜ Puts (placeText (locationOf place)) index r (now (out .entry)) (now (out .exit)) ⌝ }
+    requires { ⌜ RoomFor mostPlace index (now out) ⌝ }
+    ensures { λ r. ⌜ Puts (placeText (locationOf place)) mostPlace index r (now (out .entry)) (now (out .exit)) ⌝ }
 {
     match place {
         Place::Word(n) => put_named(b"word ", n, out, index),
@@ -186,8 +186,8 @@ fn put_place(place: Place, out: &mut [u8], index: usize) -> usize
 
 // Puts the line of a refusal.
 fn put_refusal(refusal: Refusal, out: &mut [u8]) -> usize
-    requires { ⌜ RoomFor (refusalText (reasonOf refusal)) 0 (now out) ⌝ }
-    ensures { λ r. ⌜ Puts (refusalText (reasonOf refusal)) 0 r (now (out .entry)) (now (out .exit)) ⌝ }
+    requires { ⌜ RoomFor mostRefusal 0 (now out) ⌝ }
+    ensures { λ r. ⌜ Puts (refusalText (reasonOf refusal)) mostRefusal 0 r (now (out .entry)) (now (out .exit)) ⌝ }
 {
     let at1 = put_bytes(b"refused ", out, 0);
     let at2 = put_number(refusal.number, b' ', out, at1);
@@ -196,9 +196,9 @@ fn put_refusal(refusal: Refusal, out: &mut [u8]) -> usize
 }
 
 // Puts the text of what a reading answered.
-fn put_text(parsed: Parsed, rows: &[u64], out: &mut [u8; 86026]) -> usize
+fn put_text(parsed: Parsed, rows: &[u64], out: &mut [u8; 86042]) -> usize
     requires { ⌜ FewRows (now rows) parsed ⌝ }
-    ensures { λ r. ⌜ Puts (textOf (now (rows .entry)) parsed) 0 r (now (out .entry)) (now (out .exit)) × (r ≤ 86026) ⌝ }
+    ensures { λ r. ⌜ Puts (textOf (now (rows .entry)) parsed) mostText 0 r (now (out .entry)) (now (out .exit)) ⌝ }
 {
     match parsed {
         Parsed::Value { rows: n, .. } => put_rows_text(rows, n, out),
@@ -234,8 +234,8 @@ fn read_input(input: &[u8], words: &mut [u32], rows: &mut [u64]) -> Parsed
 }
 
 // All that the program does between reading and writing: the text for its input, which always has room.
-pub fn show(input: &[u8], out: &mut [u8; 86026]) -> usize
-    ensures { λ r. ⌜ Puts (shown (readInput (now (input .entry)))) 0 r (now (out .entry)) (now (out .exit)) × (r ≤ 86026) ⌝ }
+pub fn show(input: &[u8], out: &mut [u8; 86042]) -> usize
+    ensures { λ r. ⌜ Puts (shown (readInput (now (input .entry)))) mostText 0 r (now (out .entry)) (now (out .exit)) ⌝ }
 {
     let mut words = [0u32; 1794];
     let mut rows = [0u64; 4096];

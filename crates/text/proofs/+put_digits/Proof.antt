@@ -1,11 +1,11 @@
 -- A number from 10 on has the digits of its tenth before its last: the measure is the number.
-use mathlib.Core.List.{[], _∷_}
 use native.Mathlib.Omega.{arith}
-use Rattle.text.specs.Digits.{digit, digits}
-use Rattle.text.proofs.Digits.{digits-one, digits-more}
+use lib.ListN.{length, length-append}
+use Rattle.text.specs.Digits.{digits}
+use Rattle.text.proofs.Digits.{digits-one, digits-more, digits-longer}
 use Rattle.text.proofs.Puts.{room-first, room-then, puts-then}
 use borrow.Author.Needs.{needs}
-use Prim.Native.Nat.{ℕ, _/_, _%_, _<_}
+use Prim.Native.Nat.{ℕ, _/_, _<_}
 use borrow.Fn.Kinds.{In}
 use borrow.Fn.PlainCycle.{Measures, is, falls, and}
 use Rattle.text.proofs.put_digits.Reads as put-digits
@@ -52,7 +52,7 @@ put-digits-put-digits-requires : (t : ℕ) → put-digits-lts.Need-put-digits-re
 put-digits-put-digits-requires t c κs =
     let s = c .before .before .before in
     let n = s .args .n in
-    (omega (arith, s .pre .0), room-first (digits (n / 10)) (digit (n % 10) ∷ []) (rw (digits-more n (c .before .if1 .left)) at (s .pre .1)))
+    (omega (arith, s .pre .0), room-first (length (digits (n / 10))) 1 (rw (digits-longer n (c .before .if1 .left)) at (s .pre .1)))
 
 put-digits-cast-put-byte-2 : (t : ℕ) → put-digits-lts.Need-cast-put-byte-2 (put-digits-calls t) (put-digits-at t) put-digits.Post
 put-digits-cast-put-byte-2 t c = search needs
@@ -64,7 +64,7 @@ put-digits-put-byte-requires-2 : (t : ℕ) → put-digits-lts.Need-put-byte-requ
 put-digits-put-byte-requires-2 t c κs =
     let s = c .before .before .before .before .before .before .before in
     let n = s .args .n in
-    room-then (digits (n / 10)) (digit (n % 10) ∷ []) (rw (digits-more n (c .before .before .before .before .before .if1 .left)) at (s .pre .1)) (c .before .before .before .put-digits .ensures)
+    room-then (length (digits (n / 10))) 1 (rw (digits-longer n (c .before .before .before .before .before .if1 .left)) at (s .pre .1)) (c .before .before .before .put-digits .ensures)
 
 put-digits-same-length-2 : (t : ℕ) → put-digits-lts.Need-same-length-2 (put-digits-calls t) (put-digits-at t) put-digits.Post
 put-digits-same-length-2 t c = search needs
@@ -74,7 +74,7 @@ put-digits-returns-2 t c =
     let s = c .before .before .before .before .before .before .before .before .before .before in
     let n = s .args .n in
     let l = c .before .before .before .before .before .before .before .before .if1 .left in
-    rw (digits-more n l) (puts-then (digits (n / 10)) (digit (n % 10) ∷ []) (rw (digits-more n l) at (s .pre .1)) (c .before .before .before .before .before .before .put-digits .ensures) (c .before .before .put-byte2 .ensures))
+    rw (digits-more n l, length-append) (puts-then (length (digits (n / 10))) 1 (rw (digits-longer n l) at (s .pre .1)) (c .before .before .before .before .before .before .put-digits .ensures) (c .before .before .put-byte2 .ensures))
 
 pub +put-digits-spec : {M : Type 1} → statement M
 +put-digits-spec = close μ-put-digits λ t. put-digits-lts.spec (put-digits-calls t)

@@ -1,3 +1,4 @@
+use native.Mathlib.Omega.{arith}
 use Rattle.text.specs.Text.{placeText}
 use borrow.Author.Needs.{needs}
 use Rattle.text.proofs.put_place.Statement.{statement}
@@ -10,8 +11,7 @@ slice-aggregate-put-named : tie.Need-slice-aggregate-put-named
 slice-aggregate-put-named c = search needs
 
 put-named-requires : tie.Need-put-named-requires
-unfolding placeText
-put-named-requires c κs = rw (c .before .before .before .place .given .1) at (c .before .before .before .before .before .before .pre)
+put-named-requires c κs = (omega arith, c .before .before .before .before .before .before .pre)
 
 enum-known-place-2 : tie.Need-enum-known-place-2
 enum-known-place-2 c = search needs
@@ -20,8 +20,7 @@ slice-aggregate-put-named-2 : tie.Need-slice-aggregate-put-named-2
 slice-aggregate-put-named-2 c = search needs
 
 put-named-requires-2 : tie.Need-put-named-requires-2
-unfolding placeText
-put-named-requires-2 c κs = rw (c .before .before .before .place2 .given .1) at (c .before .before .before .before .before .before .pre)
+put-named-requires-2 c κs = (omega arith, c .before .before .before .before .before .before .pre)
 
 enum-known-place-3 : tie.Need-enum-known-place-3
 enum-known-place-3 c = search needs
@@ -30,8 +29,7 @@ slice-aggregate-put-named-3 : tie.Need-slice-aggregate-put-named-3
 slice-aggregate-put-named-3 c = search needs
 
 put-named-requires-3 : tie.Need-put-named-requires-3
-unfolding placeText
-put-named-requires-3 c κs = rw (c .before .before .before .place3 .given .1) at (c .before .before .before .before .before .before .pre)
+put-named-requires-3 c κs = (omega arith, c .before .before .before .before .before .before .pre)
 
 same-length : tie.Need-same-length
 same-length c = search needs

@@ -1,35 +1,30 @@
+use Rattle.text.specs.Text.{mostNumeral, mostPlace, refusalText}
+use Rattle.text.proofs.Puts.{room-first, room-then, puts-then}
 use borrow.Author.Needs.{needs}
 use Rattle.text.proofs.put_refusal.Statement.{statement}
 use Rattle.text.proofs.put_refusal.Tie as tie
-use Rattle.text.proofs.put_refusal.Reads as reads
-use Rattle.text.proofs.put_refusal.Lts as lts
-use Rattle.text.proofs.put_bytes.Reads as put-bytes-reads
-use Rattle.text.proofs.put_number.Reads as put-number-reads
-use Rattle.text.proofs.put_place.Reads as put-place-reads
 
--- src/lib.rt:192:25
 slice-aggregate-put-bytes : tie.Need-slice-aggregate-put-bytes
 slice-aggregate-put-bytes c = search needs
 
--- src/lib.rt:192:9
 put-bytes-requires : tie.Need-put-bytes-requires
-put-bytes-requires c κs = search needs
+put-bytes-requires c κs = room-first 8 47 (c .before .before .before .pre)
 
--- src/lib.rt:193:9
 put-number-requires : tie.Need-put-number-requires
-put-number-requires c κs = search needs
+put-number-requires c κs = room-first mostNumeral mostPlace (room-then 8 47 (c .before .before .before .before .before .before .before .pre) (c .before .before .before .put-bytes .ensures))
 
--- src/lib.rt:195:5
 put-place-requires : tie.Need-put-place-requires
-put-place-requires c κs = search needs
+put-place-requires c κs = room-then mostNumeral mostPlace (room-then 8 47 (c .before .before .before .before .before .before .before .before .before .before .before .pre) (c .before .before .before .before .before .before .before .put-bytes .ensures)) (c .before .before .before .put-number .ensures)
 
--- src/lib.rt:188:1
 same-length : tie.Need-same-length
 same-length c = search needs
 
--- src/lib.rt:188:1
 returns : tie.Need-returns
-returns c = search needs
+unfolding refusalText
+returns c =
+    let s = c .before .before .before .before .before .before .before .before .before .before .before .before .before .before in
+    let p = c .before .before .before .before .before .before .before .before .before .before .put-bytes .ensures in
+    puts-then 8 47 (s .pre) p (puts-then mostNumeral mostPlace (room-then 8 47 (s .pre) p) (c .before .before .before .before .before .before .put-number .ensures) (c .before .before .put-place .ensures))
 
 pub put-refusal-spec : {M : Type 1} → statement M
 put-refusal-spec =

@@ -1,17 +1,16 @@
 -- The loop's invariant: exactly the lines of the first i rows are put.
 use mathlib.Core.Path.{_≡_, subst}
-use Prim.Native.Nat.{ℕ, _+_, _-_, _≤_}
+use Prim.Native.Nat.{ℕ, _+_, _-_, _*_, _≤_}
 use native.Mathlib.Omega.{arith}
-use Rattle.rows.specs.Row.{rowAt}
-use Rattle.text.specs.Text.{line, linesOf, Puts}
-use Rattle.text.proofs.Puts.{room-then, puts-then, puts-length}
-use Rattle.text.proofs.Lines.{lines-none, lines-next, lines-room}
+use Rattle.text.specs.Text.{mostLine}
+use Rattle.text.proofs.Puts.{room-less, room-then, puts-length}
+use Rattle.text.proofs.Lines.{LinesPut, lines-none, lines-next}
 use borrow.Author.Needs.{needs}
 use Rattle.text.proofs.put_rows.Statement.{statement}
 use Rattle.text.proofs.put_rows.Tie as tie
 
 abbrev Inv-loop : tie.InvT-loop
-Inv-loop rows n out₀ index at₀ i₀ out at i = (i ≤ n) × Puts (linesOf rows i) index at out₀ out
+Inv-loop rows n out₀ index at₀ i₀ out at i = (i ≤ n) × LinesPut rows out₀ index i at out
 
 abbrev μ-loop : tie.MeasureT-loop
 μ-loop rows n out₀ index at₀ i₀ out at i = n - i
@@ -24,9 +23,8 @@ loop-holds c =
 put-row-requires : tie.Need-put-row-requires Inv-loop μ-loop
 put-row-requires c κs =
     let s = c .before .before .before .before .before in
-    let t = s .args .rows .now in
     let l = c .before .before .loop in
-    (omega (arith, s .pre .0), room-then (linesOf t (l .i)) (line (rowAt t (l .i))) (rw lines-next at (lines-room t (l .i + 1) (s .args .n) (omega arith) (s .pre .1))) (l .inv .1))
+    (omega (arith, s .pre .0), room-then (mostLine * l .i) mostLine (room-less (mostLine * l .i + mostLine) (mostLine * s .args .n) (omega arith) (s .pre .1)) (l .inv .1))
 
 add-i : tie.Need-add-i Inv-loop μ-loop
 add-i c = search needs
@@ -37,22 +35,21 @@ loop-less c = search needs
 loop-again : tie.Need-loop-again Inv-loop μ-loop
 loop-again c =
     let s = c .before .before .before .before .before .before .before .before in
-    let t = s .args .rows .now in
     let l = c .before .before .before .before .before .loop in
-    (omega arith, rw lines-next (puts-then (linesOf t (l .i)) (line (rowAt t (l .i))) (rw lines-next at (lines-room t (l .i + 1) (s .args .n) (omega arith) (s .pre .1))) (l .inv .1) (c .before .before .put-row .ensures)))
+    (omega arith, lines-next (s .args .rows .now) (s .args .out .now) (s .args .index) (l .i) (room-less (mostLine * l .i + mostLine) (mostLine * s .args .n) (omega arith) (s .pre .1)) (l .inv .1) (c .before .before .put-row .ensures))
 
 same-length : tie.Need-same-length Inv-loop μ-loop
 same-length c =
     let s = c .before .before .before .before in
     let l = c .before .loop in
-    puts-length (lines-room (s .args .rows .now) (l .i) (s .args .n) (l .inv .0) (s .pre .1)) (l .inv .1)
+    puts-length (room-less (mostLine * l .i) (mostLine * s .args .n) (omega (arith, l .inv .0)) (s .pre .1)) (l .inv .1)
 
 returns : tie.Need-returns Inv-loop μ-loop
 returns c =
     let a = c .before .before .before .before .args in
     let l = c .before .loop in
     let e : l .i ≡ a .n = omega arith in
-    subst (λ (i : ℕ). Puts (linesOf (a .rows .now) i) (a .index) (l .at) (a .out .now) (l .out)) e (l .inv .1)
+    subst (λ (i : ℕ). LinesPut (a .rows .now) (a .out .now) (a .index) i (l .at) (l .out)) e (l .inv .1)
 
 pub put-rows-spec : {M : Type 1} → statement M
 put-rows-spec =

@@ -1,4 +1,5 @@
-use Rattle.text.specs.Text.{newline, numeral, rowsWord, linesOf, rowsText}
+use Prim.Native.Nat.{_+_, _*_}
+use Rattle.text.specs.Text.{mostNumeral, mostLine, rowsText}
 use Rattle.text.proofs.Puts.{room-first, room-then, puts-then}
 use borrow.Author.Needs.{needs}
 use Rattle.text.proofs.put_rows_text.Statement.{statement}
@@ -8,20 +9,21 @@ slice-aggregate-put-bytes : tie.Need-slice-aggregate-put-bytes
 slice-aggregate-put-bytes c = search needs
 
 put-bytes-requires : tie.Need-put-bytes-requires
-unfolding rowsText
-put-bytes-requires c κs = room-first rowsWord _ (c .before .before .before .before .pre .1)
+put-bytes-requires c κs =
+    let s = c .before .before .before .before in
+    room-first 5 (mostNumeral + mostLine * s .args .n) (s .pre .1)
 
 put-number-requires : tie.Need-put-number-requires
-unfolding rowsText
 put-number-requires c κs =
     let s = c .before .before .before .before .before .before .before .before in
-    room-first (numeral (s .args .n) newline) _ (room-then rowsWord _ (s .pre .1) (c .before .before .before .put-bytes .ensures))
+    let lines = mostLine * s .args .n in
+    room-first mostNumeral lines (room-then 5 (mostNumeral + lines) (s .pre .1) (c .before .before .before .put-bytes .ensures))
 
 put-rows-requires : tie.Need-put-rows-requires
-unfolding rowsText
 put-rows-requires c κs =
     let s = c .before .before .before .before .before .before .before .before .before .before .before .before in
-    (s .pre .0, room-then (numeral (s .args .n) newline) _ (room-then rowsWord _ (s .pre .1) (c .before .before .before .before .before .before .before .put-bytes .ensures)) (c .before .before .before .put-number .ensures))
+    let lines = mostLine * s .args .n in
+    (s .pre .0, room-then mostNumeral lines (room-then 5 (mostNumeral + lines) (s .pre .1) (c .before .before .before .before .before .before .before .put-bytes .ensures)) (c .before .before .before .put-number .ensures))
 
 same-length : tie.Need-same-length
 same-length c = search needs
@@ -30,8 +32,9 @@ returns : tie.Need-returns
 unfolding rowsText
 returns c =
     let s = c .before .before .before .before .before .before .before .before .before .before .before .before .before .before .before in
+    let lines = mostLine * s .args .n in
     let p = c .before .before .before .before .before .before .before .before .before .before .put-bytes .ensures in
-    puts-then rowsWord _ (s .pre .1) p (puts-then (numeral (s .args .n) newline) _ (room-then rowsWord _ (s .pre .1) p) (c .before .before .before .before .before .before .put-number .ensures) (c .before .before .put-rows .ensures))
+    puts-then 5 (mostNumeral + lines) (s .pre .1) p (puts-then mostNumeral lines (room-then 5 (mostNumeral + lines) (s .pre .1) p) (c .before .before .before .before .before .before .put-number .ensures) (c .before .before .put-rows .ensures))
 
 pub put-rows-text-spec : {M : Type 1} → statement M
 put-rows-text-spec =
