@@ -91,7 +91,7 @@ module _ (input : List ℕ) where
 test-inverse : {A : Type 0} (b : Bool) (e : Reason) (k : Unit {0} → Outcome Reason A) (a : A) → test b e k ≡ accepted a → (b ≡ true) × (k tt ≡ accepted a)
 test-inverse b e k a h = let t = test-passed b e k a h in (t, sym (test-true e k t) ∙ h)
 
-bind-inverse : {A B : Type 0} (x : Outcome Reason A) (k : A → Outcome Reason B) (b : B) → bind x k ≡ accepted b → (a : A) × (x ≡ accepted a) × (k a ≡ accepted b)
+pub bind-inverse : {A B : Type 0} (x : Outcome Reason A) (k : A → Outcome Reason B) (b : B) → bind x k ≡ accepted b → (a : A) × (x ≡ accepted a) × (k a ≡ accepted b)
 bind-inverse (accepted a) k b h = (a, refl, h)
 bind-inverse (refused e) k b h = let z : _≡_ {A = ℕ} 0 1 = cc in absurd (omega arith)
 
@@ -125,7 +125,12 @@ module _ (input : List ℕ) (p : Parts) where
 
   accepts : LaidOut input p → layoutOf input ≡ accepted p
   unfolding layoutOf recordAfter
-  accepts l = ?
+  accepts l =
+      test-true _ _ (le-leb (length input) mostInput (l .short))
+      ∙ ap (λ (o : Outcome Reason ℕ). bind o (λ words. test (leb words mostWords) (notLaidOut input) (λ _. recordAfter input words))) (count-accepted 0 (p .words) (omega (arith, l .start, l .whole)) (l .counted))
+      ∙ test-true _ _ (le-leb (p .words) mostWords (l .few))
+      ∙ sym (record-ends input (p .words) (sym (count-accepted (4 + 4 * p .words) (p .size) (omega (arith, l .start, l .whole)) (l .sized))) (omega (arith, l .start, l .whole)))
+      ∙ ap (λ (k : ℕ). accepted (record { words = p .words; start = k; size = p .size })) (sym (l .start))
 
   -- an input is accepted exactly where it is laid out
   pub layout-exactly : (layoutOf input ≡ accepted p) ↔ LaidOut input p

@@ -2,3 +2,4 @@ pub mod Digits
 pub mod Puts
 pub mod Input
 pub mod Lines
+pub mod Read
