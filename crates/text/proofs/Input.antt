@@ -13,7 +13,9 @@ use Rattle.refusal.proofs.Outcome.{test-true, test-false, test-passed}
 use Rattle.packed.specs.declared.UnpackedU32.{UnpackedU32}
 use Rattle.packed.specs.Meaning.{unpackedU32}
 use Rattle.packed.specs.Packed.{unpackLittleEndian, present, unpackAt}
-use Rattle.text.specs.Input.{Parts, mostInput, mostWords, notLaidOut, countAt, recordAfter, layoutOf, LaidOut}
+use Rattle.text.specs.declared.Layout.{Layout}
+use Rattle.text.specs.declared.Layout.the-variants as L
+use Rattle.text.specs.Input.{Parts, mostInput, mostWords, notLaidOut, countAt, recordAfter, layoutOf, LaidOut, partsOf}
 
 -- an answer that was matched
 pub matched : {o : Outcome Reason ℕ} {p q : UnpackedU32} → p ≡ q → unpackedU32 p ≡ o → unpackedU32 q ≡ o
@@ -135,3 +137,11 @@ module _ (input : List ℕ) (p : Parts) where
   -- an input is accepted exactly where it is laid out
   pub layout-exactly : (layoutOf input ≡ accepted p) ↔ LaidOut input p
   layout-exactly = (laid-out, accepts)
+
+-- an answer that was matched: the parts, and what is known of them
+module _ (input : List ℕ) {r : Layout} {words start size : ℕ} (e : r ≡ L.Parts words start size) (h : partsOf r ≡ layoutOf input) where
+  pub parts-matched : accepted (record { words = words; start = start; size = size }) ≡ layoutOf input
+  parts-matched = ap partsOf (sym e) ∙ h
+
+  pub parts-laid : LaidOut input (record { words = words; start = start; size = size })
+  parts-laid = laid-out input (record { words = words; start = start; size = size }) (sym parts-matched)

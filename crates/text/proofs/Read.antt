@@ -53,9 +53,12 @@ module _ (input : List ℕ) where
   pub input-refused : (rows : List ℕ) {f : Refusal} → refused (reasonOf f) ≡ layoutOf input → Parses (readInput input) 0 (P.Refused f) rows rows
   input-refused rows h = parses-refused (readInput input) 0 rows (ap (map countsOf) (read-by h))
 
-  pub input-read : (p : Parts) {r : Parsed} {rows exit : List ℕ} → accepted p ≡ layoutOf input → Parses (demarshallOf (grammarOf input p) (recordOf input p) mostRows) 0 r rows exit → Parses (readInput input) 0 r rows exit
+  pub input-read : (p : Parts) {words size : ℕ} {r : Parsed} {rows exit : List ℕ} → accepted p ≡ layoutOf input → words ≡ p .words → size ≡ p .size → Parses (demarshallOf (wordsAt input words) (take size (drop (p .start) input)) mostRows) 0 r rows exit → Parses (readInput input) 0 r rows exit
   unfolding afterLayout
-  input-read p {r} {rows} {exit} h q = subst (λ (o : Outcome Reason (Step State Val)). Parses o 0 r rows exit) (read-by h) q
+  input-read p {words} {size} {r} {rows} {exit} h w e q =
+      let d : Parses (demarshallOf (wordsAt input (p .words)) (take size (drop (p .start) input)) mostRows) 0 r rows exit = subst (λ (k : ℕ). Parses (demarshallOf (wordsAt input k) (take size (drop (p .start) input)) mostRows) 0 r rows exit) w q in
+      subst (λ (o : Outcome Reason (Step State Val)). Parses o 0 r rows exit) (read-by h)
+      (subst (λ (k : ℕ). Parses (demarshallOf (wordsAt input (p .words)) (take k (drop (p .start) input)) mostRows) 0 r rows exit) e d)
 
 -- a value that was read has as many rows as it is answered, and they fit
 record Counted (t : Step State Val) : Type 0 where
