@@ -61,3 +61,8 @@ module _ (m n : ℕ) {index : ℕ} {out : List ℕ} (h : RoomFor (m + n) index o
       output = q .output ∙ rw (p .output, p .behind) (put-more out index xs ys (index + length xs) refl (omega (arith, p .within, q .within, h .room)));
       within = rw length-append (omega (arith, p .within, q .within));
     }
+
+-- what was put from byte 0 on lies within the output
+pub puts-inside : {bs : List ℕ} {most next : ℕ} {out exit : List ℕ} → Puts bs most 0 next out exit → next ≤ length exit
+unfolding put
+puts-inside p = rw (p .behind, p .output) (simp length-append (omega arith))

@@ -99,9 +99,10 @@ text-shown input {p} {rows} {exit} l h = go (readInput input) p (input-counted i
     go : (o : Outcome Reason (Step State Val)) (q : Parsed) → ((t : Step State Val) → o ≡ accepted t → Counted t) → Parses o 0 q rows exit → FewRows exit q × (textOf exit q ≡ shown o)
     go (accepted t) (P.Value n rest) f r =
         let k = f t refl in
-        let e : n ≡ t .state .begun = ap answered (r .answers) in
-        ((omega (arith, k .count, k .few), omega (arith, k .count, k .few)),
-        rw (e, r .rows) (put-text rows (rowsOf (t .value) 0) (t .state .begun) (omega (arith, length-rowsOf (t .value) 0, k .count))))
+        let e : n ≡ t .state .begun = ap answered (r .answers) in (
+          (omega (arith, k .count, k .few), omega (arith, k .count, k .few)),
+          rw (e, r .rows) (put-text rows (rowsOf (t .value) 0) (t .state .begun) (omega (arith, length-rowsOf (t .value) 0, k .count))),
+        )
     go (accepted t) (P.Refused g) f r = let a = r .answers in let z : _≡_ {A = ℕ} 0 1 = cc in absurd (omega arith)
     go (refused e) (P.Value n rest) f r = let a = r .answers in let z : _≡_ {A = ℕ} 0 1 = cc in absurd (omega arith)
     go (refused e) (P.Refused g) f r = let a = r .answers in let q : reasonOf g ≡ e = cc in (tt, ap refusalText q)

@@ -19,7 +19,11 @@ use refusal::Refusal;
 
 // How the input is laid out: so many words from byte 4 on, and the record, where it starts and how long it is.
 pub enum Layout {
-    Parts { words: usize, start: usize, size: usize },
+    Parts {
+        words: usize,
+        start: usize,
+        size: usize,
+    },
     Refused(Refusal),
 }
 
