@@ -31,7 +31,11 @@ use Rattle.writing.specs.Marshall.{valueOf, marshallValOf}
 use Rattle.route.specs.Demands.{InTable, grammarStart, grammarLength, nodeKind, nodeRule, child, byteSlice, indexAbove, noRow, bytesMissing, tagAbove, recordEnd, rowTable, rowBroken, outsideStore, notInGrammar, sizeAbove, outputShort, notAnArray, numberOf, among, grammarNumbers, packerNumbers, unpackerNumbers, rowNumbers, locatorNumbers, readingNumbers, wholeNumbers, rewritingNumbers, recordNumbers, writingNumbers, Refuses, RefusedBy, Demand1}
 use Rattle.route.specs.Rewriting.{rewriteOf}
 use Rattle.route.specs.SameRoute.{NamedReason, ofGrammar, ofFirst, ofSecond, sameRouteOf, naming, readBoth}
-use Rattle.route.proofs.Answers.{one-answer, one-unpackedU32, one-unpackedU64, one-sizeOf, one-located, one-parsedOf, one-sameRoute}
+use Rattle.refusal.proofs.Meaning.{outcome-injective}
+use Rattle.packed.proofs.Meaning.{unpackedU32-injective, unpackedU64-injective}
+use Rattle.rows.proofs.Meaning.{sizeOf-injective, located-injective}
+use Rattle.reading.proofs.Meaning.{parsedOf-injective}
+use Rattle.route.proofs.Answers.{sameRoute-injective}
 use Rattle.route.proofs.Comparing.{compares-one}
 use Rattle.route.proofs.Outcome.{map-refused}
 use Rattle.route.proofs.Reading.{rows-kept}
@@ -277,13 +281,13 @@ marshall-only g t n s len index = only-bind _
 
 pub demand1 : Demand1
 demand1 = record {
-  answer = one-answer;
-  unpackedUint32 = one-unpackedU32;
-  unpackedUint64 = one-unpackedU64;
-  size = one-sizeOf;
-  array = one-located;
-  counts = one-parsedOf;
-  route = one-sameRoute;
+  answer = outcome-injective;
+  unpackedUint32 = unpackedU32-injective;
+  unpackedUint64 = unpackedU64-injective;
+  size = sizeOf-injective;
+  array = located-injective;
+  counts = parsedOf-injective;
+  route = sameRoute-injective;
   grammar = λ g. refuses grammarNumbers (checkGrammar g) (grammar-only g);
   room = λ len index size. refuses packerNumbers (room len index size) (room-only len index size);
   packers = λ out index bs. refuses packerNumbers (putAt out index bs) (only-map _ (room-only _ index _));
@@ -297,9 +301,7 @@ demand1 = record {
   writing = λ g t n s len index. refuses writingNumbers (marshallValOf g t n s len index) (marshall-only g t n s len index);
   rewriting = λ g d capacity len index. refuses rewritingNumbers (rewriteOf g d capacity len index) (rewrite-only g d capacity len index);
   routes = λ g first second e q. post-refused (rw q at (both-only g first second));
-  oneRoute = λ g first second r q a b.
-      let x = one-sameRoute (sameRouteOf q) in
-      x .2 r (compares-one g first second (sameRouteOf r) (sameRouteOf q) a b) ∙ sym (x .2 q refl);
+  oneRoute = λ g first second r q a b. sameRoute-injective r q (compares-one g first second (sameRouteOf r) (sameRouteOf q) a b);
   fillsNothing = λ o a entry exit h e q. h .buffer ∙ ap (λ (x : Outcome Reason (List ℕ)). contents x entry) (map-refused (λ _. tt) o (sym (h .answers) ∙ q));
   parsesNothing = λ o index r entry exit h e q. rows-kept h (map-refused countsOf o (sym (h .answers) ∙ q));
   marshallsNothing = λ o index w entry exit h e q. h .output ∙ ap (λ (x : Outcome Reason Val). contents (map (λ v. put entry index (bytesOf v)) x) entry) (map-refused SizeOfV o (sym (h .answers) ∙ q));

@@ -21,12 +21,13 @@ use Rattle.value.specs.Parse.{parseVal}
 use Rattle.value.proofs.Laws.{packSeq-bytes, length-bytesOf, bytesOf-byteArray, parseVal-bytesOf, parseVal-value}
 use Rattle.value.proofs.Reading.{read-fits}
 use Rattle.grammar.specs.Tree.{treeOf}
+use Rattle.grammar.proofs.Rule.{accepted-exactly}
 use Rattle.grammar.proofs.Tree.{tree-valid}
 use Rattle.rows.specs.Walk.{walk}
-use Rattle.rows.proofs.Rule.{accepted-exactly}
+use Rattle.rows.proofs.Rule.{accepted-exactly as rows-exactly}
 use Rattle.reading.specs.Meaning.{Counts}
 use Rattle.reading.specs.Calls.{capacityOf, withoutState, parseValOf, demarshallOf, countsOf}
-use Rattle.reading.proofs.Calls.{admit-index, parse-read}
+use Rattle.reading.proofs.Calls.{admit-index, admitted, parse-read, parse-accepted}
 use Rattle.reading.proofs.Bridge.{parse-parses, parse-stands, parse-none, demarshall-accepted, demarshall-refused}
 use Rattle.writing.specs.Marshall.{marshallValOf}
 use Rattle.route.specs.Demands.{PutThere, ParseValAgrees, DemarshallAgrees, SizesAgree, ByteRule, RuleStands, WritesTheRule, NumbersAgree, Demand2}
@@ -42,9 +43,21 @@ parse-val-agrees g d rows exit index r w b h = record {
   value = λ k e.
       let y = map-accepted countsOf (parseValOf g d index capacity) (sym (h .answers) ∙ e) in
       let t = y .0 in
-      let n : countsOf t ≡ countsOf (readTo (t .value) (start index)) = ap countsOf (parse-stands g d index capacity w b t (y .1) .2) in
-      let p : parseVal (drop index d) (treeOf g 0) ≡ (some (t .value), drop (k .restIndex) d) = subst (λ (c : Counts). parseVal (drop index d) (treeOf g 0) ≡ (some (t .value), drop (c .restIndex) d)) (sym (y .2)) (parse-parses g d index capacity t (y .1)) in
-      (t .value, p, ap (λ (c : Counts). c .rows) (y .2 ∙ n) ∙ omega arith, rows-laid h t (y .1));
+      let a = admitted g d index (parse-accepted g d index capacity t (y .1) .0) in
+      let x = parse-stands g d index capacity w b t (y .1) in
+      let n : k ≡ countsOf (readTo (t .value) (start index)) = y .2 ∙ ap countsOf (x .2) in (
+        t .value,
+        record {
+          passes = accepted-exactly g .1 (a .0);
+          short = a .1;
+          inside = a .2;
+          fits = x .1;
+          parsed = subst (λ (c : Counts). parseVal (drop index d) (treeOf g 0) ≡ (some (t .value), drop (c .restIndex) d)) (sym (y .2)) (parse-parses g d index capacity t (y .1));
+          count = ap (λ (c : Counts). c .rows) n ∙ omega arith;
+          rest = ap (λ (c : Counts). c .restIndex) n;
+          layout = rows-laid h t (y .1);
+        },
+      );
   nothing = λ n place e l. parse-none g d index capacity n place l (map-refused countsOf (parseValOf g d index capacity) (sym (h .answers) ∙ e));
   within = λ p s i v rest e f.
       let x = parseVal-value (treeOf g 0) (tree-valid g w 0) (drop index d) (bytes-drop index d b) v rest e in
@@ -73,8 +86,8 @@ demarshall-agrees g d rows exit r w b h = record {
 
 sizes-agree : SizesAgree
 sizes-agree t s n r words bytes h size = (
-  λ e. let y = map-accepted SizeOfV (walk t n s) (sym h ∙ e) in (y .0, accepted-exactly t n s (y .0) words bytes .0 (y .1), y .2),
-  λ x. h ∙ ap (map SizeOfV) (accepted-exactly t n s (x .0) words bytes .1 (x .1)) ∙ ap accepted (sym (x .2)),
+  λ e. let y = map-accepted SizeOfV (walk t n s) (sym h ∙ e) in (y .0, rows-exactly t n s (y .0) words bytes .0 (y .1), y .2),
+  λ x. h ∙ ap (map SizeOfV) (rows-exactly t n s (x .0) words bytes .1 (x .1)) ∙ ap accepted (sym (x .2)),
 )
 
 byte-rule : ByteRule

@@ -1,26 +1,31 @@
--- That the demands are not empty: a record that is read, one that is refused by 8 whatever rows are lent, and a grammar with two values.
-use mathlib.Core.Path.{_≡_, refl, sym, ap, subst}
+-- That the demands are not empty: a record that is read, one that is refused by 8 whatever rows are lent, and a grammar with two different values.
+use mathlib.Core.Path.{_≡_, refl, sym, ap, subst, _∙_}
 use mathlib.Core.Bool.{Bool, true, _&&_}
 use mathlib.Core.List.{List, [], _∷_}
-use Prim.Native.Nat.{ℕ, zero, suc, _^_, _<_}
+use Prim.Native.Nat.{ℕ, zero, suc, _^_, _≤_, _<_}
 use native.Mathlib.Omega.{arith}
 use lib.ListN.{length}
 use lib.Dec.{ltb, lit<}
 use borrow.Author.Tests.{ltb-true}
+use Rattle.refusal.specs.Outcome.{Outcome, refused, map, contents, Reason, reason, byte}
+use Rattle.refusal.specs.declared.Place.the-variants.{Byte}
 use Rattle.refusal.proofs.Tests.{and-true}
 use Rattle.packed.specs.Packed.{Bytes, Below, unpackLittleEndian, unpackLittleEndianSeq, packLittleEndian, packLittleEndianSeq, put}
 use Rattle.value.specs.Kinds.{kinds, kindOf}
-use Rattle.value.specs.Tree.{GConstant, Vals, VConstant, VArray, VUint32, vnil, vcons, seqV, AllInGrammar, inConstant, inNumber, inArray, inTuple, inNumberArray, allNil, allCons, eachNil, eachCons, CountsBelow, CountsBelowAll, TypedVal, TypedVals, SizeOfV, rowCount, rowCounts}
+use Rattle.value.specs.Tree.{GConstant, Val, Vals, VConstant, VArray, VUint32, vnil, vcons, seqV, AllInGrammar, inConstant, inNumber, inArray, inTuple, inNumberArray, allNil, allCons, eachNil, eachCons, CountsBelow, CountsBelowAll, TypedVal, TypedVals, SizeOfV, SeqSum, rowCount, rowCounts}
 use Rattle.value.specs.Bytes.{bytesOf}
-use Rattle.value.specs.Reading.{claim, takeNumber, takeNumbers, readBody, readWhole}
-use Rattle.value.proofs.Laws.{bytesOf-bytes}
+use Rattle.value.specs.Reading.{State, claim, takeNumber, takeNumbers, readBody, readWhole}
+use Rattle.value.specs.Step.{Step}
+use Rattle.value.proofs.Laws.{bytesOf-bytes, length-bytesOf}
+use Rattle.value.proofs.Reading.{whole-short}
 use Rattle.grammar.specs.Check.{checkLayout, checkNode, checkChildren, checkNodes, checkGrammar}
 use Rattle.grammar.specs.Tree.{nodeTree, childTrees, treeTo, treeOf}
 use Rattle.rows.specs.Layout.{ownRow, rowsOf}
-use Rattle.reading.specs.Calls.{capacityOf, demarshallOf}
+use Rattle.reading.specs.Calls.{capacityOf, withoutState, demarshallOf, countsOf}
 use Rattle.reading.specs.declared.Parsed.the-variants as P
 use Rattle.route.specs.Demands.{Grammar, ValueOfGrammar, RecordOf, WholeReading}
 use Rattle.route.specs.Bench.{grammarA, recordA, valueA, grammarC}
+use Rattle.route.proofs.Reading.{value-of, demarshall-read}
 
 -- a list whose elements are tested one by one
 abbrev allBelow : ℕ → List ℕ → Bool
@@ -103,9 +108,43 @@ record-C n l = record {
   bytes = refl;
 }
 
+constants-size : (n : ℕ) → SeqSum (constants n) ≡ 0
+unfolding constants SizeOfV
+constants-size zero = refl
+constants-size (suc n) = omega (arith, constants-size n)
+
+-- whatever the count, the record has 8 bytes
+pub length-C : (n : ℕ) → length (bytesOf (VArray (constants n))) ≡ 8
+unfolding SizeOfV
+length-C n = length-bytesOf (VArray (constants n)) ∙ omega (arith, constants-size n)
+
+grammar-C : Grammar grammarC
+unfolding checkGrammar checkLayout checkNodes checkNode checkChildren kindOf kinds
+grammar-C = record { words = all-below (2 ^ 32) grammarC refl; passes = refl }
+
 pub rows-C : (words : ℕ) → capacityOf words < rowCount (VArray (constants 4096))
 unfolding rowCount
 rows-C words = omega (arith, constants-rows 4096)
+
+-- there is a reading of it, whatever rows are lent: it is refused by 8
+pub reading-C : (rows : List ℕ) → (place : ℕ) × WholeReading grammarC (bytesOf (VArray (constants 4096))) rows (P.Refused (record { number = 8; place = Byte place })) rows
+reading-C rows =
+    let v = VArray (constants 4096) in
+    let d = bytesOf v in
+    let short : length d ≤ 1048576 = omega (arith, length-C 4096) in
+    let s = whole-short (capacityOf (length rows)) (treeOf grammarC 0) v (value-of grammar-C (record-C 4096 (lit< tt) .value)) (rows-C (length rows)) in
+    let e : demarshallOf grammarC d (capacityOf (length rows)) ≡ refused (reason 8 (byte (s .0 .at))) = demarshall-read grammarC d (capacityOf (length rows)) grammar-C short ∙ ap withoutState (s .1) in (
+      s .0 .at,
+      record {
+        grammar = grammar-C;
+        bytes = bytesOf-bytes v;
+        short = short;
+        call = record {
+          answers = sym (ap (map countsOf) e);
+          rows = sym (ap (λ (o : Outcome Reason (Step State Val)). contents (map (λ t. put rows 0 (rowsOf (t .value) 0)) o) rows) e);
+        };
+      },
+    )
 
 -- ---- the grammar of one uint32
 

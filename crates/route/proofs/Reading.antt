@@ -67,7 +67,7 @@ module _ {o : Outcome Reason (Step State Val)} {index : ℕ} {r : Parsed} {rows 
 -- ---- the whole reading
 
 -- 1 to 6 are not given
-demarshall-read : (g d : List ℕ) (capacity : ℕ) → Grammar g → length d ≤ 1048576 → demarshallOf g d capacity ≡ withoutState (readWhole capacity d (treeOf g 0))
+pub demarshall-read : (g d : List ℕ) (capacity : ℕ) → Grammar g → length d ≤ 1048576 → demarshallOf g d capacity ≡ withoutState (readWhole capacity d (treeOf g 0))
 unfolding demarshallOf
 demarshall-read g d capacity w l =
     ap (λ (o : Outcome Reason (Unit {0})). bind o (λ _. test (leb (length d) 1048576) (reason 6 (byte 0)) (λ _. withoutState (readWhole capacity d (treeOf g 0))))) (w .passes)

@@ -38,10 +38,10 @@ use Rattle.route.specs.declared.SameRoute.{SameRoute}
 -- ==== Demand 1. "Every call is defined on every input: no grammar, record, row table or index is assumed sound, each call comes to an end"
 
 -- That nothing is assumed and that each call ends is in the text of the calls: no public one has a `requires`, and each is proved to end. Its
--- contract equates answer and buffers with an outcome that is defined on all lists and numbers; and every outcome has one answer that means
--- it, so a contract can be met and leaves nothing to the program
-abbrev pub OneAnswer : {R E A : Type 0} → (R → Outcome E A) → Type 0
-OneAnswer {R} {E} {A} meaning = (o : Outcome E A) → (r : R) × (meaning r ≡ o) × ((q : R) → meaning q ≡ o → q ≡ r)
+-- contract equates answer and buffers with an outcome that is defined on all lists and numbers; and an outcome has at most one answer that
+-- means it, so nothing is left to the program
+abbrev pub AtMostOneAnswer : {R E A : Type 0} → (R → Outcome E A) → Type 0
+AtMostOneAnswer {R} meaning = (q r : R) → meaning q ≡ meaning r → q ≡ r
 
 -- "a refusal names its number and place": the rows of document 01's table, but for 19, which only the program gives
 pub data InTable : Reason → Type 0 where
@@ -119,13 +119,13 @@ RefusedBy (ofSecond e) = InTable e × (among recordNumbers (numberOf e) ≡ true
 -- A check's answer is a function of the outcome that is named here, so its refusals are these
 pub record Demand1 : Type 0 where
   -- of each answer enum
-  pub answer : OneAnswer outcomeOf
-  pub unpackedUint32 : OneAnswer unpackedU32
-  pub unpackedUint64 : OneAnswer unpackedU64
-  pub size : OneAnswer sizeOf
-  pub array : OneAnswer located
-  pub counts : OneAnswer parsedOf
-  pub route : OneAnswer sameRouteOf
+  pub answer : AtMostOneAnswer outcomeOf
+  pub unpackedUint32 : AtMostOneAnswer unpackedU32
+  pub unpackedUint64 : AtMostOneAnswer unpackedU64
+  pub size : AtMostOneAnswer sizeOf
+  pub array : AtMostOneAnswer located
+  pub counts : AtMostOneAnswer parsedOf
+  pub route : AtMostOneAnswer sameRouteOf
   -- `check_grammar`
   pub grammar : (g : List ℕ) → Refuses grammarNumbers (checkGrammar g)
   -- `room` of `packed`
@@ -169,11 +169,22 @@ pub record PutThere (bs out : List ℕ) (index : ℕ) (exit : List ℕ) : Type 0
 
 -- ==== Demand 2. "Reading, writing and sizes agree with the source's own definitions, within the limits of document 01"
 
+-- what `parse_val` accepts: GM parses v from the index on, none of 1 to 8 is to be given, and the row count, `rest_index`, where GM's rest
+-- begins, and the rows at exit are v's
+pub record ParsedAs (g d : List ℕ) (index : ℕ) (rows : List ℕ) (k : Counts) (exit : List ℕ) (v : Val) : Type 0 where
+  pub passes : checkGrammar g ≡ accepted tt
+  pub short : length d ≤ 1048576
+  pub inside : index ≤ length d
+  pub fits : rowCount v ≤ capacityOf (length rows)
+  pub parsed : parseVal (drop index d) (treeOf g 0) ≡ (some v, drop (k .restIndex) d)
+  pub count : k .rows ≡ rowCount v
+  pub rest : k .restIndex ≡ index + SizeOfV v
+  pub layout : exit ≡ put rows 0 (rowsOf v index)
+
 -- "Reading": `parse_val` beside GM's `parse_Val` of the bytes from the index on. The limits are 1 to 8. One that refuses all fails
--- `within`, and a made-up value or rest fails `value`
+-- `within`; a made-up value or rest, or a value beyond the limits, fails `value`
 pub record ParsesAs (g d : List ℕ) (index : ℕ) (rows : List ℕ) (r : Parsed) (exit : List ℕ) : Type 0 where
-  -- what is accepted is what GM parses, and `rest_index` is where GM's rest begins
-  pub value : (k : Counts) → parsedOf r ≡ accepted k → (v : Val) × (parseVal (drop index d) (treeOf g 0) ≡ (some v, drop (k .restIndex) d)) × (k .rows ≡ rowCount v) × (exit ≡ put rows 0 (rowsOf v index))
+  pub value : (k : Counts) → parsedOf r ≡ accepted k → (v : Val) × ParsedAs g d index rows k exit v
   -- refused, and none of 1 to 8: GM parses nothing
   pub nothing : (n : ℕ) (place : Location) → parsedOf r ≡ refused (reason n place) → 8 < n → parseVal (drop index d) (treeOf g 0) ≡ (none, [])
   -- what GM parses within the limits is accepted
@@ -298,7 +309,8 @@ pub record WholeReading (g d rows : List ℕ) (r : Parsed) (exit : List ℕ) : T
   pub call : Parses (demarshallOf g d (capacityOf (length rows))) 0 r rows exit
 
 -- (a) "the whole reading accepts the record exactly when it is the bytes of some value of that grammar that fits the rows lent".
--- A reader that refuses all, or gives 8 at once, fails from right to left: case A's record is the bytes of a value that fits (`record-A`)
+-- A reader that refuses all, or gives 8 at once, fails from right to left: case A's record is the bytes of a value (`record-A`) that fits the
+-- rows lent in `reading-A`, where it is accepted
 abbrev pub AcceptsExactly : Type 0
 AcceptsExactly =
     (g d rows exit : List ℕ) (r : Parsed) → WholeReading g d rows r exit
@@ -323,7 +335,8 @@ HandsOut =
     → (k : Counts) → parsedOf r ≡ accepted k → (v : Val) × HandedOut g d rows (k .rows) exit v × (k .restIndex ≡ length d)
 
 -- (c) "the record of a value that needs more rows is refused by number 8".
--- Whatever rows are lent there is such a record: an array of 4,096 constants, of 8 bytes (`record-C`, `rows-C`)
+-- Whatever rows are lent there is such a record and a reading of it: an array of 4,096 constants, of 8 bytes (`record-C`, `rows-C`,
+-- `reading-C`)
 abbrev pub NeedsMoreRows : Type 0
 NeedsMoreRows =
     (g d rows exit : List ℕ) (r : Parsed) → WholeReading g d rows r exit
@@ -356,7 +369,7 @@ pub record FrontPart (part whole : List ℕ) : Type 0 where
 
 -- (e) "of any two different values of one such grammar, each of at most 4,096 rows and 1,048,576 bytes, neither has bytes that equal the
 -- other's or are a front part of them". It holds without these limits, so they are not asked. No reader is in it.
--- The grammar of one uint32 has two values (`two-values`); the bytes are the byte rule's, so another one-to-one spelling is another statement
+-- The grammar of one uint32 has two different values (`two-values`); the bytes are the byte rule's, so another one-to-one spelling is another statement
 abbrev pub NoFrontPart : Type 0
 NoFrontPart =
     (g : List ℕ) → Grammar g → (u v : Val) → ValueOfGrammar g u → ValueOfGrammar g v → ¬ (u ≡ v)
