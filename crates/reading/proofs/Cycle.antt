@@ -12,7 +12,7 @@ use mathlib.Core.Path.{fun-ext}
 use borrow.Author.Tests.{lt-ltb, le-ltb, le-leb, lt-leb}
 use lib.Dec.{leb, ltb}
 use Rattle.refusal.specs.Outcome.{Outcome, accepted, refused, test, map}
-use Rattle.refusal.proofs.Outcome.{test-true, test-false}
+use Rattle.refusal.proofs.Outcome.{map-accepted, test-true, test-false}
 use Rattle.packed.specs.Packed.{Bytes, put}
 use Rattle.packed.proofs.Put.{length-put, put-more, put-nothing}
 use Rattle.value.specs.Tree.{G, Gs, GArray, GTaggedUnion, VArray, VCase, Val, Vals, vnil, vcons, seqG, caseAt, ValidGrammar, SizeOfV, rowCount, rowCounts}
@@ -28,7 +28,7 @@ use Rattle.reading.specs.declared.Step.{Step as CodeStep}
 use Rattle.reading.specs.declared.Step.the-variants.{Next, Stopped}
 use Rattle.reading.specs.Meaning.{stateOf, stepOf}
 use Rattle.reading.specs.Reads.{laid, Room, Reads, closed, takeBelow}
-use Rattle.reading.proofs.Laws.{map-accepted, laid-lent, reads-next}
+use Rattle.reading.proofs.Laws.{laid-lent, reads-next}
 
 -- Rows laid one behind the other.
 
@@ -81,7 +81,7 @@ module _ (capacity : ℕ) (d : List ℕ) (g : G) (s : State) (h : s .at ≤ leng
 pub went-on : {A : Type 0} {rowsAt : A → ℕ → List ℕ} {x : Reading A} {capacity row p : ℕ} {entry exit : List ℕ} {r : CodeStep} (u : CodeState) → r ≡ Next u → Reads rowsAt x capacity row p entry r exit → (a : A) × (x ≡ yield a (stateOf u)) × (u .capacity ≡ capacity) × (exit ≡ laid entry row (rowsAt a p))
 went-on {A} {rowsAt} {x} {capacity} {row} {p} {entry} {exit} u e r =
     let q : accepted (stateOf u) ≡ map (λ t. t .state) x = ap stepOf (sym e) ∙ r .answers in
-    let m = map-accepted (λ (t : Step State A). t .state) x q in
+    let m = map-accepted (λ (t : Step State A). t .state) x (sym q) in
     let v : stateOf u ≡ m .0 .state = state-of (q ∙ ap (map (λ (t : Step State A). t .state)) (m .1)) in
     (m .0 .value, m .1 ∙ ap (λ (s : State). yield (m .0 .value) s) (sym v), rw e at (r .keeps), r .rows (m .0) (m .1))
   where

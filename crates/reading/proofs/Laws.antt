@@ -12,7 +12,7 @@ use lib.Seq.{length-take-le}
 use lib.Dec.{leb}
 use borrow.Author.Tests.{lt-ltb, le-ltb, le-leb, leb-true}
 use Rattle.refusal.specs.Outcome.{Outcome, accepted, refused, test, map, Reason, reason, byte}
-use Rattle.refusal.proofs.Outcome.{test-true, test-false}
+use Rattle.refusal.proofs.Outcome.{map-accepted, test-true, test-false}
 use Rattle.refusal.specs.Meaning.{reasonOf}
 use Rattle.refusal.specs.declared.Refusal.{Refusal}
 use Rattle.packed.specs.Packed.{put, present, unpackAt, unpackLittleEndian, unpackLittleEndianSeq}
@@ -130,15 +130,11 @@ module _ {A : Type 0} {rowsAt : A → ℕ → List ℕ} {x : Reading A} {capacit
     rows = λ t f. let q : record { value = a; state = stateOf u } ≡ t = cc in l ∙ ap (λ (y : Step State A). laid entry row (rowsAt (y .value) p)) q;
   }
 
-pub map-accepted : {E A B : Type 0} (f : A → B) (x : Outcome E A) {b : B} → accepted b ≡ map f x → (a : A) × (x ≡ accepted a)
-map-accepted f (accepted a) h = (a, refl)
-map-accepted f (refused e) h = let z : _≡_ {A = ℕ} 0 1 = cc in absurd (omega arith)
-
 -- an unpacked number was there
 pub unpacked-fits : (w : ℕ) (d : List ℕ) (at n : ℕ) → accepted n ≡ unpackAt w d at → at + w ≤ length d
 unpacked-fits w d at n h =
-    let x = map-accepted (unpackLittleEndian w) (map (λ _. take w (drop at d)) (present (length d) at w)) h in
-    let y = map-accepted (λ _. take w (drop at d)) (present (length d) at w) (sym (x .1)) in
+    let x = map-accepted (unpackLittleEndian w) (map (λ _. take w (drop at d)) (present (length d) at w)) (sym h) in
+    let y = map-accepted (λ _. take w (drop at d)) (present (length d) at w) (x .1) in
     present-fits (length d) at w (sym (y .1))
 
 -- the child words of a node in a table that passes lie within it

@@ -20,10 +20,10 @@ place-of (Word n) = refl
 place-of (Byte n) = refl
 place-of (Row n) = refl
 
-abbrev refusalOf : Reason → Refusal
+abbrev pub refusalOf : Reason → Refusal
 refusalOf (reason n l) = record { place = placeOf l; number = n }
 
-refusal-of : (r : Refusal) → refusalOf (reasonOf r) ≡ r
+pub refusal-of : (r : Refusal) → refusalOf (reasonOf r) ≡ r
 refusal-of r = rw (place-of (r .place))
 
 pub reason-injective : (r s : Refusal) → reasonOf r ≡ reasonOf s → r ≡ s

@@ -1,4 +1,4 @@
--- The laws of outcomes: of `bind`, of `test`, and of a postcondition along both.
+-- The laws of outcomes: of `bind`, of `test`, of `map`, and of a postcondition along them.
 use mathlib.Core.Path.{_≡_, refl, ap, _∙_}
 use mathlib.Core.List.{List}
 use mathlib.Core.Logic.{_↔_}
@@ -39,6 +39,16 @@ map-bind f (refused e) k = refl
 pub map-map : {E A B C : Type 0} (f : B → C) (g : A → B) (x : Outcome E A) → map f (map g x) ≡ map (λ a. f (g a)) x
 map-map f g (accepted a) = refl
 map-map f g (refused e) = refl
+
+-- what the value or the error of a function says of the outcome
+module _ {E A B : Type 0} (f : A → B) where
+  pub map-accepted : (o : Outcome E A) {b : B} → map f o ≡ accepted b → (a : A) × (o ≡ accepted a) × (b ≡ f a)
+  map-accepted (accepted a) h = (a, refl, cc)
+  map-accepted (refused e) h = let z : _≡_ {A = ℕ} 0 1 = cc in absurd (omega arith)
+
+  pub map-refused : (o : Outcome E A) {e : E} → map f o ≡ refused e → o ≡ refused e
+  map-refused (accepted a) h = let z : _≡_ {A = ℕ} 0 1 = cc in absurd (omega arith)
+  map-refused (refused x) h = cc
 
 -- P holds of the value, Q of the error
 pub data Post {E A : Type 0} (P : A → Type 0) (Q : E → Type 0) : Outcome E A → Type 0 where

@@ -6,6 +6,7 @@ use mathlib.Core.List.{List}
 use Prim.Native.Nat.{ℕ, _^_}
 use native.Mathlib.Omega.{arith}
 use Rattle.refusal.specs.Outcome.{Outcome, accepted, refused, map, Reason}
+use Rattle.refusal.proofs.Outcome.{map-accepted, map-refused}
 use Rattle.refusal.proofs.Tests.{refuted, refutes}
 use Rattle.packed.specs.Packed.{Bytes, Below}
 use Rattle.value.specs.Tree.{Val}
@@ -18,7 +19,6 @@ use Rattle.reading.specs.Meaning.{Counts}
 use Rattle.reading.specs.Calls.{demarshallOf, countsOf}
 use Rattle.reading.proofs.Bridge.{demarshall-accepted}
 use Rattle.route.specs.SameRoute.{NamedReason, ofGrammar, ofFirst, ofSecond, Both, readBoth, Same, Compares}
-use Rattle.route.proofs.Outcome.{map-accepted, map-refused}
 
 -- an accepted record is the bytes of its value
 pub record-bytes : (g d : List ℕ) (capacity : ℕ) → Below (2 ^ 32) g → Bytes d → (t : Step State Val) → demarshallOf g d capacity ≡ accepted t → d ≡ bytesOf (t .value)

@@ -9,7 +9,7 @@ use lib.ListN.{length, take, drop}
 use lib.Seq.{take-at, take-all, drop-drop}
 use borrow.Author.Tests.{le-leb}
 use Rattle.refusal.specs.Outcome.{Outcome, accepted, map, contents, Fills, Reason}
-use Rattle.refusal.proofs.Outcome.{test-true}
+use Rattle.refusal.proofs.Outcome.{test-true, map-accepted, map-refused}
 use Rattle.packed.specs.Packed.{unpackLittleEndian, unpackLittleEndianSeq, packLittleEndian, packLittleEndianSeq, present, room, put, putAt}
 use Rattle.packed.proofs.Laws.{bytes-drop, length-pack, pack-bytes, unpack-packed, pack-unique, length-packSeq, length-unpackSeq, unpackSeq-take, getD-unpackSeq, unpackSeq-packSeq, packSeq-unpackSeq}
 use Rattle.packed.proofs.Calls.{present-inside}
@@ -31,7 +31,6 @@ use Rattle.reading.proofs.Calls.{admit-index, admitted, parse-read, parse-accep
 use Rattle.reading.proofs.Bridge.{parse-parses, parse-stands, parse-none, demarshall-accepted, demarshall-refused}
 use Rattle.writing.specs.Marshall.{marshallValOf}
 use Rattle.route.specs.Demands.{PutThere, ParseValAgrees, DemarshallAgrees, SizesAgree, ByteRule, RuleStands, WritesTheRule, NumbersAgree, Demand2}
-use Rattle.route.proofs.Outcome.{map-accepted, map-refused}
 use Rattle.route.proofs.Put.{put-at}
 use Rattle.route.proofs.Reading.{rows-laid}
 use Rattle.route.proofs.Writing.{accepted-writable, written}

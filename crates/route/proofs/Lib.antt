@@ -1,5 +1,5 @@
-pub mod Outcome
 pub mod Answers
+pub mod Refusals
 pub mod Put
 pub mod Reading
 pub mod Writing

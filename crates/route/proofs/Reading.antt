@@ -9,7 +9,7 @@ use lib.Seq.{take-all, take-at, drop-at}
 use lib.Dec.{leb}
 use borrow.Author.Tests.{le-leb}
 use Rattle.refusal.specs.Outcome.{Outcome, accepted, refused, bind, test, map, contents, Reason, reason, byte}
-use Rattle.refusal.proofs.Outcome.{test-true}
+use Rattle.refusal.proofs.Outcome.{test-true, map-accepted}
 use Rattle.packed.specs.Packed.{put}
 use Rattle.packed.proofs.Put.{length-put}
 use Rattle.value.specs.Tree.{Val, Vals, VConstant, VNumber, VArray, VTuple, VNumberArray, VCase, vnil, vcons, ValidVal, ValidVals, CountsBelow, CountsBelowAll, ValueOf, SizeOfV, rowCount}
@@ -29,7 +29,6 @@ use Rattle.reading.specs.Calls.{capacityOf, withoutState, demarshallOf, countsO
 use Rattle.reading.specs.declared.Parsed.{Parsed}
 use Rattle.reading.proofs.Calls.{withoutState-accepted}
 use Rattle.route.specs.Demands.{Grammar, ValueOfGrammar, RecordOf, WholeReading}
-use Rattle.route.proofs.Outcome.{map-accepted}
 
 -- ---- values
 

@@ -7,6 +7,7 @@ use native.Mathlib.Omega.{arith}
 use lib.ListN.{length, drop, take-append-drop}
 use lib.Seq.{drop-drop}
 use Rattle.refusal.specs.Outcome.{Outcome, accepted, refused, bind, map, contents, Reason}
+use Rattle.refusal.proofs.Outcome.{map-accepted, map-refused}
 use Rattle.refusal.specs.Meaning.{reasonOf}
 use Rattle.refusal.specs.declared.Refusal.{Refusal}
 use Rattle.packed.specs.Packed.{Bytes, Below, room, put}
@@ -27,7 +28,6 @@ use Rattle.reading.proofs.Calls.{admitted, parse-accepted, whole-accepted}
 use Rattle.writing.specs.Marshall.{marshallValOf, Marshalls}
 use Rattle.route.specs.Demands.{PutThere}
 use Rattle.route.specs.Rewriting.{rewriteOf, Rewrites}
-use Rattle.route.proofs.Outcome.{map-accepted, map-refused}
 use Rattle.route.proofs.Reading.{rows-laid, rows-kept}
 use Rattle.route.proofs.Demand3.{demand3}
 

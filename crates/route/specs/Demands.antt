@@ -2,13 +2,11 @@
 -- stand the words that it says, and what would leave it empty; proofs/Demand1.antt to Demand3.antt prove them.
 use mathlib.Core.Path.{_≡_}
 use mathlib.Core.Logic.{_↔_}
-use mathlib.Core.Bool.{Bool, true, false, _||_}
 use mathlib.Core.Option.{none, some}
-use mathlib.Core.List.{List, [], _∷_, _++_}
+use mathlib.Core.List.{List, [], _++_}
 use Prim.Native.Nat.{ℕ, _+_, _*_, _^_, _≤_, _<_}
 use lib.ListN.{length, getD, take, drop}
-use lib.Dec.{eqb}
-use Rattle.refusal.specs.Outcome.{Outcome, accepted, refused, Fills, Location, word, byte, row, Reason, reason}
+use Rattle.refusal.specs.Outcome.{Outcome, accepted, refused, Fills, Location, byte, Reason, reason}
 use Rattle.refusal.specs.Meaning.{outcomeOf}
 use Rattle.packed.specs.Packed.{Bytes, Below, unpackLittleEndian, unpackLittleEndianSeq, packLittleEndian, packLittleEndianSeq, unpackAt, unpackSeqAt, room, put, putAt}
 use Rattle.packed.specs.Meaning.{unpackedU32, unpackedU64}
@@ -18,6 +16,7 @@ use Rattle.value.specs.Step.{Step}
 use Rattle.value.specs.Reading.{State}
 use Rattle.value.specs.Parse.{parseVal, Demarshallable, DemarshallFunc}
 use Rattle.grammar.specs.Check.{checkGrammar}
+use Rattle.grammar.specs.Rule.{FirstRefusal}
 use Rattle.grammar.specs.Tree.{treeOf}
 use Rattle.rows.specs.Row.{rowWidth}
 use Rattle.rows.specs.Layout.{rowsOf}
@@ -32,7 +31,8 @@ use Rattle.reading.specs.Calls.{capacityOf, parseValOf, demarshallOf, Parses}
 use Rattle.reading.specs.declared.Parsed.{Parsed}
 use Rattle.writing.specs.Marshall.{marshallValOf, Marshalls}
 use Rattle.route.specs.Rewriting.{rewriteOf, Rewrites}
-use Rattle.route.specs.SameRoute.{NamedReason, ofGrammar, ofFirst, ofSecond, sameRouteOf, readBoth, Compares}
+use Rattle.route.specs.SameRoute.{sameRouteOf, readBoth, Compares}
+use Rattle.route.specs.Refusals.{Refuses, NoRoom, NotThere, RowsRefused, LocatorRefused, ReadingRefused, WholeRefused, WritingRefused, RewritingRefused, RouteRefused}
 use Rattle.route.specs.declared.SameRoute.{SameRoute}
 
 -- ==== Demand 1. "Every call is defined on every input: no grammar, record, row table or index is assumed sound, each call comes to an end"
@@ -43,79 +43,8 @@ use Rattle.route.specs.declared.SameRoute.{SameRoute}
 abbrev pub AtMostOneAnswer : {R E A : Type 0} → (R → Outcome E A) → Type 0
 AtMostOneAnswer {R} meaning = (q r : R) → meaning q ≡ meaning r → q ≡ r
 
--- "a refusal names its number and place": the rows of document 01's table, but for 19, which only the program gives
-pub data InTable : Reason → Type 0 where
-  grammarStart : InTable (reason 1 (word 0))
-  grammarLength : (nodes : ℕ) → InTable (reason 2 (word (1 + 3 * nodes)))
-  nodeKind : (node : ℕ) → InTable (reason 3 (word (1 + 3 * node)))
-  nodeRule : (node : ℕ) → InTable (reason 4 (word (2 + 3 * node)))
-  child : (at : ℕ) → InTable (reason 5 (word at))
-  byteSlice : InTable (reason 6 (byte 0))
-  indexAbove : (index : ℕ) → InTable (reason 7 (byte index))
-  noRow : (start : ℕ) → InTable (reason 8 (byte start))
-  bytesMissing : (start : ℕ) → InTable (reason 9 (byte start))
-  tagAbove : (start : ℕ) → InTable (reason 10 (byte start))
-  recordEnd : (rest : ℕ) → InTable (reason 11 (byte rest))
-  rowTable : InTable (reason 12 (row 0))
-  rowBroken : (i : ℕ) → InTable (reason 13 (row i))
-  outsideStore : (i : ℕ) → InTable (reason 14 (row i))
-  notInGrammar : (i : ℕ) → InTable (reason 15 (row i))
-  sizeAbove : InTable (reason 16 (row 0))
-  outputShort : (len : ℕ) → InTable (reason 17 (byte len))
-  notAnArray : (i : ℕ) → InTable (reason 18 (row i))
-
-abbrev pub numberOf : Reason → ℕ
-numberOf (reason n place) = n
-
-abbrev pub among : List ℕ → ℕ → Bool
-among [] n = false
-among (m ∷ ms) n = eqb n m || among ms n
-
--- the numbers that document 01 lists for the calls
-abbrev pub grammarNumbers : List ℕ
-grammarNumbers = 1 ∷ 2 ∷ 3 ∷ 4 ∷ 5 ∷ []
-
-abbrev pub packerNumbers : List ℕ
-packerNumbers = 17 ∷ []
-
-abbrev pub unpackerNumbers : List ℕ
-unpackerNumbers = 7 ∷ 9 ∷ []
-
-abbrev pub rowNumbers : List ℕ
-rowNumbers = 6 ∷ 12 ∷ 13 ∷ 14 ∷ []
-
-abbrev pub locatorNumbers : List ℕ
-locatorNumbers = 6 ∷ 12 ∷ 13 ∷ 14 ∷ 18 ∷ []
-
-abbrev pub readingNumbers : List ℕ
-readingNumbers = 1 ∷ 2 ∷ 3 ∷ 4 ∷ 5 ∷ 6 ∷ 7 ∷ 8 ∷ 9 ∷ 10 ∷ []
-
--- from byte 0, which is no index above the length, to the end
-abbrev pub wholeNumbers : List ℕ
-wholeNumbers = 1 ∷ 2 ∷ 3 ∷ 4 ∷ 5 ∷ 6 ∷ 8 ∷ 9 ∷ 10 ∷ 11 ∷ []
-
--- `rewrite` of src/lib.rt: room, then the whole reading
-abbrev pub rewritingNumbers : List ℕ
-rewritingNumbers = 17 ∷ wholeNumbers
-
--- of a record under a grammar that passes
-abbrev pub recordNumbers : List ℕ
-recordNumbers = 6 ∷ 8 ∷ 9 ∷ 10 ∷ 11 ∷ []
-
-abbrev pub writingNumbers : List ℕ
-writingNumbers = 1 ∷ 2 ∷ 3 ∷ 4 ∷ 5 ∷ 6 ∷ 12 ∷ 13 ∷ 14 ∷ 15 ∷ 16 ∷ 17 ∷ []
-
--- every refusal is in the table, and its number is one of the call's. When it is given is the definition's, which the contract equates with
--- the answer: one that never refuses, or always, is another definition
-abbrev pub Refuses : {A : Type 0} → List ℕ → Outcome Reason A → Type 0
-Refuses numbers o = (e : Reason) → o ≡ refused e → InTable e × (among numbers (numberOf e) ≡ true)
-
--- `same_route`: a refusal of the grammar, which names neither record, or of the record that it names
-abbrev pub RefusedBy : NamedReason → Type 0
-RefusedBy (ofGrammar e) = InTable e × (among grammarNumbers (numberOf e) ≡ true)
-RefusedBy (ofFirst e) = InTable e × (among recordNumbers (numberOf e) ≡ true)
-RefusedBy (ofSecond e) = InTable e × (among recordNumbers (numberOf e) ≡ true)
-
+-- "a refusal names its number and place": `Refuses Q o` says that the errors of o are exactly those with Q, and each Q of specs/Refusals.antt
+-- gives the number, the place and what they are given for. A writer that answers every refusal with 17 at byte 0 fails `writing`
 -- A check's answer is a function of the outcome that is named here, so its refusals are these
 pub record Demand1 : Type 0 where
   -- of each answer enum
@@ -127,30 +56,30 @@ pub record Demand1 : Type 0 where
   pub counts : AtMostOneAnswer parsedOf
   pub route : AtMostOneAnswer sameRouteOf
   -- `check_grammar`
-  pub grammar : (g : List ℕ) → Refuses grammarNumbers (checkGrammar g)
+  pub grammar : (g : List ℕ) → Refuses (FirstRefusal g) (checkGrammar g)
   -- `room` of `packed`
-  pub room : (len index size : ℕ) → Refuses packerNumbers (room len index size)
+  pub room : (len index size : ℕ) → Refuses (NoRoom len index size) (room len index size)
   -- the four packers, and `copy_seq_into_array`
-  pub packers : (out : List ℕ) (index : ℕ) (bs : List ℕ) → Refuses packerNumbers (putAt out index bs)
+  pub packers : (out : List ℕ) (index : ℕ) (bs : List ℕ) → Refuses (NoRoom (length out) index (length bs)) (putAt out index bs)
   -- the unpackers of one number, and of a sequence
-  pub unpackers : (w : ℕ) (s : List ℕ) (index : ℕ) → Refuses unpackerNumbers (unpackAt w s index)
-  pub unpackersSeq : (w : ℕ) (s : List ℕ) (index len : ℕ) → Refuses unpackerNumbers (unpackSeqAt w s index len)
+  pub unpackers : (w : ℕ) (s : List ℕ) (index : ℕ) → Refuses (NotThere (length s) index w) (unpackAt w s index)
+  pub unpackersSeq : (w : ℕ) (s : List ℕ) (index len : ℕ) → Refuses (NotThere (length s) index (w * len)) (unpackSeqAt w s index len)
   -- `check_rows`
-  pub rows : (t : List ℕ) (n : ℕ) (s : List ℕ) → Refuses rowNumbers (walk t n s)
+  pub rows : (t : List ℕ) (n : ℕ) (s : List ℕ) → Refuses (RowsRefused t n s) (walk t n s)
   -- `compute_size_of`
-  pub sizes : (t : List ℕ) (n : ℕ) (s : List ℕ) → Refuses rowNumbers (computeSizeOf t n s)
+  pub sizes : (t : List ℕ) (n : ℕ) (s : List ℕ) → Refuses (RowsRefused t n s) (computeSizeOf t n s)
   -- `locate_array`; `array_bytes` gives the empty part where it refuses
-  pub locator : (t : List ℕ) (n : ℕ) (s : List ℕ) (i : ℕ) → Refuses locatorNumbers (locateArray t n s i)
+  pub locator : (t : List ℕ) (n : ℕ) (s : List ℕ) (i : ℕ) → Refuses (LocatorRefused t n s i) (locateArray t n s i)
   -- `parse_val`, `check_val`
-  pub reading : (g d : List ℕ) (index capacity : ℕ) → Refuses readingNumbers (parseValOf g d index capacity)
+  pub reading : (g d : List ℕ) (index capacity : ℕ) → Refuses (ReadingRefused g d index capacity) (parseValOf g d index capacity)
   -- `demarshall`, `check_whole`
-  pub wholeReading : (g d : List ℕ) (capacity : ℕ) → Refuses wholeNumbers (demarshallOf g d capacity)
+  pub wholeReading : (g d : List ℕ) (capacity : ℕ) → Refuses (WholeRefused g d capacity) (demarshallOf g d capacity)
   -- `marshall_val`, `marshall`
-  pub writing : (g t : List ℕ) (n : ℕ) (s : List ℕ) (len index : ℕ) → Refuses writingNumbers (marshallValOf g t n s len index)
+  pub writing : (g t : List ℕ) (n : ℕ) (s : List ℕ) (len index : ℕ) → Refuses (WritingRefused g t n s len index) (marshallValOf g t n s len index)
   -- `rewrite`
-  pub rewriting : (g d : List ℕ) (capacity len index : ℕ) → Refuses rewritingNumbers (rewriteOf g d capacity len index)
+  pub rewriting : (g d : List ℕ) (capacity len index : ℕ) → Refuses (RewritingRefused g d capacity len index) (rewriteOf g d capacity len index)
   -- `same_route`, whose contract allows one answer
-  pub routes : (g first second : List ℕ) (e : NamedReason) → readBoth g first second ≡ refused e → RefusedBy e
+  pub routes : (g first second : List ℕ) → Refuses (RouteRefused g first second) (readBoth g first second)
   pub oneRoute : (g first second : List ℕ) (r q : SameRoute) → Compares g first second (sameRouteOf r) → Compares g first second (sameRouteOf q) → r ≡ q
   -- "and a refusal alters no buffer lent to the call": a slice of numbers or bytes, rows, the output
   pub fillsNothing : (o : Outcome Reason (List ℕ)) (a : Outcome Reason (Unit {0})) (entry exit : List ℕ) → Fills o a entry exit → (e : Reason) → a ≡ refused e → exit ≡ entry

@@ -1,4 +1,5 @@
 pub mod Rewriting
 pub mod SameRoute
+pub mod Refusals
 pub mod Demands
 pub mod Bench

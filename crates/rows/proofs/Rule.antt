@@ -98,7 +98,7 @@ module _ (t s : List ℕ) where
 -- ---- from the walk to the rows
 
 -- the kind word of a class
-abbrev wordOf : Kind → ℕ
+abbrev pub wordOf : Kind → ℕ
 wordOf constant = 0
 wordOf (number k) = numberKind k
 wordOf array = 3
@@ -118,7 +118,7 @@ word-in (k ∷ l) b zero h m = eqb-true (wordOf k) b (and-true (eqb (wordOf k) b
 word-in (k ∷ l) b (suc w) h m = word-in l (suc b) w (and-true (eqb (wordOf k) b) (numbered l (suc b)) h .1) (omega arith) ∙ omega arith
 
 -- a kind word that document 01 names is its class's
-kind-word : (w : ℕ) → (kindOf w ≡ other → ⊥) → w ≡ wordOf (kindOf w)
+pub kind-word : (w : ℕ) → (kindOf w ≡ other → ⊥) → w ≡ wordOf (kindOf w)
 unfolding kindOf kinds
 kind-word w h = go (decLt w (length kinds))
   where

@@ -12,7 +12,7 @@ use borrow.Author.Tests.{le-leb, leb-true}
 use Rattle.refusal.specs.Outcome.{Outcome, accepted, refused, bind, test, map, contents, Reason, reason, row}
 use Rattle.refusal.specs.Meaning.{reasonOf}
 use Rattle.refusal.specs.declared.Refusal.{Refusal}
-use Rattle.refusal.proofs.Outcome.{map-map, test-true, test-passed}
+use Rattle.refusal.proofs.Outcome.{map-map, map-accepted, map-refused, test-true, test-passed}
 use Rattle.packed.specs.Packed.{Bytes, Below, room, put}
 use Rattle.packed.proofs.Calls.{room-test, room-fits}
 use Rattle.value.specs.Tree.{Val, SizeOfV}
@@ -43,15 +43,7 @@ sized p h = ap sizeOf (sym p) ∙ h
 pub size-refused : {x : SizeOf} {r : Refusal} {o : Outcome Reason ℕ} → x ≡ SizeOf.Refused r → sizeOf x ≡ o → refused (reasonOf r) ≡ o
 size-refused p h = ap sizeOf (sym p) ∙ h
 
--- what an accepted or refused value of a function says
-map-accepted : {A B : Type 0} (f : A → B) (o : Outcome Reason A) {b : B} → accepted b ≡ map f o → (a : A) × (o ≡ accepted a) × (b ≡ f a)
-map-accepted f (accepted a) h = let q = h in (a, refl, cc)
-map-accepted f (refused e) h = let z : _≡_ {A = ℕ} 0 1 = cc in absurd (omega arith)
-
-map-refused : {A B : Type 0} (f : A → B) (o : Outcome Reason A) {e : Reason} → refused e ≡ map f o → o ≡ refused e
-map-refused f (accepted a) h = let z : _≡_ {A = ℕ} 0 1 = cc in absurd (omega arith)
-map-refused f (refused x) h = let q = h in cc
-
+-- what an accepted outcome says of the one that it goes on from
 bind-accepted : {A B : Type 0} (o : Outcome Reason A) (k : A → Outcome Reason B) {b : B} → bind o k ≡ accepted b → (a : A) × (o ≡ accepted a) × (k a ≡ accepted b)
 bind-accepted (accepted a) k h = (a, refl, h)
 bind-accepted (refused e) k h = let z : _≡_ {A = ℕ} 0 1 = cc in absurd (omega arith)
@@ -62,7 +54,7 @@ bind-accepted (refused e) k h = let z : _≡_ {A = ℕ} 0 1 = cc in absurd (omeg
 pub table-sized : (t : List ℕ) (n : ℕ) (s : List ℕ) → Below (2 ^ 64) t → Bytes s → {size : ℕ} → accepted size ≡ map SizeOfV (walk t n s) → (h : Table t n s) × (size ≡ SizeOfV (h .value))
 table-sized t n s words bytes e =
     let h = passed t n s words bytes (ap (map (λ _. tt)) e ∙ map-map (λ _. tt) SizeOfV (walk t n s)) in
-    let x = map-accepted SizeOfV (walk t n s) e in
+    let x = map-accepted SizeOfV (walk t n s) (sym e) in
     let q : accepted (x .0) ≡ accepted (h .value) = sym (x .1) ∙ h .walked in
     let v : x .0 ≡ h .value = cc in
     (h, x .2 ∙ ap SizeOfV v)
@@ -78,7 +70,7 @@ module _ (g t : List ℕ) (n : ℕ) (s : List ℕ) where
   module _ (a : accepted tt ≡ checkGrammar g) where
     pub value-rows : {e : Reason} → refused e ≡ map SizeOfV (walk t n s) → refused e ≡ map SizeOfV (valueOf g t n s)
     unfolding valueOf
-    value-rows h = rw (← a, map-refused SizeOfV (walk t n s) h)
+    value-rows h = rw (← a, map-refused SizeOfV (walk t n s) (sym h))
 
     module _ (h : Table t n s) where
       pub value-refused : {e : Reason} → refused e ≡ checkInGrammar (h .value) (treeOf g 0) 0 → refused e ≡ map SizeOfV (valueOf g t n s)
@@ -96,7 +88,7 @@ module _ (g t : List ℕ) (n : ℕ) (s : List ℕ) where
   module _ (len index : ℕ) where
     pub write-refused : {e : Reason} → refused e ≡ map SizeOfV (valueOf g t n s) → refused e ≡ map SizeOfV (marshallValOf g t n s len index)
     unfolding marshallValOf
-    write-refused h = rw (map-refused SizeOfV (valueOf g t n s) h)
+    write-refused h = rw (map-refused SizeOfV (valueOf g t n s) (sym h))
 
     -- room decided: 1 is the width of a byte
     pub write-room : {size : ℕ} → accepted size ≡ map SizeOfV (valueOf g t n s) → (o : Outcome Reason (Unit {0})) → o ≡ room len index (1 * size) → map (λ _. size) o ≡ map SizeOfV (marshallValOf g t n s len index)
@@ -126,7 +118,7 @@ module _ (g t : List ℕ) (n : ℕ) (s : List ℕ) (len index : ℕ) where
       let d = bind-accepted (checkInGrammar (c .0) (treeOf g 0) 0) _ (c .2) in
       let l : leb (SizeOfV (c .0)) 1048576 ≡ true = test-passed (leb (SizeOfV (c .0)) 1048576) (reason 16 (row 0)) (λ _. accepted (c .0)) (a .0) (d .2) in
       let e : accepted (c .0) ≡ accepted (a .0) = sym (test-true _ _ l) ∙ d .2 in
-      let m = map-accepted (λ _. a .0) (room len index (SizeOfV (a .0))) (sym (a .2)) in
+      let m = map-accepted (λ _. a .0) (room len index (SizeOfV (a .0))) (a .2) in
       let w : c .0 ≡ a .0 = let q = e in cc in
       let u : v ≡ c .0 = m .2 ∙ sym w in
       rw u (record {
@@ -152,7 +144,7 @@ pub record Written (g t : List ℕ) (n : ℕ) (s : List ℕ) (len index : ℕ) :
 module _ (g t : List ℕ) (n : ℕ) (s : List ℕ) (len index : ℕ) where
   pub written : Below (2 ^ 64) t → Bytes s → {size : ℕ} → accepted size ≡ map SizeOfV (marshallValOf g t n s len index) → Written g t n s len index
   written words bytes h =
-      let x = map-accepted SizeOfV (marshallValOf g t n s len index) h in
+      let x = map-accepted SizeOfV (marshallValOf g t n s len index) (sym h) in
       let w = accepted-writes g t n s len index (x .0) (x .1) in
       record { value = x .0; decided = x .1; table = rows-exactly t n s (x .0) words bytes .0 (w .rows) }
 
@@ -168,7 +160,7 @@ module _ (o : Outcome Reason Val) (index : ℕ) (out : List ℕ) where
 
   pub marshalls-refused : (r : Refusal) → refused (reasonOf r) ≡ map SizeOfV o → Marshalls o index (SizeOf.Refused r) out out
   unfolding output
-  marshalls-refused r h = record { answers = h; output = sym (output (map-refused SizeOfV o h)) }
+  marshalls-refused r h = record { answers = h; output = sym (output (map-refused SizeOfV o (sym h))) }
 
   pub marshalls-put : {size : ℕ} {v : Val} {exit : List ℕ} → accepted size ≡ map SizeOfV o → o ≡ accepted v → exit ≡ put out index (bytesOf v) → Marshalls o index (SizeOf.Size size) out exit
   unfolding output

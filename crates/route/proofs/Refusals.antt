@@ -1,0 +1,409 @@
+-- When each definition refuses (specs/Refusals.antt), proved in both directions.
+use mathlib.Core.Path.{_≡_, refl, sym, ap, subst, _∙_}
+use mathlib.Core.Logic.{_↔_}
+use mathlib.Core.Bool.{Bool, true, false, _&&_}
+use mathlib.Core.Option.{none, some}
+use mathlib.Core.List.{List}
+use Prim.Native.Nat.{ℕ, zero, suc, _+_, _-_, _*_, _/_, _≤_, _<_}
+use native.Mathlib.Nat.{le-refl}
+use native.Mathlib.Omega.{arith}
+use lib.ListN.{length, drop}
+use lib.Dec.{leb, ltb, eqb}
+use borrow.Author.Tests.{le-leb, lt-leb, ltb-true}
+use Rattle.refusal.specs.Outcome.{Outcome, accepted, refused, bind, test, map, byte, row, Reason, reason}
+use Rattle.refusal.proofs.Outcome.{Post, holds, fails, post-bind, post-test, post-reflects, post-weaken, post-accepted, post-refused, bind-assoc, bind-test, test-true, test-false, map-refused}
+use Rattle.refusal.proofs.Tests.{refuted, reflects-leb, reflects-ltb, reflects-eqb, reflects-and}
+use Rattle.packed.specs.Packed.{present, room}
+use Rattle.packed.proofs.Calls.{present-index, present-inside, room-fits}
+use Rattle.value.specs.Kinds.{width, Elements, elementWidth, elementsKind, Kind, kindOf, constant, number, array, tuple, elements, union, other}
+use Rattle.value.specs.Tree.{G, Gs, GConstant, GNumber, GArray, GTuple, GNumberArray, GTaggedUnion, gnil, gcons, Val, VNumber, VArray, VTuple, VNumberArray, VCase, vcons, ValInGrammar, SizeOfV, rowCount}
+use Rattle.value.specs.Step.{Step, next, give, elements as elementsOf}
+use Rattle.value.specs.Parse.{Parse, pair, parseVal}
+use Rattle.value.specs.Reading.{State, Stop, Reading, stop, start, begin, claim, claimed, free, takeNumber, takeNumbers, readBody, readFields, readCaseAt, readVal}
+use Rattle.value.proofs.KindLaws.{elements-kind, elementWidth-positive}
+use Rattle.value.proofs.Laws.{count-fits, pair-parsed}
+use Rattle.value.proofs.Agreement.{Agrees, same, neither, short, agrees}
+use Rattle.value.proofs.Reading.{read-refused}
+use Rattle.grammar.specs.Check.{checkGrammar}
+use Rattle.grammar.specs.Rule.{FirstRefusal}
+use Rattle.grammar.specs.Tree.{treeOf}
+use Rattle.grammar.proofs.Rule.{refused-exactly}
+use Rattle.rows.specs.Row.{Row, rowAt}
+use Rattle.rows.specs.Walk.{keepsRule, withinStore, countHolds, checkRow, walkChildren, walkTo, walk}
+use Rattle.rows.specs.Locate.{lookUp, elementsPart, locateArray}
+use Rattle.rows.proofs.Laws.{reflects-rows}
+use Rattle.rows.proofs.Rule.{wordOf, kind-word}
+use Rattle.reading.specs.Calls.{withoutState, parseValOf, demarshallOf, admitOf}
+use Rattle.reading.proofs.Calls.{admit-grammar, admit-long, admit-index, parse-admitted, parse-refused, whole-parse}
+use Rattle.reading.proofs.Bridge.{parse-inside}
+use Rattle.writing.specs.InGrammar.{checkInGrammar}
+use Rattle.writing.specs.Marshall.{valueOf, marshallValOf}
+use Rattle.writing.proofs.InGrammar.{At15, in-grammar-exactly, in-grammar-refused}
+use Rattle.route.specs.Rewriting.{rewriteOf}
+use Rattle.route.specs.SameRoute.{NamedReason, ofGrammar, ofFirst, ofSecond, naming, readBoth}
+use Rattle.route.specs.Refusals.{Refuses, NoRoom, outputShort, NotThere, above, missing, RowRefused, broken, outside, RowsRefused, storeAbove, rowTable, atRow, LocatorRefused, ofRows, notAnArray, ValueRefused, noRow, bytesMissing, tagAbove, ReadingRefused, grammarFirst, recordAbove, indexAbove, atValue, WholeRefused, ofReading, recordEnd, WritingRefused, grammarBefore, rowsBefore, notInGrammar, sizeAbove, noRoom, RewritingRefused, roomFirst, readingThen, RouteRefused, byGrammar, byFirst, bySecond}
+
+-- ---- outcomes whose every error has Q
+
+abbrev Only : {E A : Type 0} → (E → Type 0) → Outcome E A → Type 0
+Only Q x = Post (λ _. Unit {0}) Q x
+
+gives : {E A : Type 0} {Q : E → Type 0} (a : A) → Only Q (accepted a)
+gives a = holds a tt
+
+only-refused : {E A : Type 0} {Q : E → Type 0} {x : Outcome E A} → Only Q x → (e : E) → x ≡ refused e → Q e
+only-refused o e q = post-refused (rw q at o)
+
+only-map : {E A B : Type 0} {Q : E → Type 0} (f : A → B) {x : Outcome E A} → Only Q x → Only Q (map f x)
+only-map f (holds a p) = gives (f a)
+only-map f (fails e q) = fails e q
+
+clash : {E A P : Type 0} {e : E} {a : A} → refused e ≡ accepted a → P
+clash h = let z : _≡_ {A = ℕ} 0 1 = cc in absurd (omega arith)
+
+module _ {E A : Type 0} {Q : E → Type 0} where
+  -- from a form y of x, each of whose errors is known to be x's, and back
+  refuses : {x y : Outcome E A} → x ≡ y → Only (λ e. x ≡ refused e → Q e) y → ((e : E) → Q e → x ≡ refused e) → Refuses Q x
+  refuses h o c e = (λ q. only-refused o e (sym h ∙ q) q, c e)
+
+  -- what is refused so, or accepted
+  known : {x : Outcome E A} → Refuses Q x → Post (λ a. x ≡ accepted a) Q x
+  known {x} r = go x refl
+    where
+      go : (y : Outcome E A) → x ≡ y → Post (λ a. x ≡ accepted a) Q y
+      go (accepted a) h = holds a h
+      go (refused e) h = fails e (r e .0 h)
+
+  -- and is one of the refusals of what goes on from it
+  before : {R : E → Type 0} {P : E → Type 0} {x : Outcome E A} → ((e : E) → Q e → R e) → Refuses Q x → Post (λ a. x ≡ accepted a) (λ e. P e → R e) x
+  before f r = post-weaken (λ _ h. h) (λ e q _. f e q) (known r)
+
+pub map-refuses : {E A B : Type 0} {Q : E → Type 0} (f : A → B) {x : Outcome E A} → Refuses Q x → Refuses Q (map f x)
+map-refuses f {x} r e = (λ q. r e .0 (map-refused f x q), λ q. ap (map f) (r e .1 q))
+
+-- ---- numbers
+
+module _ (len index size : ℕ) where
+  pub room-refuses : Refuses (NoRoom len index size) (room len index size)
+  unfolding room
+  room-refuses = refuses refl (post-reflects _ _ _ (reflects-leb (index + size) len) (λ _. gives tt) (λ n _. outputShort (omega (arith, n)))) (λ e q. back q)
+    where
+      back : {e : Reason} → NoRoom len index size e → room len index size ≡ refused e
+      back (outputShort l) = test-false _ _ (lt-leb (index + size) len l)
+
+  pub room-there : index + size ≤ len → room len index size ≡ accepted tt
+  unfolding room
+  room-there l = test-true _ _ (le-leb (index + size) len l)
+
+  pub present-refuses : Refuses (NotThere len index size) (present len index size)
+  unfolding present
+  present-refuses =
+      refuses refl
+      (post-reflects _ _ _ (reflects-leb index len)
+      (λ i. post-reflects _ _ _ (reflects-leb (index + size) len) (λ _. gives tt) (λ n _. missing i (omega (arith, n))))
+      (λ n _. above (omega (arith, n))))
+      (λ e q. back q)
+    where
+      back : {e : Reason} → NotThere len index size e → present len index size ≡ refused e
+      back (above l) = present-index len index size l
+      back (missing i l) = present-inside len index size i ∙ test-false _ _ (lt-leb (index + size) len l)
+
+-- ---- rows
+
+-- the kind word of a row whose class is that of arrays of numbers
+elements-word : (w : ℕ) {k : Elements} → kindOf w ≡ elements k → w ≡ elementsKind k
+elements-word w {k} h = kind-word w (λ o. let z : elements k ≡ other = sym h ∙ o in let y : _≡_ {A = ℕ} 0 1 = cc in omega arith) ∙ ap wordOf h
+
+-- an array that is not within the store
+not-within : (c : Kind) (r : Row) (len : ℕ) → (withinStore c r len ≡ true → ⊥) → (k : Elements) × (c ≡ elements k) × (len < r .word3 + elementWidth k * r .word2)
+not-within constant r len n = absurd (n refl)
+not-within (number k) r len n = absurd (n refl)
+not-within array r len n = absurd (n refl)
+not-within tuple r len n = absurd (n refl)
+not-within (elements k) r len n =
+    let m : r .word3 + elementWidth k * r .word2 ≤ len → ⊥ = λ l. n (le-leb (r .word3 + elementWidth k * r .word2) len l) in
+    (k, refl, omega (arith, m))
+not-within union r len n = absurd (n refl)
+not-within other r len n = absurd (n refl)
+
+itself : {P : Type 0} → P ↔ P
+itself = (λ p. p, λ p. p)
+
+module _ (t : List ℕ) (n : ℕ) (s : List ℕ) where
+  row-post : (i end : ℕ) → i < n → Post (λ _. i + rowAt t i .span ≤ end) (RowRefused t n s) (checkRow (rowAt t i) (length s) i end)
+  unfolding checkRow
+  row-post i end l =
+      let r = rowAt t i in
+      post-reflects _ _ _ (reflects-and (reflects-leb 1 (r .span)) (reflects-and (reflects-leb (i + r .span) end) itself))
+      (λ h. post-reflects (withinStore (kindOf (r .kind)) r (length s)) _ _ itself (λ _. holds _ (h .1 .0)) (λ m. let x = not-within (kindOf (r .kind)) r (length s) m in outside i l (x .0) (elements-word (r .kind) (x .1)) (x .2)))
+      (λ _. broken i l)
+
+  children-post : (f : ℕ → Outcome Reason Val) (parent end : ℕ) → parent < n → ((j : ℕ) → j < end → Only (RowRefused t n s) (f j)) → (count i : ℕ) → Only (RowRefused t n s) (walkChildren t f parent end count i)
+  unfolding walkChildren
+  children-post f parent end l c zero i = post-reflects _ _ _ (reflects-eqb i end) (λ _. gives _) (λ _. broken parent l)
+  children-post f parent end l c (suc count) i =
+      post-reflects _ _ _ (reflects-ltb i end)
+      (λ m. post-bind _ (c i m) (λ v _. only-map (vcons v) (children-post f parent end l c count (i + rowAt t i .span))))
+      (λ _. broken parent l)
+
+  walkTo-post : (depth end i : ℕ) → i < n → end ≤ n → Only (RowRefused t n s) (walkTo t s depth end i)
+  unfolding walkTo
+  walkTo-post zero end i l m = fails _ (broken i l)
+  walkTo-post (suc depth) end i l m =
+      let stop = i + rowAt t i .span in
+      post-bind _ (row-post i end l) (λ count h. only-map _ (children-post (walkTo t s depth stop) i stop l (λ j k. walkTo-post depth stop j (omega arith) (omega arith)) count (suc i)))
+
+  pub walk-refuses : Refuses (RowsRefused t n s) (walk t n s)
+  unfolding walk
+  walk-refuses =
+      refuses refl
+      (post-reflects _ _ _ (reflects-leb (length s) 1048576)
+      (λ a. post-reflects _ _ _ (reflects-rows t n)
+      (λ b. post-weaken (λ _ u. u) (λ e q w. atRow a b q w)
+      (post-reflects _ _ _ (reflects-eqb (rowAt t 0 .span) n) (λ _. walkTo-post (n - 0) n 0 (b .0) (le-refl n)) (λ _. broken 0 (b .0))))
+      (λ b _. rowTable a b))
+      (λ a _. storeAbove (omega (arith, a))))
+      (λ e q. back q)
+    where
+      back : {e : Reason} → RowsRefused t n s e → walk t n s ≡ refused e
+      back (storeAbove l) = test-false _ _ (lt-leb (length s) 1048576 l)
+      back (rowTable a b) = test-true _ _ (le-leb (length s) 1048576 a) ∙ test-false _ _ (refuted (reflects-rows t n) b)
+      back (atRow a b q w) = w
+
+  -- a row that is no array of numbers has no part
+  part-refused : (c : Kind) (r : Row) (e : Reason) → ((k : Elements) → c ≡ elements k → ⊥) → elementsPart c r e ≡ refused e
+  unfolding elementsPart
+  part-refused constant r e m = refl
+  part-refused (number k) r e m = refl
+  part-refused array r e m = refl
+  part-refused tuple r e m = refl
+  part-refused (elements k) r e m = absurd (m k refl)
+  part-refused union r e m = refl
+  part-refused other r e m = refl
+
+  -- and only such a row
+  part-post : {Q : Reason → Type 0} (c : Kind) (r : Row) (e : Reason) → (((k : Elements) → c ≡ elements k → ⊥) → Q e) → Only Q (elementsPart c r e)
+  unfolding elementsPart
+  part-post constant r e f = fails e (f (λ k h. let z : _≡_ {A = ℕ} 0 1 = cc in omega arith))
+  part-post (number j) r e f = fails e (f (λ k h. let z : _≡_ {A = ℕ} 0 1 = cc in omega arith))
+  part-post array r e f = fails e (f (λ k h. let z : _≡_ {A = ℕ} 0 1 = cc in omega arith))
+  part-post tuple r e f = fails e (f (λ k h. let z : _≡_ {A = ℕ} 0 1 = cc in omega arith))
+  part-post (elements j) r e f = gives _
+  part-post union r e f = fails e (f (λ k h. let z : _≡_ {A = ℕ} 0 1 = cc in omega arith))
+  part-post other r e f = fails e (f (λ k h. let z : _≡_ {A = ℕ} 0 1 = cc in omega arith))
+
+  module _ (i : ℕ) where
+    pub locate-refuses : Refuses (LocatorRefused t n s i) (locateArray t n s i)
+    unfolding locateArray lookUp
+    locate-refuses =
+        refuses (bind-assoc (walk t n s) _ _)
+        (post-bind _ (before (λ e q. ofRows q) walk-refuses) (λ v h.
+        rw bind-test (post-reflects _ _ _ (reflects-ltb i n)
+        (λ l. part-post (kindOf (rowAt t i .kind)) (rowAt t i) _ (λ m _. notAnArray v h (λ k _ e. m k (ap kindOf e ∙ elements-kind k))))
+        (λ m _. notAnArray v h (λ k l _. m l)))))
+        (λ e q. back q)
+      where
+        at : (b : Bool) → (b ≡ true → i < n) → ((k : Elements) → i < n → rowAt t i .kind ≡ elementsKind k → ⊥) → bind (test b (reason 18 (row i)) (λ _. accepted (rowAt t i))) (λ r. elementsPart (kindOf (r .kind)) r (reason 18 (row i))) ≡ refused (reason 18 (row i))
+        at true l m = part-refused (kindOf (rowAt t i .kind)) (rowAt t i) (reason 18 (row i)) (λ k e. m k (l refl) (elements-word (rowAt t i .kind) e))
+        at false l m = refl
+
+        back : {e : Reason} → LocatorRefused t n s i e → locateArray t n s i ≡ refused e
+        back (ofRows {e = e} q) = rw (walk-refuses e .1 q)
+        back (notAnArray v h m) = rw h (at (ltb i n) (ltb-true i n) m)
+
+-- ---- reading
+
+-- 8, 9 or 10 of a value that starts at one of these bytes
+data Placed (from to : ℕ) : Stop → Type 0 where
+  placed8 : (s : State) → from ≤ s .at → s .at ≤ to → Placed from to (stop 8 s)
+  placed9 : (s : State) → from ≤ s .at → s .at ≤ to → Placed from to (stop 9 s)
+  placed10 : (s : State) → from ≤ s .at → s .at ≤ to → Placed from to (stop 10 s)
+
+placed-from : {a b to : ℕ} {e : Stop} → a ≤ b → Placed b to e → Placed a to e
+placed-from l (placed8 s f t) = placed8 s (omega arith) t
+placed-from l (placed9 s f t) = placed9 s (omega arith) t
+placed-from l (placed10 s f t) = placed10 s (omega arith) t
+
+module _ (capacity : ℕ) (d : List ℕ) where
+  -- a reading that neither ends nor is refused before a byte or behind the record
+  abbrev Stays : {A : Type 0} → ℕ → Reading A → Type 0
+  Stays from x = Post (λ t. (from ≤ t .state .at) × (t .state .at ≤ length d)) (Placed from (length d)) x
+
+  stays-from : {A : Type 0} {from : ℕ} {x : Reading A} (at : ℕ) → from ≤ at → Stays at x → Stays from x
+  stays-from at l p = post-weaken (λ u q. (omega (arith, q .0), q .1)) (λ e q. placed-from l q) p
+
+  stays-give : {A B : Type 0} (f : A → B) {from : ℕ} {x : Reading A} → Stays from x → Stays from (give f x)
+  stays-give f p = post-bind _ p (λ t q. holds _ q)
+
+  stays-next : {A B : Type 0} {from : ℕ} {x : Reading A} (k : A → State → Reading B) → Stays from x → ((a : A) (t : State) → t .at ≤ length d → Stays (t .at) (k a t)) → Stays from (next x k)
+  stays-next k p c = post-bind _ p (λ t q. stays-from (t .state .at) (q .0) (c (t .value) (t .state) (q .1)))
+
+  claim-stays : (r : State → Reading Val) (s : State) → s .at ≤ length d → Stays (s .at) (r (begin s)) → Stays (s .at) (claimed capacity r s)
+  unfolding claim
+  claim-stays r s h c = post-bind _ (post-test {P = λ u. u ≡ begin s} (ltb (s .begun) capacity) _ _ (λ _. holds _ refl) (λ _. placed8 (begin s) (le-refl (s .at)) h)) (λ u e. rw e c)
+
+  number-at : (w : ℕ) (s : State) → s .at ≤ length d → Post (λ t. (t .state .at ≡ s .at + w) × (s .at + w ≤ length d)) (Placed (s .at) (length d)) (takeNumber d w s)
+  unfolding takeNumber
+  number-at w s h = post-reflects _ _ _ (reflects-leb (s .at + w) (length d)) (λ l. holds _ (refl, l)) (λ _. placed9 s (le-refl (s .at)) h)
+
+  number-stays : (w : ℕ) (s : State) → s .at ≤ length d → Stays (s .at) (takeNumber d w s)
+  number-stays w s h = post-weaken (λ t p. (omega (arith, p .0), omega (arith, p .0, p .1))) (λ _ q. q) (number-at w s h)
+
+  numbers-stays : (w : ℕ) → 0 < w → (s : State) → s .at ≤ length d → Stays (s .at) (takeNumbers d w s)
+  unfolding takeNumbers
+  numbers-stays w pos s h =
+      post-bind _ (number-at 8 s h) (λ t p.
+      post-reflects _ _ _ (reflects-leb (t .value) ((length d - s .at - 8) / w))
+      (λ l. holds _ (omega (arith, p .0), omega (arith, p .0, p .1, count-fits pos .0 l)))
+      (λ _. placed9 s (le-refl (s .at)) h))
+
+  elements-stays : (r : State → Reading Val) → ((s : State) → s .at ≤ length d → Stays (s .at) (r s)) → (n : ℕ) (s : State) → s .at ≤ length d → Stays (s .at) (elementsOf n r s)
+  unfolding elementsOf
+  elements-stays r c zero s h = holds _ (le-refl (s .at), h)
+  elements-stays r c (suc n) s h = stays-next _ (c s h) (λ v t i. stays-give (vcons v) (elements-stays r c n t i))
+
+  mutual
+    unfolding readBody
+
+    body-stays : (g : G) (s : State) → s .at ≤ length d → Stays (s .at) (readBody capacity d g s)
+    body-stays GConstant s h = holds _ (le-refl (s .at), h)
+    body-stays (GNumber k) s h = stays-give (VNumber k) (number-stays (width k) s h)
+    body-stays (GArray g) s h =
+        post-bind _ (number-stays 8 s h) (λ t p.
+        post-reflects _ _ _ (reflects-leb (t .value) (free capacity s))
+        (λ _. stays-from (t .state .at) (p .0) (stays-give VArray (elements-stays _ (λ u i. claim-stays _ u i (body-stays g (begin u) i)) (t .value) (t .state) (p .1))))
+        (λ _. placed8 s (le-refl (s .at)) h))
+    body-stays (GTuple gs) s h = stays-give VTuple (fields-stays gs s h)
+    body-stays (GNumberArray k) s h = stays-give (VNumberArray k) (numbers-stays (elementWidth k) (elementWidth-positive k) s h)
+    body-stays (GTaggedUnion gs) s h = post-bind _ (number-stays 8 s h) (λ t p. stays-give (VCase (t .value)) (case-stays gs (t .value) s (t .state) h (p .0) (p .1)))
+
+    fields-stays : (gs : Gs) (s : State) → s .at ≤ length d → Stays (s .at) (readFields capacity d gs s)
+    fields-stays gnil s h = holds _ (le-refl (s .at), h)
+    fields-stays (gcons g gs) s h = stays-next _ (claim-stays _ s h (body-stays g (begin s) h)) (λ v t i. stays-give (vcons v) (fields-stays gs t i))
+
+    case-stays : (gs : Gs) (c : ℕ) (s t : State) → s .at ≤ length d → s .at ≤ t .at → t .at ≤ length d → Stays (s .at) (readCaseAt capacity d gs c s t)
+    case-stays gnil c s t h l i = fails _ (placed10 s (le-refl (s .at)) h)
+    case-stays (gcons g gs) zero s t h l i = stays-from (t .at) l (claim-stays _ t i (body-stays g (begin t) i))
+    case-stays (gcons g gs) (suc c) s t h l i = case-stays gs c s t h l i
+
+-- what GM parses where a reading is refused needs more rows than are free
+read-few : {capacity : ℕ} {d : List ℕ} {s : State} {x : Reading Val} {y : Parse Val} → Agrees capacity d rowCount s x y → {e : Stop} → x ≡ refused e → (v : Val) (rest : List ℕ) → pair y ≡ (some v, rest) → free capacity s < rowCount v
+read-few (same a t h b f) q v rest p = clash (sym q)
+read-few (neither n t) q v rest p = let w : none ≡ some v = ap (λ x. x .0) p in let z : _≡_ {A = ℕ} 0 1 = cc in absurd (omega arith)
+read-few (short t y m) q v rest p = post-accepted (rw (pair-parsed y v rest p) at m)
+
+module _ (g d : List ℕ) (index capacity : ℕ) where
+  value-refused : index ≤ length d → (e : Stop) → readVal capacity d (treeOf g 0) (start index) ≡ refused e → ValueRefused g d index capacity (e .why)
+  value-refused h e q = go (post-refused (rw q at (claim-stays capacity d (readBody capacity d (treeOf g 0)) (start index) h (body-stays capacity d (treeOf g 0) (begin (start index)) h)))) q
+    where
+      go : {x : Stop} → Placed index (length d) x → readVal capacity d (treeOf g 0) (start index) ≡ refused x → ValueRefused g d index capacity (x .why)
+      go (placed8 s a b) q = noRow (s .at) a b (λ v rest p. let l = read-few (agrees capacity d (treeOf g 0) (start index) h) q v rest p in omega (arith, l))
+      go (placed9 s a b) q = bytesMissing (s .at) a b (read-refused capacity d (treeOf g 0) (start index) h (stop 9 s) 9 (byte (s .at)) q refl (λ z. omega arith))
+      go (placed10 s a b) q = tagAbove (s .at) a b (read-refused capacity d (treeOf g 0) (start index) h (stop 10 s) 10 (byte (s .at)) q refl (λ z. omega arith))
+
+  admit-post : Post (λ _. (checkGrammar g ≡ accepted tt) × (length d ≤ 1048576) × (index ≤ length d)) (ReadingRefused g d index capacity) (admitOf g d index)
+  unfolding admitOf
+  admit-post =
+      post-bind _ (post-weaken (λ _ h. h) (λ e q. grammarFirst q) (known (refused-exactly g))) (λ _ p.
+      post-reflects _ _ _ (reflects-leb (length d) 1048576)
+      (λ l. post-reflects _ _ _ (reflects-leb index (length d)) (λ i. holds tt (p, l, i)) (λ n. indexAbove p l (omega (arith, n))))
+      (λ n. recordAbove p (omega (arith, n))))
+
+  pub parse-refuses : Refuses (ReadingRefused g d index capacity) (parseValOf g d index capacity)
+  parse-refuses =
+      refuses (parse-admitted g d index capacity)
+      (post-bind _ (post-weaken (λ _ h. h) (λ e q _. q) admit-post) (λ _ p. go (p .0) (p .1) (p .2) (readVal capacity d (treeOf g 0) (start index)) refl))
+      (λ e q. back q)
+    where
+      go : checkGrammar g ≡ accepted tt → length d ≤ 1048576 → index ≤ length d → (x : Reading Val) → readVal capacity d (treeOf g 0) (start index) ≡ x → Only (λ e. parseValOf g d index capacity ≡ refused e → ReadingRefused g d index capacity e) (withoutState x)
+      go p l i (accepted t) q = gives t
+      go p l i (refused e) q = fails (e .why) (λ o. atValue p l i (value-refused i e q) o)
+
+      back : {e : Reason} → ReadingRefused g d index capacity e → parseValOf g d index capacity ≡ refused e
+      back (grammarFirst {e = e} f) = sym (parse-refused g d index capacity (admit-grammar g d index (sym (refused-exactly g e .1 f))))
+      back (recordAbove p l) = sym (parse-refused g d index capacity (admit-long g d index (sym p) l))
+      back (indexAbove p l i) = sym (parse-refused g d index capacity (sym (test-false _ _ (lt-leb index (length d) i)) ∙ admit-index g d index (sym p) l))
+      back (atValue p l i v q) = q
+
+module _ (g d : List ℕ) (capacity : ℕ) where
+  abbrev atEnd : Step State Val → Outcome Reason (Step State Val)
+  atEnd t = test (eqb (t .state .at) (length d)) (reason 11 (byte (t .state .at))) (λ _. accepted t)
+
+  pub demarshall-refuses : Refuses (WholeRefused g d capacity) (demarshallOf g d capacity)
+  demarshall-refuses =
+      refuses (whole-parse g d capacity)
+      (post-bind _ (before (λ e q. ofReading q) (parse-refuses g d 0 capacity)) (λ t h.
+      post-reflects _ _ _ (reflects-eqb (t .state .at) (length d)) (λ _. gives t) (λ n _. recordEnd t h (let l = parse-inside g d 0 capacity t h in omega (arith, n, l)))))
+      (λ e q. back q)
+    where
+      back : {e : Reason} → WholeRefused g d capacity e → demarshallOf g d capacity ≡ refused e
+      back (ofReading {e = e} q) = whole-parse g d capacity ∙ ap (λ (o : Outcome Reason (Step State Val)). bind o atEnd) (parse-refuses g d 0 capacity e .1 q)
+      back (recordEnd t h l) = whole-parse g d capacity ∙ ap (λ (o : Outcome Reason (Step State Val)). bind o atEnd) h ∙ test-false _ _ (refuted (reflects-eqb (t .state .at) (length d)) (λ q. omega arith))
+
+-- ---- writing
+
+module _ (g t : List ℕ) (n : ℕ) (s : List ℕ) (len index : ℕ) where
+  in-post : (v : Val) → checkGrammar g ≡ accepted tt → walk t n s ≡ accepted v → Post (λ _. ValInGrammar v (treeOf g 0)) (WritingRefused g t n s len index) (checkInGrammar v (treeOf g 0) 0)
+  in-post v p w = go (checkInGrammar v (treeOf g 0) 0) refl
+    where
+      go : (x : Outcome Reason (Unit {0})) → checkInGrammar v (treeOf g 0) 0 ≡ x → Post (λ _. ValInGrammar v (treeOf g 0)) (WritingRefused g t n s len index) x
+      go (accepted u) q = holds u (in-grammar-exactly v (treeOf g 0) 0 .0 q)
+      go (refused e) q =
+          let x = in-grammar-refused v (treeOf g 0) 0 e q in
+          fails e (subst (WritingRefused g t n s len index) (sym (x .is)) (notInGrammar v p w (λ i. clash (sym q ∙ in-grammar-exactly v (treeOf g 0) 0 .1 i)) (x .at) (omega (arith, x .to)) (q ∙ ap refused (x .is))))
+
+  pub marshall-refuses : Refuses (WritingRefused g t n s len index) (marshallValOf g t n s len index)
+  unfolding marshallValOf valueOf room
+  marshall-refuses =
+      refuses refl
+      (post-bind _
+      (post-bind _ (before (λ e q. grammarBefore q) (refused-exactly g)) (λ _ p.
+      post-bind _ (before (λ e q. rowsBefore p q) (walk-refuses t n s)) (λ v w.
+      post-bind _ (post-weaken (λ _ i. i) (λ e q _. q) (in-post v p w)) (λ _ i.
+      post-reflects {P = Written} _ _ _ (reflects-leb (SizeOfV v) 1048576) (λ l. holds v (p, w, i, l)) (λ m _. sizeAbove v p w i (omega (arith, m)))))))
+      (λ v h. only-map (λ _. v) (post-reflects _ _ _ (reflects-leb (index + SizeOfV v) len) (λ _. gives tt) (λ m _. noRoom v (h .0) (h .1) (h .2) (h .3) (omega (arith, m))))))
+      (λ e q. back q)
+    where
+      Written : Val → Type 0
+      Written v = (checkGrammar g ≡ accepted tt) × (walk t n s ≡ accepted v) × ValInGrammar v (treeOf g 0) × (SizeOfV v ≤ 1048576)
+
+      back : {e : Reason} → WritingRefused g t n s len index e → marshallValOf g t n s len index ≡ refused e
+      back (grammarBefore {e = e} q) = rw (refused-exactly g e .1 q)
+      back (rowsBefore {e = e} p q) = rw (p, walk-refuses t n s e .1 q)
+      back (notInGrammar v p w m i l q) = rw (p, w, q)
+      back (sizeAbove v p w i l) = rw (p, w, in-grammar-exactly v (treeOf g 0) 0 .1 i, lt-leb (SizeOfV v) 1048576 l)
+      back (noRoom v p w i m l) = rw (p, w, in-grammar-exactly v (treeOf g 0) 0 .1 i, le-leb (SizeOfV v) 1048576 m, lt-leb (index + SizeOfV v) len l)
+
+-- ---- the calls of src/lib.rt
+
+module _ (g d : List ℕ) (capacity len index : ℕ) where
+  pub rewrite-refuses : Refuses (RewritingRefused g d capacity len index) (rewriteOf g d capacity len index)
+  unfolding rewriteOf
+  rewrite-refuses =
+      refuses refl
+      (post-bind _ (before (λ e q. roomFirst q) (room-refuses len index (length d))) (λ _ h.
+      post-weaken (λ _ _. tt) (λ e q. q) (before (λ e q. readingThen (room-fits len index (length d) (sym h)) q) (demarshall-refuses g d capacity))))
+      (λ e q. back q)
+    where
+      back : {e : Reason} → RewritingRefused g d capacity len index e → rewriteOf g d capacity len index ≡ refused e
+      back (roomFirst {e = e} q) = rw (room-refuses len index (length d) e .1 q)
+      back (readingThen {e = e} l q) = rw (room-there len index (length d) l) (demarshall-refuses g d capacity e .1 q)
+
+naming-post : {A : Type 0} {P : A → Type 0} {Q : Reason → Type 0} {R : NamedReason → Type 0} (name : Reason → NamedReason) → ((e : Reason) → Q e → R (name e)) → {x : Outcome Reason A} → Post P Q x → Post P R (naming name x)
+naming-post name f (holds a p) = holds a p
+naming-post name f (fails e q) = fails (name e) (f e q)
+
+module _ (g first second : List ℕ) where
+  pub both-refuses : Refuses (RouteRefused g first second) (readBoth g first second)
+  unfolding readBoth
+  both-refuses =
+      refuses refl
+      (post-bind _ (naming-post ofGrammar (λ e q _. byGrammar q) (known (refused-exactly g))) (λ _ p.
+      post-bind _ (naming-post ofFirst (λ e q _. byFirst p q) (known (demarshall-refuses g first 4096))) (λ t h.
+      only-map _ (post-weaken (λ _ _. tt) (λ _ q. q) (naming-post ofSecond (λ e q _. bySecond t p h q) (known (demarshall-refuses g second 4096)))))))
+      (λ e q. back q)
+    where
+      back : {e : NamedReason} → RouteRefused g first second e → readBoth g first second ≡ refused e
+      back (byGrammar {e = e} q) = rw (refused-exactly g e .1 q)
+      back (byFirst {e = e} p q) = rw (p, demarshall-refuses g first 4096 e .1 q)
+      back (bySecond {e = e} t p h q) = rw (p, h, demarshall-refuses g second 4096 e .1 q)

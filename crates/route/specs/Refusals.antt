@@ -1,0 +1,102 @@
+-- When each definition refuses, by document 01's table: one relation for each, one constructor for each number with its place and what it is
+-- given for, where nothing before it is given. 1 to 5 are `FirstRefusal` of the grammar. 19 only the program gives.
+use mathlib.Core.Path.{_≡_}
+use mathlib.Core.Logic.{_↔_}
+use mathlib.Core.Option.{none, some}
+use mathlib.Core.List.{List, []}
+use Prim.Native.Nat.{ℕ, _+_, _*_, _≤_, _<_}
+use lib.ListN.{length, drop}
+use Rattle.refusal.specs.Outcome.{Outcome, accepted, refused, byte, row, Reason, reason}
+use Rattle.value.specs.Kinds.{Elements, elementWidth, elementsKind}
+use Rattle.value.specs.Tree.{Val, ValInGrammar, SizeOfV, rowCount}
+use Rattle.value.specs.Step.{Step}
+use Rattle.value.specs.Reading.{State}
+use Rattle.value.specs.Parse.{parseVal}
+use Rattle.grammar.specs.Check.{checkGrammar}
+use Rattle.grammar.specs.Rule.{FirstRefusal}
+use Rattle.grammar.specs.Tree.{treeOf}
+use Rattle.rows.specs.Row.{rowWidth, rowAt}
+use Rattle.rows.specs.Walk.{walk}
+use Rattle.reading.specs.Calls.{parseValOf, demarshallOf}
+use Rattle.writing.specs.InGrammar.{checkInGrammar}
+use Rattle.route.specs.SameRoute.{NamedReason, ofGrammar, ofFirst, ofSecond}
+
+-- the errors of an outcome are exactly those with Q
+abbrev pub Refuses : {E A : Type 0} → (E → Type 0) → Outcome E A → Type 0
+Refuses {E} Q o = (e : E) → (o ≡ refused e) ↔ Q e
+
+-- ---- numbers
+
+-- size bytes have no room at the index of an output of len bytes
+pub data NoRoom (len index size : ℕ) : Reason → Type 0 where
+  outputShort : len < index + size → NoRoom len index size (reason 17 (byte len))
+
+-- size bytes are not there at the index of len bytes
+pub data NotThere (len index size : ℕ) : Reason → Type 0 where
+  above : len < index → NotThere len index size (reason 7 (byte index))
+  missing : index ≤ len → len < index + size → NotThere len index size (reason 9 (byte index))
+
+-- ---- rows
+
+-- n from 1 to 4,096, and the words of n rows there
+abbrev pub RowsThere : List ℕ → ℕ → Type 0
+RowsThere t n = (0 < n) × ((n ≤ 4096) × (rowWidth * n ≤ length t))
+
+-- 13 or 14 of a row. What 13 is given for is left to the walk's definition
+pub data RowRefused (t : List ℕ) (n : ℕ) (s : List ℕ) : Reason → Type 0 where
+  broken : (i : ℕ) → i < n → RowRefused t n s (reason 13 (row i))
+  outside : (i : ℕ) → i < n → (k : Elements) → rowAt t i .kind ≡ elementsKind k → length s < rowAt t i .word3 + elementWidth k * rowAt t i .word2 → RowRefused t n s (reason 14 (row i))
+
+pub data RowsRefused (t : List ℕ) (n : ℕ) (s : List ℕ) : Reason → Type 0 where
+  storeAbove : 1048576 < length s → RowsRefused t n s (reason 6 (byte 0))
+  rowTable : length s ≤ 1048576 → (RowsThere t n → ⊥) → RowsRefused t n s (reason 12 (row 0))
+  -- which row it is, is the walk's definition
+  atRow : {e : Reason} → length s ≤ 1048576 → RowsThere t n → RowRefused t n s e → walk t n s ≡ refused e → RowsRefused t n s e
+
+-- the locator, of row i: 18 where it is not below n or its kind is not 5, 6 or 7
+pub data LocatorRefused (t : List ℕ) (n : ℕ) (s : List ℕ) (i : ℕ) : Reason → Type 0 where
+  ofRows : {e : Reason} → RowsRefused t n s e → LocatorRefused t n s i e
+  notAnArray : (v : Val) → walk t n s ≡ accepted v → ((k : Elements) → i < n → rowAt t i .kind ≡ elementsKind k → ⊥) → LocatorRefused t n s i (reason 18 (row i))
+
+-- ---- reading
+
+-- 8, 9 or 10 of a value that starts at byte p. Which byte it is, and which of the three, is left to the definition. After 8 whatever GM
+-- parses needs more rows than there are; after 9 and 10 it parses nothing
+pub data ValueRefused (g d : List ℕ) (index capacity : ℕ) : Reason → Type 0 where
+  noRow : (p : ℕ) → index ≤ p → p ≤ length d → ((v : Val) (rest : List ℕ) → parseVal (drop index d) (treeOf g 0) ≡ (some v, rest) → capacity < rowCount v) → ValueRefused g d index capacity (reason 8 (byte p))
+  bytesMissing : (p : ℕ) → index ≤ p → p ≤ length d → parseVal (drop index d) (treeOf g 0) ≡ (none, []) → ValueRefused g d index capacity (reason 9 (byte p))
+  tagAbove : (p : ℕ) → index ≤ p → p ≤ length d → parseVal (drop index d) (treeOf g 0) ≡ (none, []) → ValueRefused g d index capacity (reason 10 (byte p))
+
+pub data ReadingRefused (g d : List ℕ) (index capacity : ℕ) : Reason → Type 0 where
+  grammarFirst : {e : Reason} → FirstRefusal g e → ReadingRefused g d index capacity e
+  recordAbove : checkGrammar g ≡ accepted tt → 1048576 < length d → ReadingRefused g d index capacity (reason 6 (byte 0))
+  indexAbove : checkGrammar g ≡ accepted tt → length d ≤ 1048576 → length d < index → ReadingRefused g d index capacity (reason 7 (byte index))
+  atValue : {e : Reason} → checkGrammar g ≡ accepted tt → length d ≤ 1048576 → index ≤ length d → ValueRefused g d index capacity e → parseValOf g d index capacity ≡ refused e → ReadingRefused g d index capacity e
+
+-- from byte 0, which is no index above the length, to the end
+pub data WholeRefused (g d : List ℕ) (capacity : ℕ) : Reason → Type 0 where
+  ofReading : {e : Reason} → ReadingRefused g d 0 capacity e → WholeRefused g d capacity e
+  recordEnd : (t : Step State Val) → parseValOf g d 0 capacity ≡ accepted t → t .state .at < length d → WholeRefused g d capacity (reason 11 (byte (t .state .at)))
+
+-- ---- writing
+
+pub data WritingRefused (g t : List ℕ) (n : ℕ) (s : List ℕ) (len index : ℕ) : Reason → Type 0 where
+  grammarBefore : {e : Reason} → FirstRefusal g e → WritingRefused g t n s len index e
+  rowsBefore : {e : Reason} → checkGrammar g ≡ accepted tt → RowsRefused t n s e → WritingRefused g t n s len index e
+  -- which of v's rows it is, is the second walk's definition
+  notInGrammar : (v : Val) → checkGrammar g ≡ accepted tt → walk t n s ≡ accepted v → (ValInGrammar v (treeOf g 0) → ⊥) → (i : ℕ) → i < rowCount v → checkInGrammar v (treeOf g 0) 0 ≡ refused (reason 15 (row i)) → WritingRefused g t n s len index (reason 15 (row i))
+  sizeAbove : (v : Val) → checkGrammar g ≡ accepted tt → walk t n s ≡ accepted v → ValInGrammar v (treeOf g 0) → 1048576 < SizeOfV v → WritingRefused g t n s len index (reason 16 (row 0))
+  noRoom : (v : Val) → checkGrammar g ≡ accepted tt → walk t n s ≡ accepted v → ValInGrammar v (treeOf g 0) → SizeOfV v ≤ 1048576 → len < index + SizeOfV v → WritingRefused g t n s len index (reason 17 (byte len))
+
+-- ---- the calls of src/lib.rt
+
+-- `rewrite`: 17, then the whole reading
+pub data RewritingRefused (g d : List ℕ) (capacity len index : ℕ) : Reason → Type 0 where
+  roomFirst : {e : Reason} → NoRoom len index (length d) e → RewritingRefused g d capacity len index e
+  readingThen : {e : Reason} → index + length d ≤ len → WholeRefused g d capacity e → RewritingRefused g d capacity len index e
+
+-- `same_route`: the grammar, which names neither record, then the first record, then the second
+pub data RouteRefused (g first second : List ℕ) : NamedReason → Type 0 where
+  byGrammar : {e : Reason} → FirstRefusal g e → RouteRefused g first second (ofGrammar e)
+  byFirst : {e : Reason} → checkGrammar g ≡ accepted tt → WholeRefused g first 4096 e → RouteRefused g first second (ofFirst e)
+  bySecond : {e : Reason} → (t : Step State Val) → checkGrammar g ≡ accepted tt → demarshallOf g first 4096 ≡ accepted t → WholeRefused g second 4096 e → RouteRefused g first second (ofSecond e)
