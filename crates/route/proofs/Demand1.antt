@@ -1,5 +1,5 @@
 -- Demand 1, proved: an outcome has at most one answer, when each definition refuses, and that a refusal leaves every buffer as it was.
-use mathlib.Core.Path.{_≡_, sym, ap, _∙_}
+use mathlib.Core.Path.{sym, ap, _∙_}
 use mathlib.Core.List.{List}
 use Prim.Native.Nat.{ℕ, _*_}
 use lib.ListN.{length}

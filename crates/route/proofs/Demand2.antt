@@ -1,4 +1,5 @@
 -- Demand 2, proved.
+use mathlib.Core.Logic.{_↔_}
 use mathlib.Core.Path.{_≡_, refl, sym, ap, subst, _∙_}
 use mathlib.Core.Option.{some}
 use mathlib.Core.List.{List, [], append-nil}
@@ -10,9 +11,9 @@ use lib.Seq.{take-at, take-all, drop-drop}
 use borrow.Author.Tests.{le-leb}
 use Rattle.refusal.specs.Outcome.{Outcome, accepted, map, contents, Fills, Reason}
 use Rattle.refusal.proofs.Outcome.{test-true, map-accepted, map-refused}
-use Rattle.packed.specs.Packed.{unpackLittleEndian, unpackLittleEndianSeq, packLittleEndian, packLittleEndianSeq, present, room, put, putAt}
+use Rattle.packed.specs.Packed.{unpackLittleEndian, unpackLittleEndianSeq, packLittleEndian, packLittleEndianSeq, present, bytesAt, unpackSeqAt, room, put, putAt}
 use Rattle.packed.proofs.Laws.{bytes-drop, length-pack, pack-bytes, unpack-packed, pack-unique, length-packSeq, length-unpackSeq, unpackSeq-take, getD-unpackSeq, unpackSeq-packSeq, packSeq-unpackSeq}
-use Rattle.packed.proofs.Calls.{present-inside}
+use Rattle.packed.proofs.Calls.{present-inside, present-fits, room-fits}
 use Rattle.packed.proofs.Source.{unpack-uint32, unpack-uint64}
 use Rattle.value.specs.Tree.{SizeOfV, rowCount}
 use Rattle.value.specs.Bytes.{bytesOf, Stands}
@@ -28,12 +29,15 @@ use Rattle.rows.proofs.Rule.{accepted-exactly as rows-exactly}
 use Rattle.reading.specs.Meaning.{Counts}
 use Rattle.reading.specs.Calls.{capacityOf, withoutState, parseValOf, demarshallOf, countsOf}
 use Rattle.reading.proofs.Calls.{admit-index, admitted, parse-read, parse-accepted}
+use Rattle.reading.proofs.Meaning.{parsedOf-injective}
 use Rattle.reading.proofs.Bridge.{parse-parses, parse-stands, parse-none, demarshall-accepted, demarshall-refused}
 use Rattle.writing.specs.Marshall.{marshallValOf}
-use Rattle.route.specs.Demands.{PutThere, ParseValAgrees, DemarshallAgrees, SizesAgree, ByteRule, RuleStands, WritesTheRule, NumbersAgree, Demand2}
+use Rattle.writing.proofs.Writing.{accepted-writes}
+use Rattle.route.specs.Demands.{PutThere, ParseValAgrees, DemarshallAgrees, ChecksAgree, SizesAgree, ByteRule, RuleStands, WritesTheRule, NumbersAgree, Demand2}
 use Rattle.route.proofs.Put.{put-at}
+use Rattle.route.proofs.Refusals.{room-there}
 use Rattle.route.proofs.Reading.{rows-laid}
-use Rattle.route.proofs.Writing.{accepted-writable, written}
+use Rattle.route.proofs.Writing.{written}
 
 -- ---- reading
 
@@ -81,6 +85,12 @@ demarshall-agrees g d rows exit r w b h = record {
     capacity : ℕ
     capacity = capacityOf (length rows)
 
+checks-agree : ChecksAgree
+checks-agree = record {
+  val = λ g d rows exit index r q c h p. parsedOf-injective r q (h ∙ sym (p .answers ∙ ap (λ (n : ℕ). map countsOf (parseValOf g d index n)) c));
+  whole = λ g d rows exit r q c h p. parsedOf-injective r q (h ∙ sym (p .answers ∙ ap (λ (n : ℕ). map countsOf (demarshallOf g d n)) c));
+}
+
 -- ---- sizes and writing
 
 sizes-agree : SizesAgree
@@ -111,7 +121,7 @@ rule-stands = record { rule = byte-rule; parses = λ g v o rest. parseVal-bytesO
 writes-the-rule : WritesTheRule
 writes-the-rule g t s out exit n index w words bytes m = (
   (
-    λ a. let y = map-accepted SizeOfV (marshallValOf g t n s (length out) index) (sym (m .answers) ∙ a .1) in (y .0, accepted-writable g t n s (length out) index (y .0) words bytes (y .1)),
+    λ a. let y = map-accepted SizeOfV (marshallValOf g t n s (length out) index) (sym (m .answers) ∙ a .1) in (y .0, accepted-writes g t n s (length out) index (y .0) (y .1)),
     λ x. (SizeOfV (x .0), written m (x .0) (x .1) .0),
   ),
   λ v x. written m v x,
@@ -119,32 +129,43 @@ writes-the-rule g t s out exit n index w words bytes m = (
 
 -- ---- numbers
 
--- bytes that have room are put
-filled : (out : List ℕ) (index : ℕ) (bs : List ℕ) {exit : List ℕ} {a : Outcome Reason (Unit {0})} → Fills (putAt out index bs) a out exit → index + length bs ≤ length out → (a ≡ accepted tt) × PutThere bs out index exit
-unfolding room
-filled out index bs h l =
-    let e : room (length out) index (length bs) ≡ accepted tt = test-true _ _ (le-leb (index + length bs) (length out) l) in (
-      h .answers ∙ ap (λ (o : Outcome Reason (Unit {0})). map (λ _. tt) (map (λ _. put out index bs) o)) e,
-      put-at out index bs l (h .buffer ∙ ap (λ (o : Outcome Reason (Unit {0})). contents (map (λ _. put out index bs) o) out) e),
-    )
+-- bytes are put exactly where they have room
+module _ (out : List ℕ) (index : ℕ) (bs : List ℕ) (size : ℕ) (n : length bs ≡ size) {exit : List ℕ} {a : Outcome Reason (Unit {0})} (h : Fills (putAt out index bs) a out exit) where
+  fills : index + length bs ≤ length out → a ≡ accepted tt
+  fills l = h .answers ∙ ap (λ (o : Outcome Reason (Unit {0})). map (λ _. tt) (map (λ _. put out index bs) o)) (room-there (length out) index (length bs) l)
 
-present-there : (len index size : ℕ) → index + size ≤ len → present len index size ≡ accepted tt
-present-there len index size l = present-inside len index size (omega arith) ∙ test-true _ _ (le-leb (index + size) len l)
+  filled : a ≡ accepted tt → (index + length bs ≤ length out) × PutThere bs out index exit
+  filled e =
+      let x = map-accepted (λ _. tt) (putAt out index bs) (sym (h .answers) ∙ e) in
+      let y = map-accepted (λ _. put out index bs) (room (length out) index (length bs)) (x .1) in
+      let l = room-fits (length out) index (length bs) (sym (y .1)) in
+      (l, put-at out index bs l (h .buffer ∙ ap (λ (o : Outcome Reason (List ℕ)). contents o out) (x .1) ∙ y .2))
+
+  fills-exactly : (a ≡ accepted tt) ↔ (index + size ≤ length out)
+  fills-exactly = (λ e. omega (arith, filled e .0), λ l. fills (omega arith))
+
+-- bytes are taken exactly where they are there
+module _ (s : List ℕ) (index size : ℕ) where
+  taken : {bs : List ℕ} → bytesAt s index size ≡ accepted bs → (index + size ≤ length s) × (bs ≡ take size (drop index s))
+  taken e = let x = map-accepted (λ _. take size (drop index s)) (present (length s) index size) e in (present-fits (length s) index size (sym (x .1)), x .2)
+
+  takes : index + size ≤ length s → bytesAt s index size ≡ accepted (take size (drop index s))
+  takes l = ap (map (λ _. take size (drop index s))) (present-inside (length s) index size (omega arith) ∙ test-true _ _ (le-leb (index + size) (length s) l))
 
 numbers-agree : (w : ℕ) → NumbersAgree w
 numbers-agree w = record {
-  packs = λ n index out exit a h below l.
-      let bs = packLittleEndian w n in
-      let f = filled out index bs h (omega (arith, length-pack w n)) in
-      (f .0, (bs, f .1, pack-bytes w n, length-pack w n, unpack-packed w n below, λ cs b m e. pack-unique w n cs below b m .0 e));
-  packsSeq = λ index ns out exit a h below l.
+  packs = λ n index out exit a h below.
+      let bs = packLittleEndian w n in (
+        fills-exactly out index bs w (length-pack w n) h,
+        λ e. (bs, filled out index bs w (length-pack w n) h e .1, pack-bytes w n, length-pack w n, unpack-packed w n below, λ cs b m e. pack-unique w n cs below b m .0 e),
+      );
+  packsSeq = λ index ns out exit a h below.
       let bs = packLittleEndianSeq w ns in
-      let f = filled out index bs h (omega (arith, length-packSeq w ns)) in
       let u : unpackLittleEndianSeq w bs (length ns) ≡ ns = ap (λ (x : List ℕ). unpackLittleEndianSeq w x (length ns)) (sym (append-nil bs)) ∙ unpackSeq-packSeq w ns [] below in (
-        f .0,
-        (
+        fills-exactly out index bs (w * length ns) (length-packSeq w ns) h,
+        λ e. (
           bs,
-          f .1,
+          filled out index bs (w * length ns) (length-packSeq w ns) h e .1,
           packSeq-bytes w ns,
           length-packSeq w ns,
           u,
@@ -152,14 +173,22 @@ numbers-agree w = record {
               sym (take-all (w * length ns) cs (omega arith)) ∙ sym (packSeq-unpackSeq w (length ns) cs b (omega arith)) ∙ ap (packLittleEndianSeq w) e,
         ),
       );
-  unpacks = λ s index l. ap (λ (o : Outcome Reason (Unit {0})). map (unpackLittleEndian w) (map (λ _. take w (drop index s)) o)) (present-there (length s) index w l);
-  unpacksSeq = λ s index entry exit a h l.
+  unpacks = λ s index n. (
+    λ e. let x = map-accepted (unpackLittleEndian w) (bytesAt s index w) e in let y = taken s index w (x .1) in (y .0, x .2 ∙ ap (unpackLittleEndian w) (y .1)),
+    λ h. ap (map (unpackLittleEndian w)) (takes s index w (h .0)) ∙ ap accepted (sym (h .1)),
+  );
+  unpacksSeq = λ s index entry exit a h.
       let n = length entry in
-      let e = present-there (length s) index (w * n) l in
-      let x : exit ≡ unpackLittleEndianSeq w (drop index s) n = h .buffer ∙ ap (λ (o : Outcome Reason (Unit {0})). contents (map (λ bs. unpackLittleEndianSeq w bs n) (map (λ _. take (w * n) (drop index s)) o)) entry) e ∙ unpackSeq-take w n (w * n) (drop index s) (le-refl (w * n)) in (
-        h .answers ∙ ap (λ (o : Outcome Reason (Unit {0})). map (λ _. tt) (map (λ bs. unpackLittleEndianSeq w bs n) (map (λ _. take (w * n) (drop index s)) o))) e,
-        rw x (length-unpackSeq w (drop index s) n),
-        λ i m. rw (x, getD-unpackSeq w n (drop index s) i m, drop-drop (w * i) index s),
+      let f : List ℕ → List ℕ = λ bs. unpackLittleEndianSeq w bs n in (
+        (
+          λ e. let x = map-accepted (λ _. tt) (unpackSeqAt w s index n) (sym (h .answers) ∙ e) in let y = map-accepted f (bytesAt s index (w * n)) (x .1) in taken s index (w * n) (y .1) .0,
+          λ l. h .answers ∙ ap (λ (o : Outcome Reason (List ℕ)). map (λ _. tt) (map f o)) (takes s index (w * n) l),
+        ),
+        λ e.
+            let x = map-accepted (λ _. tt) (unpackSeqAt w s index n) (sym (h .answers) ∙ e) in
+            let y = map-accepted f (bytesAt s index (w * n)) (x .1) in
+            let z : exit ≡ unpackLittleEndianSeq w (drop index s) n = h .buffer ∙ ap (λ (o : Outcome Reason (List ℕ)). contents o entry) (x .1) ∙ y .2 ∙ ap f (taken s index (w * n) (y .1) .1) ∙ unpackSeq-take w n (w * n) (drop index s) (le-refl (w * n)) in
+            (rw z (length-unpackSeq w (drop index s) n), λ i m. rw (z, getD-unpackSeq w n (drop index s) i m, drop-drop (w * i) index s)),
       );
 }
 
@@ -167,6 +196,8 @@ pub demand2 : Demand2
 demand2 = record {
   parseValAgrees = parse-val-agrees;
   demarshallAgrees = demarshall-agrees;
+  checksAgree = checks-agree;
+  rowsAgree = λ t s n v. rows-exactly t n s v;
   sizesAgree = sizes-agree;
   ruleStands = rule-stands;
   writesTheRule = writes-the-rule;

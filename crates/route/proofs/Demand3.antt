@@ -1,14 +1,17 @@
 -- Demand 3, proved.
 use mathlib.Core.Path.{_≡_, sym, ap, subst, _∙_}
 use mathlib.Core.List.{List}
-use Prim.Native.Nat.{ℕ}
+use Prim.Native.Nat.{ℕ, _≤_, _<_}
+use native.Mathlib.Decide.{decLe}
 use native.Mathlib.Omega.{arith}
 use lib.ListN.{length}
 use Rattle.refusal.specs.Outcome.{accepted}
-use Rattle.value.specs.Tree.{SizeOfV}
+use Rattle.value.specs.Tree.{SizeOfV, rowCount}
 use Rattle.value.proofs.Laws.{length-bytesOf, front-part, one-value}
+use Rattle.grammar.proofs.Rule.{accepted-exactly}
 use Rattle.rows.proofs.Rule.{table-accepted}
-use Rattle.route.specs.Demands.{PutThere, AcceptsExactly, HandsOut, NeedsMoreRows, WritesBack, WritesBackWhole, NoFrontPart, Demand3}
+use Rattle.reading.specs.Calls.{capacityOf}
+use Rattle.route.specs.Demands.{PutThere, AcceptsExactly, HandsOut, NeedsMoreRows, NoneFits, WritesBack, WritesBackWhole, NoFrontPart, Demand3}
 use Rattle.route.proofs.Reading.{value-of, read-out, read-fits, read-short, exit-layout, exit-kept, exit-length, exit-table}
 use Rattle.route.proofs.Writing.{written}
 
@@ -39,12 +42,19 @@ hands-out g d rows exit r h k e =
 needs-more-rows : NeedsMoreRows
 needs-more-rows g d rows exit r h v o l = read-short h v o l
 
+none-fits : NoneFits
+none-fits g d rows exit r h e q v o = go (decLe (rowCount v) (capacityOf (length rows)))
+  where
+    go : Dec (rowCount v ≤ capacityOf (length rows)) → capacityOf (length rows) < rowCount v
+    go (yes l) = let x = sym q ∙ read-fits h v o l .1 in let z : _≡_ {A = ℕ} 0 1 = cc in absurd (omega arith)
+    go (no l) = omega (arith, l)
+
 writes-back : WritesBack
 writes-back g d rows exit r h k e out index l w after m =
     let y = read-out h k e in
     let x = y .1 in
     let n : SizeOfV (y .0) ≡ length d = sym (length-bytesOf (y .0)) ∙ ap length (sym (x .ofRecord .bytes)) in
-    let p = written m (y .0) (record { passes = h .grammar .passes; table = exit-table (h .short) x; inGrammar = x .ofRecord .value .inGrammar; limit = omega (arith, h .short); room = omega arith }) in
+    let p = written m (y .0) (record { grammar = accepted-exactly g .0 (h .grammar .passes); rows = table-accepted exit (k .rows) d (y .0) (exit-table (h .short) x); inGrammar = x .ofRecord .value .inGrammar; small = omega (arith, h .short); room = omega arith }) in
     (p .0 ∙ ap accepted n, subst (λ (b : List ℕ). PutThere b out index after) (sym (x .ofRecord .bytes)) (p .1))
 
 writes-back-whole : WritesBackWhole
@@ -61,6 +71,7 @@ demand3 = record {
   acceptsExactly = accepts-exactly;
   handsOut = hands-out;
   needsMoreRows = needs-more-rows;
+  noneFits = none-fits;
   writesBack = writes-back;
   writesBackWhole = writes-back-whole;
   noFrontPart = no-front-part;

@@ -20,7 +20,10 @@ use Rattle.value.proofs.Laws.{bytesOf-bytes, length-bytesOf}
 use Rattle.value.proofs.Reading.{whole-short}
 use Rattle.grammar.specs.Check.{checkLayout, checkNode, checkChildren, checkNodes, checkGrammar}
 use Rattle.grammar.specs.Tree.{nodeTree, childTrees, treeTo, treeOf}
+use Rattle.grammar.proofs.Rule.{accepted-exactly}
 use Rattle.rows.specs.Layout.{ownRow, rowsOf}
+use Rattle.rows.specs.Walk.{rowValue, checkRow, walkChildren, walkTo, walk}
+use Rattle.writing.specs.Marshall.{Writes}
 use Rattle.reading.specs.Calls.{capacityOf, withoutState, demarshallOf, countsOf}
 use Rattle.reading.specs.declared.Parsed.the-variants as P
 use Rattle.route.specs.Demands.{Grammar, ValueOfGrammar, RecordOf, WholeReading}
@@ -69,6 +72,11 @@ reading-A = record {
   short = lit< tt;
   call = record { answers = refl; rows = refl };
 }
+
+-- its rows are to be written into as many bytes
+pub writes-A : Writes grammarA exitA 3 recordA 14 0 valueA
+unfolding walk walkTo walkChildren checkRow rowValue kindOf kinds unpackLittleEndian unpackLittleEndianSeq SizeOfV
+writes-A = record { grammar = accepted-exactly grammarA .0 (grammar-A .passes); rows = refl; inGrammar = record-A .value .inGrammar; small = lit< tt; room = lit< tt }
 
 -- ---- an array of constants: the record has 8 bytes, and its rows are one more than are ever lent
 

@@ -1,14 +1,14 @@
 -- When each definition refuses (specs/Refusals.antt), proved in both directions.
 use mathlib.Core.Path.{_≡_, refl, sym, ap, subst, _∙_}
 use mathlib.Core.Logic.{_↔_}
-use mathlib.Core.Bool.{Bool, true, false, _&&_}
+use mathlib.Core.Bool.{Bool, true, false}
 use mathlib.Core.Option.{none, some}
 use mathlib.Core.List.{List}
 use Prim.Native.Nat.{ℕ, zero, suc, _+_, _-_, _*_, _/_, _≤_, _<_}
 use native.Mathlib.Nat.{le-refl}
 use native.Mathlib.Omega.{arith}
-use lib.ListN.{length, drop}
-use lib.Dec.{leb, ltb, eqb}
+use lib.ListN.{length}
+use lib.Dec.{ltb, eqb}
 use borrow.Author.Tests.{le-leb, lt-leb, ltb-true}
 use Rattle.refusal.specs.Outcome.{Outcome, accepted, refused, bind, test, map, byte, row, Reason, reason}
 use Rattle.refusal.proofs.Outcome.{Post, holds, fails, post-bind, post-test, post-reflects, post-weaken, post-accepted, post-refused, bind-assoc, bind-test, test-true, test-false, map-refused}
@@ -18,18 +18,17 @@ use Rattle.packed.proofs.Calls.{present-index, present-inside, room-fits}
 use Rattle.value.specs.Kinds.{width, Elements, elementWidth, elementsKind, Kind, kindOf, constant, number, array, tuple, elements, union, other}
 use Rattle.value.specs.Tree.{G, Gs, GConstant, GNumber, GArray, GTuple, GNumberArray, GTaggedUnion, gnil, gcons, Val, VNumber, VArray, VTuple, VNumberArray, VCase, vcons, ValInGrammar, SizeOfV, rowCount}
 use Rattle.value.specs.Step.{Step, next, give, elements as elementsOf}
-use Rattle.value.specs.Parse.{Parse, pair, parseVal}
+use Rattle.value.specs.Parse.{Parse, pair}
 use Rattle.value.specs.Reading.{State, Stop, Reading, stop, start, begin, claim, claimed, free, takeNumber, takeNumbers, readBody, readFields, readCaseAt, readVal}
 use Rattle.value.proofs.KindLaws.{elements-kind, elementWidth-positive}
 use Rattle.value.proofs.Laws.{count-fits, pair-parsed}
 use Rattle.value.proofs.Agreement.{Agrees, same, neither, short, agrees}
 use Rattle.value.proofs.Reading.{read-refused}
 use Rattle.grammar.specs.Check.{checkGrammar}
-use Rattle.grammar.specs.Rule.{FirstRefusal}
 use Rattle.grammar.specs.Tree.{treeOf}
 use Rattle.grammar.proofs.Rule.{refused-exactly}
 use Rattle.rows.specs.Row.{Row, rowAt}
-use Rattle.rows.specs.Walk.{keepsRule, withinStore, countHolds, checkRow, walkChildren, walkTo, walk}
+use Rattle.rows.specs.Walk.{withinStore, checkRow, walkChildren, walkTo, walk}
 use Rattle.rows.specs.Locate.{lookUp, elementsPart, locateArray}
 use Rattle.rows.proofs.Laws.{reflects-rows}
 use Rattle.rows.proofs.Rule.{wordOf, kind-word}
@@ -38,7 +37,7 @@ use Rattle.reading.proofs.Calls.{admit-grammar, admit-long, admit-index, parse-
 use Rattle.reading.proofs.Bridge.{parse-inside}
 use Rattle.writing.specs.InGrammar.{checkInGrammar}
 use Rattle.writing.specs.Marshall.{valueOf, marshallValOf}
-use Rattle.writing.proofs.InGrammar.{At15, in-grammar-exactly, in-grammar-refused}
+use Rattle.writing.proofs.InGrammar.{in-grammar-exactly, in-grammar-refused}
 use Rattle.route.specs.Rewriting.{rewriteOf}
 use Rattle.route.specs.SameRoute.{NamedReason, ofGrammar, ofFirst, ofSecond, naming, readBoth}
 use Rattle.route.specs.Refusals.{Refuses, NoRoom, outputShort, NotThere, above, missing, RowRefused, broken, outside, RowsRefused, storeAbove, rowTable, atRow, LocatorRefused, ofRows, notAnArray, ValueRefused, noRow, bytesMissing, tagAbove, ReadingRefused, grammarFirst, recordAbove, indexAbove, atValue, WholeRefused, ofReading, recordEnd, WritingRefused, grammarBefore, rowsBefore, notInGrammar, sizeAbove, noRoom, RewritingRefused, roomFirst, readingThen, RouteRefused, byGrammar, byFirst, bySecond}

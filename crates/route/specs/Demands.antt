@@ -6,7 +6,7 @@ use mathlib.Core.Option.{none, some}
 use mathlib.Core.List.{List, [], _++_}
 use Prim.Native.Nat.{ℕ, _+_, _*_, _^_, _≤_, _<_}
 use lib.ListN.{length, getD, take, drop}
-use Rattle.refusal.specs.Outcome.{Outcome, accepted, refused, Fills, Location, byte, Reason, reason}
+use Rattle.refusal.specs.Outcome.{Outcome, accepted, refused, map, Fills, Location, byte, Reason, reason}
 use Rattle.refusal.specs.Meaning.{outcomeOf}
 use Rattle.packed.specs.Packed.{Bytes, Below, unpackLittleEndian, unpackLittleEndianSeq, packLittleEndian, packLittleEndianSeq, unpackAt, unpackSeqAt, room, put, putAt}
 use Rattle.packed.specs.Meaning.{unpackedU32, unpackedU64}
@@ -27,9 +27,9 @@ use Rattle.rows.specs.Locate.{locateArray}
 use Rattle.rows.specs.Meaning.{sizeOf, located}
 use Rattle.rows.specs.declared.SizeOf.{SizeOf}
 use Rattle.reading.specs.Meaning.{Counts, parsedOf}
-use Rattle.reading.specs.Calls.{capacityOf, parseValOf, demarshallOf, Parses}
+use Rattle.reading.specs.Calls.{capacityOf, parseValOf, demarshallOf, countsOf, Parses}
 use Rattle.reading.specs.declared.Parsed.{Parsed}
-use Rattle.writing.specs.Marshall.{marshallValOf, Marshalls}
+use Rattle.writing.specs.Marshall.{marshallValOf, Writes, Marshalls}
 use Rattle.route.specs.Rewriting.{rewriteOf, Rewrites}
 use Rattle.route.specs.SameRoute.{sameRouteOf, readBoth, Compares}
 use Rattle.route.specs.Refusals.{Refuses, NoRoom, NotThere, RowsRefused, LocatorRefused, ReadingRefused, WholeRefused, WritingRefused, RewritingRefused, RouteRefused}
@@ -81,7 +81,8 @@ pub record Demand1 : Type 0 where
   -- `same_route`, whose contract allows one answer
   pub routes : (g first second : List ℕ) → Refuses (RouteRefused g first second) (readBoth g first second)
   pub oneRoute : (g first second : List ℕ) (r q : SameRoute) → Compares g first second (sameRouteOf r) → Compares g first second (sameRouteOf q) → r ≡ q
-  -- "and a refusal alters no buffer lent to the call": a slice of numbers or bytes, rows, the output
+  -- "and a refusal alters no buffer lent to the call": a slice of numbers or bytes, rows, the output. They would be empty if no call were
+  -- refused: `reading-C` of proofs/Examples.antt is
   pub fillsNothing : (o : Outcome Reason (List ℕ)) (a : Outcome Reason (Unit {0})) (entry exit : List ℕ) → Fills o a entry exit → (e : Reason) → a ≡ refused e → exit ≡ entry
   pub parsesNothing : (o : Outcome Reason (Step State Val)) (index : ℕ) (r : Parsed) (entry exit : List ℕ) → Parses o index r entry exit → (e : Reason) → parsedOf r ≡ refused e → exit ≡ entry
   pub marshallsNothing : (o : Outcome Reason Val) (index : ℕ) (w : SizeOf) (entry exit : List ℕ) → Marshalls o index w entry exit → (e : Reason) → sizeOf w ≡ refused e → exit ≡ entry
@@ -135,8 +136,19 @@ DemarshallAgrees =
     (g d rows exit : List ℕ) (r : Parsed) → Below (2 ^ 32) g → Bytes d
     → Parses (demarshallOf g d (capacityOf (length rows))) 0 r rows exit → DemarshallsAs g d rows r exit
 
+-- "Reading": `check_val` and `check_whole`, to which no rows are lent, answer as `parse_val` and `demarshall` do where the capacity is 4,096.
+-- It is so of 16,384 words
+pub record ChecksAgree : Type 0 where
+  pub val : (g d rows exit : List ℕ) (index : ℕ) (r q : Parsed) → capacityOf (length rows) ≡ 4096 → parsedOf r ≡ map countsOf (parseValOf g d index 4096) → Parses (parseValOf g d index (capacityOf (length rows))) index q rows exit → r ≡ q
+  pub whole : (g d rows exit : List ℕ) (r q : Parsed) → capacityOf (length rows) ≡ 4096 → parsedOf r ≡ map countsOf (demarshallOf g d 4096) → Parses (demarshallOf g d (capacityOf (length rows))) 0 q rows exit → r ≡ q
+
+-- rows stand for a value, by document 01's layout, exactly where the walk accepts them, and then for the one that it gives. A walk that refuses
+-- all fails from right to left
+abbrev pub RowsAgree : Type 0
+RowsAgree = (t s : List ℕ) (n : ℕ) (v : Val) → Below (2 ^ 64) t → Bytes s → (walk t n s ≡ accepted v) ↔ TableOf t n s v
+
 -- "sizes": `compute_size_of` answers GM's `SizeOfV` of the value that the rows stand for, and is refused where they stand for none.
--- One that refuses all fails from right to left, a made-up size from left to right
+-- One that refuses all fails from right to left, a made-up size from left to right: case A's rows stand for a value (`writes-A`)
 abbrev pub SizesAgree : Type 0
 SizesAgree =
     (t s : List ℕ) (n : ℕ) (r : SizeOf) → Below (2 ^ 64) t → Bytes s → sizeOf r ≡ computeSizeOf t n s
@@ -164,39 +176,36 @@ pub record RuleStands : Type 0 where
   pub parsed : (g : G) → ValidGrammar g → (d : List ℕ) → Bytes d → (v : Val) (rest : List ℕ) → parseVal d g ≡ (some v, rest) → (d ≡ bytesOf v ++ rest) × ValueOf g v
   pub size : (v : Val) → length (bytesOf v) ≡ SizeOfV v
 
--- n rows with a store stand for v, and none of 1 to 6 and 12 to 17 is given to its writing at an index of len bytes
-pub record Writable (g t : List ℕ) (n : ℕ) (s : List ℕ) (len index : ℕ) (v : Val) : Type 0 where
-  pub passes : checkGrammar g ≡ accepted tt
-  pub table : TableOf t n s v
-  pub inGrammar : ValInGrammar v (treeOf g 0)
-  pub limit : SizeOfV v ≤ 1048576
-  pub room : index + SizeOfV v ≤ len
-
--- "writing" and "the bytes written are those of its byte rule": `marshall_val` is accepted exactly where there is a value to write, and
--- puts that value's bytes. `marshall` is the same at index 0. A writer that gives 17 at once fails from right to left; one that leaves the
--- output alone, or packs only the first element, fails `there`
+-- "writing" and "the bytes written are those of its byte rule": `marshall_val` is accepted exactly where the rows stand for a value and none
+-- of 1 to 6 and 12 to 17 is to be given (`Writes`), and puts that value's bytes. `marshall` is the same at index 0. A writer that gives 17 at
+-- once fails from right to left: case A's rows are to be written (`writes-A`). One that leaves the output alone, or packs only the first
+-- element, fails `there`
 abbrev pub WritesTheRule : Type 0
 WritesTheRule =
     (g t s out exit : List ℕ) (n index : ℕ) (w : SizeOf) → Below (2 ^ 64) t → Bytes s
     → Marshalls (marshallValOf g t n s (length out) index) index w out exit
-    → (((size : ℕ) × (sizeOf w ≡ accepted size)) ↔ ((v : Val) × Writable g t n s (length out) index v))
-    × ((v : Val) → Writable g t n s (length out) index v → (sizeOf w ≡ accepted (SizeOfV v)) × PutThere (bytesOf v) out index exit)
+    → (((size : ℕ) × (sizeOf w ≡ accepted size)) ↔ ((v : Val) × Writes g t n s (length out) index v))
+    × ((v : Val) → Writes g t n s (length out) index v → (sizeOf w ≡ accepted (SizeOfV v)) × PutThere (bytesOf v) out index exit)
 
--- "number packing included": the calls on numbers of w bytes, of which there are those of 4 and of 8, beside PI's sum. Each is accepted where
--- the bytes are there or have room
+-- "number packing included": the calls on numbers of w bytes, of which there are those of 4 and of 8, beside PI's sum. Each is accepted exactly
+-- where the bytes are there or have room, as w bytes have at index 0 of w. One that refuses all fails from right to left; one that writes
+-- other bytes, or makes up a number, fails what follows
 pub record NumbersAgree (w : ℕ) : Type 0 where
   -- a packer writes the only bytes with that sum
-  pub packs : (n index : ℕ) (out exit : List ℕ) (a : Outcome Reason (Unit {0})) → Fills (putAt out index (packLittleEndian w n)) a out exit → n < 256 ^ w → index + w ≤ length out
-      → (a ≡ accepted tt) × ((bs : List ℕ) × PutThere bs out index exit × Bytes bs × (length bs ≡ w) × (unpackLittleEndian w bs ≡ n)
+  pub packs : (n index : ℕ) (out exit : List ℕ) (a : Outcome Reason (Unit {0})) → Fills (putAt out index (packLittleEndian w n)) a out exit → n < 256 ^ w
+      → ((a ≡ accepted tt) ↔ (index + w ≤ length out))
+      × (a ≡ accepted tt → (bs : List ℕ) × PutThere bs out index exit × Bytes bs × (length bs ≡ w) × (unpackLittleEndian w bs ≡ n)
       × ((cs : List ℕ) → Bytes cs → length cs ≡ w → unpackLittleEndian w cs ≡ n → cs ≡ bs))
-  pub packsSeq : (index : ℕ) (ns out exit : List ℕ) (a : Outcome Reason (Unit {0})) → Fills (putAt out index (packLittleEndianSeq w ns)) a out exit → Below (256 ^ w) ns → index + w * length ns ≤ length out
-      → (a ≡ accepted tt) × ((bs : List ℕ) × PutThere bs out index exit × Bytes bs × (length bs ≡ w * length ns) × (unpackLittleEndianSeq w bs (length ns) ≡ ns)
+  pub packsSeq : (index : ℕ) (ns out exit : List ℕ) (a : Outcome Reason (Unit {0})) → Fills (putAt out index (packLittleEndianSeq w ns)) a out exit → Below (256 ^ w) ns
+      → ((a ≡ accepted tt) ↔ (index + w * length ns ≤ length out))
+      × (a ≡ accepted tt → (bs : List ℕ) × PutThere bs out index exit × Bytes bs × (length bs ≡ w * length ns) × (unpackLittleEndianSeq w bs (length ns) ≡ ns)
       × ((cs : List ℕ) → Bytes cs → length cs ≡ w * length ns → unpackLittleEndianSeq w cs (length ns) ≡ ns → cs ≡ bs))
-  pub unpacks : (s : List ℕ) (index : ℕ) → index + w ≤ length s → unpackAt w s index ≡ accepted (unpackLittleEndian w (take w (drop index s)))
-  pub unpacksSeq : (s : List ℕ) (index : ℕ) (entry exit : List ℕ) (a : Outcome Reason (Unit {0})) → Fills (unpackSeqAt w s index (length entry)) a entry exit → index + w * length entry ≤ length s
-      → (a ≡ accepted tt) × (length exit ≡ length entry) × ((i : ℕ) → i < length entry → getD exit i 0 ≡ unpackLittleEndian w (take w (drop (index + w * i) s)))
+  pub unpacks : (s : List ℕ) (index n : ℕ) → (unpackAt w s index ≡ accepted n) ↔ ((index + w ≤ length s) × (n ≡ unpackLittleEndian w (take w (drop index s))))
+  pub unpacksSeq : (s : List ℕ) (index : ℕ) (entry exit : List ℕ) (a : Outcome Reason (Unit {0})) → Fills (unpackSeqAt w s index (length entry)) a entry exit
+      → ((a ≡ accepted tt) ↔ (index + w * length entry ≤ length s))
+      × (a ≡ accepted tt → (length exit ≡ length entry) × ((i : ℕ) → i < length entry → getD exit i 0 ≡ unpackLittleEndian w (take w (drop (index + w * i) s))))
 
--- PI's `unpack_LittleEndian_Uint32` and `unpack_LittleEndian_Uint64`, as written there
+-- PI's `unpack_LittleEndian_Uint32` and `unpack_LittleEndian_Uint64`, as written there. Nothing is asked of s
 pub record SumsAgree : Type 0 where
   pub uint32 : (s : List ℕ) → unpackLittleEndian 4 s ≡ getD s 0 0 + getD s 1 0 * 0x1_00 + getD s 2 0 * 0x1_00_00 + getD s 3 0 * 0x1_00_00_00
   pub uint64 : (s : List ℕ) → unpackLittleEndian 8 s ≡ getD s 0 0 + getD s 1 0 * 0x1_00 + getD s 2 0 * 0x1_00_00 + getD s 3 0 * 0x1_00_00_00 + getD s 4 0 * 0x1_00_00_00_00 + getD s 5 0 * 0x1_00_00_00_00_00 + getD s 6 0 * 0x1_00_00_00_00_00_00 + getD s 7 0 * 0x1_00_00_00_00_00_00_00
@@ -204,6 +213,8 @@ pub record SumsAgree : Type 0 where
 pub record Demand2 : Type 0 where
   pub parseValAgrees : ParseValAgrees
   pub demarshallAgrees : DemarshallAgrees
+  pub checksAgree : ChecksAgree
+  pub rowsAgree : RowsAgree
   pub sizesAgree : SizesAgree
   pub ruleStands : RuleStands
   pub writesTheRule : WritesTheRule
@@ -271,6 +282,12 @@ NeedsMoreRows =
     (g d rows exit : List ℕ) (r : Parsed) → WholeReading g d rows r exit
     → (v : Val) → RecordOf g d v → capacityOf (length rows) < rowCount v → (place : ℕ) × (parsedOf r ≡ refused (reason 8 (byte place))) × (exit ≡ rows)
 
+-- and the converse: of a record that is refused, by 8 or another number, no value that fits has the bytes. `reading-C` is refused
+abbrev pub NoneFits : Type 0
+NoneFits =
+    (g d rows exit : List ℕ) (r : Parsed) → WholeReading g d rows r exit
+    → (e : Reason) → parsedOf r ≡ refused e → (v : Val) → RecordOf g d v → capacityOf (length rows) < rowCount v
+
 -- (d) "Writing what was handed out, at whatever place of an output long enough, is accepted and puts exactly the record there again":
 -- `marshall_val` is given the slice as the reading left it, whatever stands behind row n − 1, n, the record as store and the same grammar.
 -- Of the output's length nothing else is asked. A writer that gives 17 at once or leaves the output alone fails. `rewrite` of src/lib.rt does
@@ -308,6 +325,7 @@ pub record Demand3 : Type 0 where
   pub acceptsExactly : AcceptsExactly
   pub handsOut : HandsOut
   pub needsMoreRows : NeedsMoreRows
+  pub noneFits : NoneFits
   pub writesBack : WritesBack
   pub writesBackWhole : WritesBackWhole
   pub noFrontPart : NoFrontPart

@@ -19,7 +19,7 @@ pub enum SameRoute {
     Second(Refusal),
 }
 
-// Reads a record whole and writes it again, at an index of the output, from the rows handed out: demand 3 of code.
+// Reads a record whole and writes it again, at an index of the output, from the rows handed out: the code of demand 3 (d).
 pub fn rewrite(
     grammar: &[u32],
     record: &[u8],
