@@ -119,7 +119,7 @@ rule-stands : RuleStands
 rule-stands = record { rule = byte-rule; parses = λ g v o rest. parseVal-bytesOf o rest; parsed = parseVal-value; size = length-bytesOf }
 
 writes-the-rule : WritesTheRule
-writes-the-rule g t s out exit n index w words bytes m = (
+writes-the-rule g t s out exit n index w m = (
   (
     λ a. let y = map-accepted SizeOfV (marshallValOf g t n s (length out) index) (sym (m .answers) ∙ a .1) in (y .0, accepted-writes g t n s (length out) index (y .0) (y .1)),
     λ x. (SizeOfV (x .0), written m (x .0) (x .1) .0),

@@ -44,8 +44,8 @@ abbrev pub AtMostOneAnswer : {R E A : Type 0} → (R → Outcome E A) → Type 0
 AtMostOneAnswer {R} meaning = (q r : R) → meaning q ≡ meaning r → q ≡ r
 
 -- "a refusal names its number and place": `Refuses Q o` says that the errors of o are exactly those with Q, and each Q of specs/Refusals.antt
--- gives the number, the place and what they are given for. A writer that answers every refusal with 17 at byte 0 fails `writing`
--- A check's answer is a function of the outcome that is named here, so its refusals are these
+-- gives the number, the place and what they are given for. A writer that answers every refusal with 17 at byte 0 fails `writing`.
+-- Nothing is asked of the inputs. The answer of a call is a function of the outcome that is named here, so its refusals are these
 pub record Demand1 : Type 0 where
   -- of each answer enum
   pub answer : AtMostOneAnswer outcomeOf
@@ -182,7 +182,7 @@ pub record RuleStands : Type 0 where
 -- element, fails `there`
 abbrev pub WritesTheRule : Type 0
 WritesTheRule =
-    (g t s out exit : List ℕ) (n index : ℕ) (w : SizeOf) → Below (2 ^ 64) t → Bytes s
+    (g t s out exit : List ℕ) (n index : ℕ) (w : SizeOf)
     → Marshalls (marshallValOf g t n s (length out) index) index w out exit
     → (((size : ℕ) × (sizeOf w ≡ accepted size)) ↔ ((v : Val) × Writes g t n s (length out) index v))
     × ((v : Val) → Writes g t n s (length out) index v → (sizeOf w ≡ accepted (SizeOfV v)) × PutThere (bytesOf v) out index exit)

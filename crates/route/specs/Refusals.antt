@@ -1,5 +1,6 @@
--- When each definition refuses, by document 01's table: one relation for each, one constructor for each number with its place and what it is
--- given for, where nothing before it is given. 1 to 5 are `FirstRefusal` of the grammar. 19 only the program gives.
+-- When each definition refuses, by document 01's table: one relation for each definition. A constructor says of a number its place and what
+-- it is given for, where nothing before it is given, or takes over the refusals of a step. 1 to 5 are the grammar's `FirstRefusal`; 19 is
+-- given by the program only.
 use mathlib.Core.Path.{_≡_}
 use mathlib.Core.Logic.{_↔_}
 use mathlib.Core.Option.{none, some}
@@ -42,7 +43,7 @@ pub data NotThere (len index size : ℕ) : Reason → Type 0 where
 abbrev pub RowsThere : List ℕ → ℕ → Type 0
 RowsThere t n = (0 < n) × ((n ≤ 4096) × (rowWidth * n ≤ length t))
 
--- 13 or 14 of a row. What 13 is given for is left to the walk's definition
+-- 13 or 14 of a row. What 13 is given for is left to the walk's definition; after both the rows stand for no value (`RowsAgree`)
 pub data RowRefused (t : List ℕ) (n : ℕ) (s : List ℕ) : Reason → Type 0 where
   broken : (i : ℕ) → i < n → RowRefused t n s (reason 13 (row i))
   outside : (i : ℕ) → i < n → (k : Elements) → rowAt t i .kind ≡ elementsKind k → length s < rowAt t i .word3 + elementWidth k * rowAt t i .word2 → RowRefused t n s (reason 14 (row i))
