@@ -3,3 +3,4 @@ pub mod Puts
 pub mod Input
 pub mod Lines
 pub mod Read
+pub mod Examples
