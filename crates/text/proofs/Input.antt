@@ -10,6 +10,7 @@ use lib.Dec.{leb, eqb}
 use borrow.Author.Tests.{le-leb, lt-leb, leb-true, eq-eqb, ne-eqb, eqb-true}
 use Rattle.refusal.specs.Outcome.{Outcome, accepted, refused, bind, test, map, Reason, reason, byte}
 use Rattle.refusal.proofs.Outcome.{test-true, test-false, test-passed}
+use Rattle.refusal.proofs.Meaning.{reason-injective}
 use Rattle.packed.specs.declared.UnpackedU32.{UnpackedU32}
 use Rattle.packed.specs.Meaning.{unpackedU32}
 use Rattle.packed.specs.Packed.{unpackLittleEndian, present, unpackAt}
@@ -145,3 +146,12 @@ module _ (input : List ℕ) {r : Layout} {words start size : ℕ} (e : r ≡ L.P
 
   pub parts-laid : LaidOut input (record { words = words; start = start; size = size })
   parts-laid = laid-out input (record { words = words; start = start; size = size }) (sym parts-matched)
+
+-- an answer is determined by what it means, so a contract through the meaning fixes the answer
+pub parts-injective : (a b : Layout) → partsOf a ≡ partsOf b → a ≡ b
+parts-injective (L.Parts n s z) (L.Parts m t y) h =
+    let q : _≡_ {A = Parts} (record { words = n; start = s; size = z }) (record { words = m; start = t; size = y }) = cc in
+    ap (λ (p : Parts). L.Parts (p .words) (p .start) (p .size)) q
+parts-injective (L.Parts n s z) (L.Refused r) h = let e : _≡_ {A = ℕ} 0 1 = cc in absurd (omega arith)
+parts-injective (L.Refused r) (L.Parts n s z) h = let e : _≡_ {A = ℕ} 0 1 = cc in absurd (omega arith)
+parts-injective (L.Refused r) (L.Refused s) h = ap L.Refused (reason-injective r s (cc))

@@ -1,6 +1,7 @@
 pub mod Digits
 pub mod Puts
-pub mod Input
 pub mod Lines
+pub mod Input
 pub mod Read
+pub mod Made
 pub mod Examples
