@@ -4,8 +4,8 @@ use libc::STDIN_FILENO;
 use libc::STDOUT_FILENO;
 
 fn main() {
-    let mut input = [0u8; 65537];
-    let mut out = [0u8; 86042];
+    let mut input = [0u8; text::MOST_INPUT + 1];
+    let mut out = [0u8; text::MOST_TEXT];
     let len = io::read_full(STDIN_FILENO, &mut input);
     let size = text::show(&input[..len], &mut out);
     io::write_all(STDOUT_FILENO, &out[..size]);

@@ -10,7 +10,7 @@ ghost use Rattle.rows.specs.Row.{rowWidth, rowAt};
 ghost use Rattle.reading.specs.Calls.{demarshallOf, Parses};
 ghost use Rattle.text.specs.Digits.{digits};
 ghost use Rattle.text.specs.Text.{newline, numeral, line, linesOf, rowsText, placeText, refusalText, RoomFor, Puts, mostNumeral, mostLine, mostPlace, mostRefusal, mostText};
-ghost use Rattle.text.specs.Input.{partsOf, countAt, recordAfter, layoutOf, wordsAt};
+ghost use Rattle.text.specs.Input.{mostInput, mostWords, partsOf, countAt, recordAfter, layoutOf, wordsAt};
 ghost use Rattle.text.specs.Show.{mostRows, readInput, shown, FewRows, textOf};
 use packed::UnpackedU32;
 use reading::Parsed;
@@ -28,16 +28,21 @@ pub enum Layout {
 }
 
 // The bytes of the longest input.
-const MOST_INPUT: usize = 65536;
+pub const MOST_INPUT: usize = 65536;
+
+// The bytes of the longest text.
+pub const MOST_TEXT: usize = 86042;
 
 // The most grammar words.
-const MOST_WORDS: u32 = 1794;
+const MOST_WORDS: usize = 1794;
 
-// The words of a row.
+// The words of a row, and of the rows with which a record is read.
 const ROW_WIDTH: usize = 4;
 
+const ROW_WORDS: usize = 4096;
+
 fn not_laid_out(len: usize) -> Refusal
-    ensures { λ r. ⌜ reasonOf r ≡ reason 19 (byte (min len 65536)) ⌝ }
+    ensures { λ r. ⌜ reasonOf r ≡ reason 19 (byte (min len mostInput)) ⌝ }
 {
     if MOST_INPUT < len {
         return refusal::at_byte(refusal::INPUT_LAYOUT, MOST_INPUT);
@@ -57,7 +62,7 @@ fn count_at(input: &[u8], index: usize) -> UnpackedU32
 
 // Behind so many words: the record length, then the record, with which the input ends.
 fn record_after(input: &[u8], words: usize) -> Layout
-    requires { ⌜ words ≤ 1794 ⌝ }
+    requires { ⌜ words ≤ mostWords ⌝ }
     ensures { λ r. ⌜ partsOf r ≡ recordAfter (now (input .entry)) words ⌝ }
 {
     let start = 8 + 4 * words;
@@ -83,11 +88,12 @@ pub fn lay_out(input: &[u8]) -> Layout
     }
     match count_at(input, 0) {
         UnpackedU32::Refused(r) => Layout::Refused(r),
-        UnpackedU32::Number(words) => {
+        UnpackedU32::Number(n) => {
+            let words = n as usize;
             if MOST_WORDS < words {
                 return Layout::Refused(not_laid_out(input.len()));
             }
-            record_after(input, words as usize)
+            record_after(input, words)
         }
     }
 }
@@ -200,7 +206,7 @@ fn put_refusal(refusal: Refusal, out: &mut [u8]) -> usize
 }
 
 // Puts the text of what a reading answered.
-fn put_text(parsed: Parsed, rows: &[u64], out: &mut [u8; 86042]) -> usize
+fn put_text(parsed: Parsed, rows: &[u64], out: &mut [u8; MOST_TEXT]) -> usize
     requires { ⌜ FewRows (now rows) parsed ⌝ }
     ensures { λ r. ⌜ Puts (textOf (now (rows .entry)) parsed) mostText 0 r (now (out .entry)) (now (out .exit)) ⌝ }
 {
@@ -221,7 +227,7 @@ fn read_record(input: &[u8], words: &mut [u32], record: &[u8], rows: &mut [u64])
 
 // The record of an input, read whole: 19 before any other refusal.
 fn read_input(input: &[u8], words: &mut [u32], rows: &mut [u64]) -> Parsed
-    requires { ⌜ (length (now words) ≡ 1794) × (length (now rows) ≡ 4096) ⌝ }
+    requires { ⌜ (length (now words) ≡ mostWords) × (length (now rows) ≡ 4096) ⌝ }
     ensures { λ r. ⌜ Parses (readInput (now (input .entry))) 0 r (now (rows .entry)) (now (rows .exit)) ⌝ }
 {
     match lay_out(input) {
@@ -238,11 +244,11 @@ fn read_input(input: &[u8], words: &mut [u32], rows: &mut [u64]) -> Parsed
 }
 
 // All that the program does between reading and writing: the text for its input, which always has room.
-pub fn show(input: &[u8], out: &mut [u8; 86042]) -> usize
+pub fn show(input: &[u8], out: &mut [u8; MOST_TEXT]) -> usize
     ensures { λ r. ⌜ Puts (shown (readInput (now (input .entry)))) mostText 0 r (now (out .entry)) (now (out .exit)) ⌝ }
 {
-    let mut words = [0u32; 1794];
-    let mut rows = [0u64; 4096];
+    let mut words = [0u32; MOST_WORDS];
+    let mut rows = [0u64; ROW_WORDS];
     let parsed = read_input(input, &mut words, &mut rows);
     put_text(parsed, &rows, out)
 }

@@ -17,8 +17,11 @@ count-at-requires c κs = search needs
 enum-known-r : tie.Need-enum-known-r
 enum-known-r c = search needs
 
-enum-known-words : tie.Need-enum-known-words
-enum-known-words c = search needs
+enum-known-n : tie.Need-enum-known-n
+enum-known-n c = search needs
+
+cast-words : tie.Need-cast-words
+cast-words c = search needs
 
 not-laid-out-requires-2 : tie.Need-not-laid-out-requires-2
 not-laid-out-requires-2 c κs = search needs
@@ -26,10 +29,7 @@ not-laid-out-requires-2 c κs = search needs
 returns-2 : tie.Need-returns-2
 returns-2 c =
     ap refused (c .not-laid-out2 .ensures)
-    ∙ layout-many (c .before .before .before .before .before .before .before .before .args .input .now) (c .before .before .before .before .before .before .if1 .left) (matched (c .before .before .before .words .given .1) (c .before .before .before .before .before .count-at .ensures)) (c .before .if2 .taken)
-
-cast-record-after : tie.Need-cast-record-after
-cast-record-after c = search needs
+    ∙ layout-many (c .before .before .before .before .before .before .before .before .args .input .now) (c .before .before .before .before .before .before .if1 .left) (matched (c .before .before .before .n .given .1) (c .before .before .before .before .before .count-at .ensures)) (c .before .if2 .taken)
 
 record-after-requires : tie.Need-record-after-requires
 record-after-requires c κs = search needs
@@ -40,7 +40,7 @@ returns-3 c = layout-short (c .before .before .before .before .before .before .a
 returns-4 : tie.Need-returns-4
 returns-4 c =
     c .record-after .ensures
-    ∙ layout-record (c .before .before .before .before .before .before .before .before .args .input .now) (c .before .before .before .before .before .before .if1 .left) (matched (c .before .before .before .words .given .1) (c .before .before .before .before .before .count-at .ensures)) (c .before .if2 .left)
+    ∙ layout-record (c .before .before .before .before .before .before .before .before .args .input .now) (c .before .before .before .before .before .before .if1 .left) (matched (c .before .before .before .n .given .1) (c .before .before .before .before .before .count-at .ensures)) (c .before .if2 .left)
 
 pub lay-out-spec : {M : Type 1} → statement M
 lay-out-spec =
@@ -50,10 +50,10 @@ lay-out-spec =
     returns
     count-at-requires
     enum-known-r
-    enum-known-words
+    enum-known-n
+    cast-words
     not-laid-out-requires-2
     returns-2
-    cast-record-after
     record-after-requires
     returns-3
     returns-4)
