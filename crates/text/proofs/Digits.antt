@@ -1,15 +1,13 @@
 -- `digits` is the decimal notation: it is read back as the number, and only 0 begins with `0`.
-use mathlib.Core.Path.{_≡_, refl, sym, ap, _∙_}
-use mathlib.Core.Bool.{Bool, true, false}
+use mathlib.Core.Path.{_≡_, refl, sym, _∙_}
 use mathlib.Core.List.{List, [], _∷_, _++_}
 use Prim.Native.Nat.{ℕ, zero, suc, _+_, _-_, _*_, _/_, _%_, _^_, _≤_, _<_}
 use native.Mathlib.Nat.{pow-suc}
 use native.Mathlib.Decide.{decLe}
 use native.Mathlib.Omega.{arith}
 use lib.ListN.{length, getD, length-append}
-use lib.Dec.{ltb}
 use borrow.Author.Tests.{lt-ltb, le-ltb}
-use Rattle.text.specs.Digits.{digit, choose, digitsWithin, digits, numberBehind}
+use Rattle.text.specs.Digits.{digit, digitsWithin, digits, numberBehind}
 
 -- more divisions than are enough change nothing
 within-enough : (k j n : ℕ) → n ≤ k → n ≤ j → digitsWithin k n ≡ digitsWithin j n

@@ -1,5 +1,5 @@
 -- From an input to its text: the reading of its record, and the rows of the table that the reading fills.
-use mathlib.Core.Path.{_≡_, refl, ap, sym, subst, _∙_}
+use mathlib.Core.Path.{_≡_, refl, ap, subst, _∙_}
 use mathlib.Core.List.{List, _++_}
 use Prim.Native.Nat.{ℕ, zero, suc, _+_, _*_, _≤_, _<_}
 use native.Mathlib.Omega.{arith}
@@ -16,7 +16,7 @@ use Rattle.value.specs.Step.{Step}
 use Rattle.value.specs.Reading.{State, start}
 use Rattle.value.proofs.Agreement.{agrees, agrees-accepted}
 use Rattle.grammar.specs.Tree.{treeOf}
-use Rattle.rows.specs.Row.{Row, rowWidth, rowAt}
+use Rattle.rows.specs.Row.{rowWidth, rowAt}
 use Rattle.rows.specs.Layout.{rowsOf}
 use Rattle.rows.proofs.LayoutLaws.{length-rowsOf}
 use Rattle.reading.specs.declared.Parsed.{Parsed}
@@ -24,7 +24,7 @@ use Rattle.reading.specs.declared.Parsed.the-variants as P
 use Rattle.reading.specs.Meaning.{Counts}
 use Rattle.reading.specs.Calls.{capacityOf, demarshallOf, countsOf, Parses}
 use Rattle.reading.proofs.Calls.{parses-refused, parse-accepted, whole-accepted}
-use Rattle.text.specs.Text.{line, linesOf, rowsText, refusalText}
+use Rattle.text.specs.Text.{linesOf, rowsText, refusalText}
 use Rattle.text.specs.Input.{Parts, layoutOf, wordsAt, grammarOf, recordOf}
 use Rattle.text.specs.Show.{mostRows, readInput, shown, textOf, FewRows}
 use Rattle.text.proofs.Input.{bind-inverse}

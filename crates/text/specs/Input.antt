@@ -39,6 +39,7 @@ recordAfter input words =
     test (eqb (8 + 4 * words + size) (length input)) (notLaidOut input) (λ _.
     accepted (record { words = words; start = 8 + 4 * words; size = size })))
 
+-- the parts of an input, or 19
 unfoldable pub layoutOf : List ℕ → Outcome Reason Parts
 layoutOf input =
     test (leb (length input) mostInput) (notLaidOut input) (λ _.

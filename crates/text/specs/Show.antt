@@ -1,5 +1,4 @@
 -- The whole of the program between reading and writing: which text an input gives.
-use mathlib.Core.Path.{_≡_}
 use mathlib.Core.List.{List}
 use Prim.Native.Nat.{ℕ, _*_, _≤_}
 use lib.ListN.{length}

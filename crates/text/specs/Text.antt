@@ -1,7 +1,7 @@
 -- The text that the program prints, in ASCII: the lines of rows, or of a refusal.
 use mathlib.Core.Path.{_≡_}
 use mathlib.Core.List.{List, [], _∷_, _++_}
-use Prim.Native.Nat.{ℕ, zero, suc, _+_, _≤_}
+use Prim.Native.Nat.{ℕ, zero, suc, _+_, _*_, _≤_}
 use lib.ListN.{length}
 use Rattle.refusal.specs.Outcome.{Location, word, byte, row, Reason, reason}
 use Rattle.packed.specs.Packed.{put}
@@ -58,19 +58,22 @@ pub record Puts (bs : List ℕ) (most index next : ℕ) (entry exit : List ℕ) 
   pub output : exit ≡ put entry index bs
   pub within : length bs ≤ most
 
--- a number's 20 digits at most and the byte behind them; a row's line; a place; the line of a refusal
+-- how long each part is at most: the 20 digits of a 64-bit number and the byte behind them, a line, a place, a refusal
 abbrev pub mostNumeral : ℕ
 mostNumeral = 21
 
 abbrev pub mostLine : ℕ
-mostLine = 84
+mostLine = 4 * mostNumeral
 
 abbrev pub mostPlace : ℕ
-mostPlace = 26
+mostPlace = 5 + mostNumeral
 
 abbrev pub mostRefusal : ℕ
-mostRefusal = 55
+mostRefusal = 8 + (mostNumeral + mostPlace)
 
--- the longest text: `rows `, the row count and the lines of 1,024 rows
+-- `rows `, the row count and the lines of so many rows; no text has more than 1,024
+abbrev pub mostRowsText : ℕ → ℕ
+mostRowsText n = 5 + (mostNumeral + mostLine * n)
+
 abbrev pub mostText : ℕ
-mostText = 86042
+mostText = mostRowsText 1024

@@ -9,7 +9,7 @@ ghost use Rattle.packed.specs.Meaning.{unpackedU32};
 ghost use Rattle.rows.specs.Row.{rowWidth, rowAt};
 ghost use Rattle.reading.specs.Calls.{demarshallOf, Parses};
 ghost use Rattle.text.specs.Digits.{digits};
-ghost use Rattle.text.specs.Text.{newline, numeral, line, linesOf, rowsText, placeText, refusalText, RoomFor, Puts, mostNumeral, mostLine, mostPlace, mostRefusal, mostText};
+ghost use Rattle.text.specs.Text.{newline, numeral, line, linesOf, rowsText, placeText, refusalText, RoomFor, Puts, mostNumeral, mostLine, mostPlace, mostRefusal, mostRowsText, mostText};
 ghost use Rattle.text.specs.Input.{mostInput, mostWords, partsOf, countAt, recordAfter, layoutOf, wordsAt};
 ghost use Rattle.text.specs.Show.{mostRows, readInput, shown, FewRows, textOf};
 use packed::UnpackedU32;
@@ -30,7 +30,7 @@ pub enum Layout {
 // The bytes of the longest input.
 pub const MOST_INPUT: usize = 65536;
 
-// The bytes of the longest text.
+// No text has more bytes.
 pub const MOST_TEXT: usize = 86042;
 
 // The most grammar words.
@@ -165,8 +165,8 @@ fn put_rows(rows: &[u64], n: usize, out: &mut [u8], index: usize) -> usize
 
 // Puts the row count and the rows.
 fn put_rows_text(rows: &[u64], n: usize, out: &mut [u8]) -> usize
-    requires { ⌜ (rowWidth * n ≤ length (now rows)) × RoomFor (5 + (mostNumeral + mostLine * n)) 0 (now out) ⌝ }
-    ensures { λ r. ⌜ Puts (rowsText (now (rows .entry)) n) (5 + (mostNumeral + mostLine * n)) 0 r (now (out .entry)) (now (out .exit)) ⌝ }
+    requires { ⌜ (rowWidth * n ≤ length (now rows)) × RoomFor (mostRowsText n) 0 (now out) ⌝ }
+    ensures { λ r. ⌜ Puts (rowsText (now (rows .entry)) n) (mostRowsText n) 0 r (now (out .entry)) (now (out .exit)) ⌝ }
 {
     let at1 = put_bytes(b"rows ", out, 0);
     let at2 = put_number(n as u64, b'\n', out, at1);

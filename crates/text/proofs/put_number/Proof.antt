@@ -4,7 +4,7 @@ use lib.ListN.{length}
 use Rattle.text.specs.Digits.{digits}
 use Rattle.text.specs.Text.{numeral, mostNumeral}
 use Rattle.text.proofs.Digits.{digits-bound}
-use Rattle.text.proofs.Puts.{room-less, room-first, room-then, puts-more, puts-then}
+use Rattle.text.proofs.Puts.{room-less, room-then, puts-more, puts-then}
 use Rattle.text.proofs.Lines.{numeral-bound}
 use borrow.Author.Needs.{needs}
 use Rattle.text.proofs.put_number.Statement.{statement}

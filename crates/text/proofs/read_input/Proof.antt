@@ -1,7 +1,6 @@
 use mathlib.Core.Path.{_≡_, ap, sym, _∙_}
 use Prim.Native.Nat.{_+_, _-_}
 use native.Mathlib.Omega.{arith}
-use lib.ListN.{length}
 use lib.Seq.{length-take-le}
 use Rattle.text.specs.Input.{partsOf}
 use Rattle.text.proofs.Input.{parts-matched, parts-laid}
