@@ -136,8 +136,8 @@ DemarshallAgrees =
     (g d rows exit : List ℕ) (r : Parsed) → Below (2 ^ 32) g → Bytes d
     → Parses (demarshallOf g d (capacityOf (length rows))) 0 r rows exit → DemarshallsAs g d rows r exit
 
--- "Reading": `check_val` and `check_whole`, to which no rows are lent, answer as `parse_val` and `demarshall` do where the capacity is 4,096.
--- It is so of 16,384 words
+-- "Reading": `check_val` and `check_whole`, to which no rows are lent, answer as `parse_val` and `demarshall` do where the capacity is 4,096,
+-- as that of 16,384 words is
 pub record ChecksAgree : Type 0 where
   pub val : (g d rows exit : List ℕ) (index : ℕ) (r q : Parsed) → capacityOf (length rows) ≡ 4096 → parsedOf r ≡ map countsOf (parseValOf g d index 4096) → Parses (parseValOf g d index (capacityOf (length rows))) index q rows exit → r ≡ q
   pub whole : (g d rows exit : List ℕ) (r q : Parsed) → capacityOf (length rows) ≡ 4096 → parsedOf r ≡ map countsOf (demarshallOf g d 4096) → Parses (demarshallOf g d (capacityOf (length rows))) 0 q rows exit → r ≡ q
@@ -176,10 +176,10 @@ pub record RuleStands : Type 0 where
   pub parsed : (g : G) → ValidGrammar g → (d : List ℕ) → Bytes d → (v : Val) (rest : List ℕ) → parseVal d g ≡ (some v, rest) → (d ≡ bytesOf v ++ rest) × ValueOf g v
   pub size : (v : Val) → length (bytesOf v) ≡ SizeOfV v
 
--- "writing" and "the bytes written are those of its byte rule": `marshall_val` is accepted exactly where the rows stand for a value and none
--- of 1 to 6 and 12 to 17 is to be given (`Writes`), and puts that value's bytes. `marshall` is the same at index 0. A writer that gives 17 at
--- once fails from right to left: case A's rows are to be written (`writes-A`). One that leaves the output alone, or packs only the first
--- element, fails `there`
+-- "writing" and "the bytes written are those of its byte rule": `marshall_val` is accepted exactly where the rows stand for a value
+-- (`RowsAgree`) and none of 1 to 6 and 12 to 17 is to be given, and puts that value's bytes. `marshall` is the same at index 0. A writer that
+-- gives 17 at once fails from right to left: case A's rows are to be written (`writes-A`). One that leaves the output alone, or packs only the
+-- first element, fails `there`
 abbrev pub WritesTheRule : Type 0
 WritesTheRule =
     (g t s out exit : List ℕ) (n index : ℕ) (w : SizeOf)
