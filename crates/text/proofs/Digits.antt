@@ -75,7 +75,7 @@ few-more zero n ds h l f = absurd (omega arith)
 few-more (suc k) n ds h l f = let m : n < 10 ^ suc k * 10 = rw (pow-suc 10 (suc k)) at l in rw length-append (omega (arith, f k (omega arith)))
 
 -- a number below 10 to the power k has k digits at most
-pub digits-few : (n k : ℕ) → n < 10 ^ suc k → length (digits n) ≤ suc k
+digits-few : (n k : ℕ) → n < 10 ^ suc k → length (digits n) ≤ suc k
 digits-few = along (λ n ds. (k : ℕ) → n < 10 ^ suc k → length ds ≤ suc k) (λ n h k l. omega arith) (λ n ds h f k l. few-more k n ds h l f)
 
 -- a 64-bit number has 20 at most

@@ -7,13 +7,13 @@ use native.Mathlib.Omega.{arith}
 use lib.ListN.{length, length-append}
 use Rattle.rows.specs.Row.{rowAt}
 use Rattle.text.specs.Text.{numeral, mostNumeral, mostLine, line, linesOf, RoomFor, Puts}
-use Rattle.text.proofs.Digits.{digits-few}
+use Rattle.text.proofs.Digits.{digits-bound}
 use Rattle.text.proofs.Puts.{puts-nothing, puts-then}
 
 -- a 64-bit number has 20 digits at most, and a byte stands behind it
 pub numeral-bound : (n end : ℕ) → n < 2 ^ 64 → length (numeral n end) ≤ mostNumeral
 unfolding numeral
-numeral-bound n end h = rw length-append (omega (arith, digits-few n 19 (omega arith)))
+numeral-bound n end h = rw length-append (omega (arith, digits-bound n h))
 
 -- the lines of the first i rows are put: none at first, then one more
 module _ (t out : List ℕ) (index : ℕ) where
