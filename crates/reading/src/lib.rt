@@ -350,6 +350,7 @@ fn read_array_contents(
     while i < count {
         match read_value(grammar, child, bytes, rows, t) {
             Step::Stopped(u, r) => return Step::Stopped(u, r),
+            // Field by field: a copy of the whole waits for what the call has just stored (docs/PERFORMANCE.md).
             Step::Next(u) => {
                 t = State {
                     at: u.at,
@@ -381,6 +382,7 @@ fn read_tuple_contents(
         let child = child_at(grammar, node, i);
         match read_value(grammar, child, bytes, rows, t) {
             Step::Stopped(u, r) => return Step::Stopped(u, r),
+            // Field by field: a copy of the whole waits for what the call has just stored (docs/PERFORMANCE.md).
             Step::Next(u) => {
                 t = State {
                     at: u.at,
