@@ -27,7 +27,7 @@ pub use row_table::{element_width, RowTable};
 pub use rows::{compute_size_of, locate_array};
 pub use same_route::same_route;
 pub use show::{show, show_from, show_in_pieces, show_input};
-pub use table::{chain, Table};
+pub use table::{chain, leaf, table, Table};
 pub use tally::Tally;
 pub use writing::Value;
 

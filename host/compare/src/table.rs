@@ -87,6 +87,17 @@ impl Table {
     }
 }
 
+/// A table of these nodes and child words.
+pub fn table(nodes: &[[u32; 3]], children: &[u32]) -> Vec<u32> {
+    let (n, m) = (nodes.len() as u32, children.len() as u32);
+    [&[n], nodes.concat().as_slice(), &[m], children].concat()
+}
+
+/// A table of one node without children.
+pub fn leaf(kind: u32) -> Vec<u32> {
+    table(&[[kind, 0, 0]], &[])
+}
+
 /// The words of 256 nodes, each but the last of this kind with the next as its one child, and a
 /// uint32.
 pub fn chain(kind: u32) -> Vec<u32> {

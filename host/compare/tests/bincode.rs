@@ -3,14 +3,8 @@
 //! 1.0.152 by `bincode::serialize`, and `DefaultOptions::new().with_fixint_encoding()` gave the
 //! same. The Rust value of each is beside it. Unions are left out: bincode's tags have 4 bytes.
 
-use compare::{demarshall, Value};
+use compare::{demarshall, table, Value};
 use route_record::Parsed;
-
-/// A table of these nodes and child words.
-fn table(nodes: &[[u32; 3]], children: &[u32]) -> Vec<u32> {
-    let (n, m) = (nodes.len() as u32, children.len() as u32);
-    [&[n], nodes.concat().as_slice(), &[m], children].concat()
-}
 
 /// Reads bincode's bytes into these rows, and writes the rows to bincode's bytes.
 fn compare_with(bytes: &[u8], grammar: &[u32], rows: &[[u64; 4]]) {

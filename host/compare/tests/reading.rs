@@ -1,7 +1,7 @@
 //! The readers: listed grammars and records, with the answer of each, and the widest ones. All
 //! answers are compared with the model too.
 
-use compare::{check_val, check_whole, demarshall, parse_val};
+use compare::{check_val, check_whole, demarshall, parse_val, table};
 use route_record::{Parsed, Place, Refusal};
 
 type Answer = Result<Parsed, Refusal>;
@@ -33,12 +33,6 @@ fn rows(grammar: &[u32], record: &[u8]) -> Vec<u64> {
     let mut words = [0; 64];
     let parsed = route_record::demarshall(grammar, record, &mut words).expect("a sound record");
     words[..4 * parsed.rows].to_vec()
-}
-
-/// A table of these nodes and child words.
-fn table(nodes: &[[u32; 3]], children: &[u32]) -> Vec<u32> {
-    let (n, m) = (nodes.len() as u32, children.len() as u32);
-    [&[n], nodes.concat().as_slice(), &[m], children].concat()
 }
 
 /// The bytes of a count or tag.

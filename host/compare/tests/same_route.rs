@@ -1,7 +1,7 @@
 //! Same route: listed pairs of records, with the answer of each, and the largest ones. All answers
 //! are compared with the model too.
 
-use compare::{chain, same_route};
+use compare::{chain, leaf, same_route, table};
 use route_record::SameRouteRefusal::{First, Grammar, Second};
 use route_record::{Place, Refusal};
 
@@ -13,17 +13,6 @@ fn at_byte(number: u64, byte: u64) -> Refusal {
 fn at_word(number: u64, word: u64) -> Refusal {
     let place = Place::Word(word);
     Refusal { number, place }
-}
-
-/// A table of these nodes and child words.
-fn table(nodes: &[[u32; 3]], children: &[u32]) -> Vec<u32> {
-    let (n, m) = (nodes.len() as u32, children.len() as u32);
-    [&[n], nodes.concat().as_slice(), &[m], children].concat()
-}
-
-/// A table of one node without children.
-fn leaf(kind: u32) -> Vec<u32> {
-    table(&[[kind, 0, 0]], &[])
 }
 
 /// The bytes of a count or tag.

@@ -5,17 +5,11 @@ use std::fs::{self, File};
 use std::path::Path;
 use std::process::Stdio;
 
-use compare::{chain, show, show_from, show_in_pieces, show_input};
+use compare::{chain, show, show_from, show_in_pieces, show_input, table};
 
 /// What the program prints for a grammar and a record.
 fn shown(grammar: &[u32], record: &[u8]) -> String {
     show(&show_input(grammar, record))
-}
-
-/// A table of these nodes and child words.
-fn table(nodes: &[[u32; 3]], children: &[u32]) -> Vec<u32> {
-    let (n, m) = (nodes.len() as u32, children.len() as u32);
-    [&[n], nodes.concat().as_slice(), &[m], children].concat()
 }
 
 /// The bytes of a count or tag.

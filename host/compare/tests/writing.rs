@@ -1,7 +1,7 @@
 //! The writing calls: listed values, with the answer of each, and the largest ones. All answers
 //! are compared with the model too.
 
-use compare::Value;
+use compare::{leaf, table, Value};
 use route_record::{Place, Refusal};
 
 type Row = [u64; 4];
@@ -23,17 +23,6 @@ fn at_word(number: u64, word: u64) -> Answer {
 fn at_row(number: u64, row: u64) -> Answer {
     let place = Place::Row(row);
     Err(Refusal { number, place })
-}
-
-/// A table of these nodes and child words.
-fn table(nodes: &[[u32; 3]], children: &[u32]) -> Vec<u32> {
-    let (n, m) = (nodes.len() as u32, children.len() as u32);
-    [&[n], nodes.concat().as_slice(), &[m], children].concat()
-}
-
-/// A table of one node without children.
-fn leaf(kind: u32) -> Vec<u32> {
-    table(&[[kind, 0, 0]], &[])
 }
 
 fn value(grammar: &[u32], rows: &[Row], store: &[u8]) -> Value {
