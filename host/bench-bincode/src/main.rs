@@ -33,7 +33,7 @@ fn main() {
 fn compare_reading(steps: &[Step], bytes: &[u8]) {
     let expected = rows_of(steps);
     let mut rows = vec![0; expected.len()];
-    let parsed = route_record::demarshall(&GRAMMAR, bytes, &mut rows);
+    let parsed = route_record::calls::demarshall(&GRAMMAR, bytes, &mut rows);
     assert_eq!(parsed.map(|parsed| parsed.rest_index), Ok(bytes.len()));
     assert_eq!(rows, expected);
     assert_eq!(record::read(bytes).expect("a sound record"), steps);
@@ -43,7 +43,7 @@ fn compare_reading(steps: &[Step], bytes: &[u8]) {
 fn compare_writing(steps: &[Step], bytes: &[u8]) {
     let rows = rows_of(steps);
     let mut out = vec![0; bytes.len()];
-    let size = route_record::marshall(&GRAMMAR, &rows, rows.len() / 4, bytes, &mut out);
+    let size = route_record::calls::marshall(&GRAMMAR, &rows, rows.len() / 4, bytes, &mut out);
     assert_eq!(size, Ok(bytes.len()));
     assert_eq!(out, bytes);
 }
@@ -54,7 +54,7 @@ fn reading(bytes: &[u8]) -> Times {
     measure(
         || {
             let rows = black_box(&mut rows);
-            route_record::demarshall(black_box(&GRAMMAR), black_box(bytes), rows)
+            route_record::calls::demarshall(black_box(&GRAMMAR), black_box(bytes), rows)
         },
         || record::read(black_box(bytes)),
     )
@@ -68,7 +68,7 @@ fn writing(steps: &[Step], bytes: &[u8]) -> Times {
         || {
             let (rows, store) = (black_box(&rows), black_box(bytes));
             let out = black_box(&mut library_out);
-            route_record::marshall(black_box(&GRAMMAR), rows, rows.len() / 4, store, out)
+            route_record::calls::marshall(black_box(&GRAMMAR), rows, rows.len() / 4, store, out)
         },
         || record::write_into(black_box(&mut bincode_out), black_box(steps)),
     )

@@ -32,7 +32,7 @@ fn parsed(of_peer: peer::Parsed) -> Parsed {
 /// Compares the check of the grammar.
 pub fn check_grammar(input: &Input) -> Result<(), Refusal> {
     let grammar = &input.grammar;
-    let library = route_record::check_grammar(grammar);
+    let library = route_record::calls::check_grammar(grammar);
     let rust = peer::check_grammar(grammar).map_err(refusal);
     assert_eq!(library, rust, "check_grammar of {grammar:?}");
     library
@@ -41,7 +41,7 @@ pub fn check_grammar(input: &Input) -> Result<(), Refusal> {
 /// Compares the check of the record.
 pub fn check_whole(input: &Input) -> Result<Parsed, Refusal> {
     let Input { grammar, record } = input;
-    let library = route_record::check_whole(grammar, record);
+    let library = route_record::calls::check_whole(grammar, record);
     let rust = peer::check_whole(grammar, record);
     let rust = rust.map(parsed).map_err(refusal);
     assert_eq!(library, rust, "check_whole of {grammar:?}, {record:?}");
@@ -53,7 +53,7 @@ pub fn demarshall(input: &Input, words: usize) -> Result<Parsed, Refusal> {
     let Input { grammar, record } = input;
     let mut library_rows = vec![UNTOUCHED; words];
     let mut rust_rows = library_rows.clone();
-    let library = route_record::demarshall(grammar, record, &mut library_rows);
+    let library = route_record::calls::demarshall(grammar, record, &mut library_rows);
     let rust = peer::demarshall(grammar, record, &mut rust_rows);
     let rust = rust.map(parsed).map_err(refusal);
     let case = format_args!("demarshall of {grammar:?}, {record:?}, {words} words");
@@ -76,11 +76,11 @@ pub fn marshall(value: &Value, length: usize, index: Option<usize>) -> Result<us
     let (out, other) = (&mut library_out, &mut rust_out);
     let (library, rust) = match index {
         None => (
-            route_record::marshall(grammar, rows, *n, store, out),
+            route_record::calls::marshall(grammar, rows, *n, store, out),
             peer::marshall(grammar, rows, *n, store, other),
         ),
         Some(index) => (
-            route_record::marshall_val(grammar, rows, *n, store, out, index),
+            route_record::calls::marshall_val(grammar, rows, *n, store, out, index),
             peer::marshall_val(grammar, rows, *n, store, other, index),
         ),
     };

@@ -80,7 +80,7 @@ fn check_whole(input: &Input) -> Times {
     let _ = answers::check_whole(input);
     let Input { grammar, record } = input;
     measure(
-        || route_record::check_whole(black_box(grammar), black_box(record)),
+        || route_record::calls::check_whole(black_box(grammar), black_box(record)),
         || peer::check_whole(black_box(grammar), black_box(record)),
     )
 }
@@ -93,7 +93,7 @@ fn demarshall(input: &Input) -> Times {
     measure(
         || {
             let rows = black_box(&mut library_rows);
-            route_record::demarshall(black_box(grammar), black_box(record), rows)
+            route_record::calls::demarshall(black_box(grammar), black_box(record), rows)
         },
         || {
             let rows = black_box(&mut rust_rows);
@@ -106,7 +106,7 @@ fn demarshall(input: &Input) -> Times {
 fn check_grammar(input: &Input) -> Times {
     let _ = answers::check_grammar(input);
     measure(
-        || route_record::check_grammar(black_box(&input.grammar)),
+        || route_record::calls::check_grammar(black_box(&input.grammar)),
         || peer::check_grammar(black_box(&input.grammar)),
     )
 }

@@ -25,7 +25,7 @@ impl Input {
     /// The value of a record that is accepted, with the record as the store.
     pub fn into_value(self) -> Value {
         let mut rows = vec![0; 4 * 4_096];
-        let parsed = route_record::demarshall(&self.grammar, &self.record, &mut rows);
+        let parsed = route_record::calls::demarshall(&self.grammar, &self.record, &mut rows);
         let n = parsed.expect("a sound record").rows;
         rows.truncate(4 * n);
         Value {

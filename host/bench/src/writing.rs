@@ -51,5 +51,5 @@ fn copy(value: &Value) -> Times {
 
 fn library_marshall(value: &Value, out: &mut [u8]) -> Result<usize, route_record::Refusal> {
     let (grammar, rows) = (black_box(&value.grammar), black_box(&value.rows));
-    route_record::marshall(grammar, rows, value.n, black_box(&value.store), out)
+    route_record::calls::marshall(grammar, rows, value.n, black_box(&value.store), out)
 }

@@ -29,18 +29,18 @@ pub struct Calls<N> {
 
 /// The calls for numbers of 4 bytes.
 pub const U32: Calls<u32> = Calls {
-    unpack: route_record::unpack_u32,
-    pack: route_record::pack_u32,
-    unpack_seq: route_record::unpack_u32_seq,
-    pack_seq: route_record::pack_u32_seq,
+    unpack: route_record::calls::unpack_u32,
+    pack: route_record::calls::pack_u32,
+    unpack_seq: route_record::calls::unpack_u32_seq,
+    pack_seq: route_record::calls::pack_u32_seq,
 };
 
 /// The calls for numbers of 8 bytes.
 pub const U64: Calls<u64> = Calls {
-    unpack: route_record::unpack_u64,
-    pack: route_record::pack_u64,
-    unpack_seq: route_record::unpack_u64_seq,
-    pack_seq: route_record::pack_u64_seq,
+    unpack: route_record::calls::unpack_u64,
+    pack: route_record::calls::pack_u64,
+    unpack_seq: route_record::calls::unpack_u64_seq,
+    pack_seq: route_record::calls::pack_u64_seq,
 };
 
 impl<N: Number> Calls<N> {

@@ -54,7 +54,7 @@ pub fn parse_val(
         format_args!("parse_val of {grammar:?}, {record:?}, index {index}, {words} words"),
         words,
         model::parse_val(grammar, record, index, model::capacity(words)),
-        |rows| route_record::parse_val(grammar, record, index, rows),
+        |rows| route_record::calls::parse_val(grammar, record, index, rows),
     )
 }
 
@@ -64,14 +64,14 @@ pub fn demarshall(grammar: &[u32], record: &[u8], words: usize) -> Result<Parsed
         format_args!("demarshall of {grammar:?}, {record:?}, {words} words"),
         words,
         model::demarshall(grammar, record, model::capacity(words)),
-        |rows| route_record::demarshall(grammar, record, rows),
+        |rows| route_record::calls::demarshall(grammar, record, rows),
     )
 }
 
 /// Compares the reading from an index on as a check.
 pub fn check_val(grammar: &[u32], record: &[u8], index: usize) -> Result<Parsed, Refusal> {
     let expected = parsed(&model::parse_val(grammar, record, index, MOST_ROWS));
-    let got = route_record::check_val(grammar, record, index);
+    let got = route_record::calls::check_val(grammar, record, index);
     assert_eq!(
         got, expected,
         "check_val of {grammar:?}, {record:?}, index {index}"
@@ -82,7 +82,7 @@ pub fn check_val(grammar: &[u32], record: &[u8], index: usize) -> Result<Parsed,
 /// Compares the whole reading as a check.
 pub fn check_whole(grammar: &[u32], record: &[u8]) -> Result<Parsed, Refusal> {
     let expected = parsed(&model::demarshall(grammar, record, MOST_ROWS));
-    let got = route_record::check_whole(grammar, record);
+    let got = route_record::calls::check_whole(grammar, record);
     assert_eq!(got, expected, "check_whole of {grammar:?}, {record:?}");
     expected
 }

@@ -7,7 +7,7 @@ use crate::refusal;
 /// Compares the size of the value that `n` rows stand for.
 pub fn compute_size_of(rows: &[u64], n: usize, store: &[u8]) -> Result<u64, Refusal> {
     let expected = model::compute_size_of(rows, n, store).map_err(refusal);
-    let got = route_record::compute_size_of(rows, n, store);
+    let got = route_record::calls::compute_size_of(rows, n, store);
     let bytes = store.len();
     assert_eq!(
         got, expected,
@@ -24,7 +24,7 @@ pub fn locate_array(
     row: usize,
 ) -> Result<(usize, usize), Refusal> {
     let expected = model::locate_array(rows, n, store, row).map_err(refusal);
-    let got = route_record::locate_array(rows, n, store, row);
+    let got = route_record::calls::locate_array(rows, n, store, row);
     let bytes = store.len();
     assert_eq!(
         got, expected,

@@ -16,7 +16,7 @@ fn named_refusal(of_model: model::SameRouteRefusal) -> SameRouteRefusal {
 /// Compares the answer whether two records are of the same route.
 pub fn same_route(grammar: &[u32], first: &[u8], second: &[u8]) -> Result<bool, SameRouteRefusal> {
     let expected = model::same_route(grammar, first, second).map_err(named_refusal);
-    let got = route_record::same_route(grammar, first, second);
+    let got = route_record::calls::same_route(grammar, first, second);
     assert_eq!(
         got, expected,
         "same_route of {grammar:?}, {first:?}, {second:?}"

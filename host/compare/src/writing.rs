@@ -35,7 +35,7 @@ impl Value {
     /// The value of a record that the library reads whole, with the record as the store.
     pub fn read(grammar: &[u32], record: &[u8]) -> Value {
         let mut rows = vec![0; 4 * 4_096];
-        let parsed = route_record::demarshall(grammar, record, &mut rows);
+        let parsed = route_record::calls::demarshall(grammar, record, &mut rows);
         let n = parsed.expect("a record of the grammar").rows;
         rows.truncate(4 * n);
         Value {
@@ -52,7 +52,7 @@ impl Value {
         self.compare(
             (length, index),
             |out| model::marshall_val(grammar, rows, n, store, out, index),
-            |out| route_record::marshall_val(grammar, rows, n, store, out, index),
+            |out| route_record::calls::marshall_val(grammar, rows, n, store, out, index),
         )
     }
 
@@ -62,7 +62,7 @@ impl Value {
         self.compare(
             (length, 0),
             |out| model::marshall(grammar, rows, n, store, out),
-            |out| route_record::marshall(grammar, rows, n, store, out),
+            |out| route_record::calls::marshall(grammar, rows, n, store, out),
         )
     }
 

@@ -15,8 +15,8 @@ const STACK: usize = 64 * 1_024;
 fn on_small_stack(grammar: Vec<u32>, record: Vec<u8>) -> [Answer; 2] {
     let calls = move || {
         let mut words = vec![0; 4 * 256];
-        let lent = route_record::demarshall(&grammar, &record, &mut words);
-        [lent, route_record::check_whole(&grammar, &record)]
+        let lent = route_record::calls::demarshall(&grammar, &record, &mut words);
+        [lent, route_record::calls::check_whole(&grammar, &record)]
     };
     let thread = thread::Builder::new().stack_size(STACK).spawn(calls);
     let thread = thread.expect("a thread with a small stack");

@@ -24,8 +24,8 @@ fn on_small_stack(value: &Value, length: usize) -> [Answer; 2] {
     } = value.clone();
     let calls = move || {
         let (mut first, mut second) = (vec![0; length], vec![0; length]);
-        let size = route_record::marshall_val(&grammar, &rows, n, &store, &mut first, 0);
-        let other = route_record::marshall(&grammar, &rows, n, &store, &mut second);
+        let size = route_record::calls::marshall_val(&grammar, &rows, n, &store, &mut first, 0);
+        let other = route_record::calls::marshall(&grammar, &rows, n, &store, &mut second);
         [
             size.map(|size| first[..size].to_vec()),
             other.map(|size| second[..size].to_vec()),

@@ -192,12 +192,24 @@ fn slices_of_no_element() {
         let place = Place::Byte(byte);
         Err(Refusal { number, place })
     };
-    assert_eq!(route_record::unpack_u32_seq(&[], 0, &mut []), Ok(()));
-    assert_eq!(route_record::unpack_u64_seq(&[], 0, &mut []), Ok(()));
-    assert_eq!(route_record::unpack_u32_seq(&[], 1, &mut []), at_byte(7, 1));
-    assert_eq!(route_record::unpack_u64_seq(&[], 1, &mut []), at_byte(7, 1));
-    assert_eq!(route_record::pack_u32_seq(&[], &mut [], 0), Ok(()));
-    assert_eq!(route_record::pack_u64_seq(&[], &mut [], 0), Ok(()));
-    assert_eq!(route_record::pack_u32_seq(&[], &mut [], 1), at_byte(17, 0));
-    assert_eq!(route_record::pack_u64_seq(&[], &mut [], 1), at_byte(17, 0));
+    assert_eq!(route_record::calls::unpack_u32_seq(&[], 0, &mut []), Ok(()));
+    assert_eq!(route_record::calls::unpack_u64_seq(&[], 0, &mut []), Ok(()));
+    assert_eq!(
+        route_record::calls::unpack_u32_seq(&[], 1, &mut []),
+        at_byte(7, 1)
+    );
+    assert_eq!(
+        route_record::calls::unpack_u64_seq(&[], 1, &mut []),
+        at_byte(7, 1)
+    );
+    assert_eq!(route_record::calls::pack_u32_seq(&[], &mut [], 0), Ok(()));
+    assert_eq!(route_record::calls::pack_u64_seq(&[], &mut [], 0), Ok(()));
+    assert_eq!(
+        route_record::calls::pack_u32_seq(&[], &mut [], 1),
+        at_byte(17, 0)
+    );
+    assert_eq!(
+        route_record::calls::pack_u64_seq(&[], &mut [], 1),
+        at_byte(17, 0)
+    );
 }

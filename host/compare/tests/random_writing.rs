@@ -61,7 +61,7 @@ fn written_back_between_random_bytes() {
         let (front, back) = (random.bytes(before), random.bytes(behind));
         let old = random.bytes(store.len());
         let mut out = [&front[..], &old, &back].concat();
-        let size = route_record::marshall_val(&grammar, &rows, n, &store, &mut out, before);
+        let size = route_record::calls::marshall_val(&grammar, &rows, n, &store, &mut out, before);
         assert_eq!(size, Ok(store.len()));
         assert_eq!(out, [front, store, back].concat());
     });

@@ -31,7 +31,8 @@ fn answer(grammar: &[u32], record: &[u8]) -> Answer {
 /// The rows of a record that is read whole, the words behind them left out.
 fn rows(grammar: &[u32], record: &[u8]) -> Vec<u64> {
     let mut words = [0; 64];
-    let parsed = route_record::demarshall(grammar, record, &mut words).expect("a sound record");
+    let parsed =
+        route_record::calls::demarshall(grammar, record, &mut words).expect("a sound record");
     words[..4 * parsed.rows].to_vec()
 }
 

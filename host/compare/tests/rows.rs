@@ -341,8 +341,8 @@ type Deepest = (Result<u64, Refusal>, Result<(usize, usize), Refusal>);
 /// The library's answers to 4,096 rows with a store of 16 bytes, on a thread with a stack of 1 MiB.
 fn on_small_stack(words: Vec<u64>) -> Deepest {
     let calls = move || {
-        let size = route_record::compute_size_of(&words, 4_096, &[0; 16]);
-        let array = route_record::locate_array(&words, 4_096, &[0; 16], 4_095);
+        let size = route_record::calls::compute_size_of(&words, 4_096, &[0; 16]);
+        let array = route_record::calls::locate_array(&words, 4_096, &[0; 16], 4_095);
         (size, array)
     };
     let thread = thread::Builder::new().stack_size(1 << 20).spawn(calls);

@@ -1,38 +1,13 @@
 //! Safe bindings of the proved route-record library. They pass slices to it and hand back its
 //! answers; no answer is decided here.
-//!
-//! Every call is defined on every input. A refused call changes no slice it was given.
-//!
-//! ```
-//! use route_record::{pack_u32_seq, unpack_u32, Place, Refusal};
-//!
-//! let mut out = [0xff; 10];
-//! assert_eq!(pack_u32_seq(&[7, 305_419_896], &mut out, 1), Ok(()));
-//! assert_eq!(out, [0xff, 7, 0, 0, 0, 0x78, 0x56, 0x34, 0x12, 0xff]);
-//!
-//! assert_eq!(unpack_u32(&out, 5), Ok(305_419_896));
-//! assert_eq!(unpack_u32(&out, 7), Err(Refusal { number: 9, place: Place::Byte(7) }));
-//! ```
 
 #![deny(missing_docs, unsafe_code)]
 
+pub mod calls;
 #[allow(unsafe_code)]
 mod ffi;
-mod grammar;
-mod packed;
-mod reading;
+mod parsed;
 mod refusal;
-mod rows;
-mod same_route;
-mod writing;
 
-pub use grammar::check_grammar;
-pub use packed::{
-    pack_u32, pack_u32_seq, pack_u64, pack_u64_seq, unpack_u32, unpack_u32_seq, unpack_u64,
-    unpack_u64_seq,
-};
-pub use reading::{check_val, check_whole, demarshall, parse_val, Parsed};
-pub use refusal::{Place, Refusal};
-pub use rows::{compute_size_of, locate_array};
-pub use same_route::{same_route, SameRouteRefusal};
-pub use writing::{marshall, marshall_val};
+pub use parsed::Parsed;
+pub use refusal::{Place, Refusal, SameRouteRefusal};

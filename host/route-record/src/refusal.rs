@@ -22,6 +22,17 @@ pub struct Refusal {
     pub place: Place,
 }
 
+/// Why the question whether two records are of the same route was refused, with the record of the refusal.
+#[derive(Clone, Copy, Debug, PartialEq, Eq)]
+pub enum SameRouteRefusal {
+    /// The grammar's refusal, which is of neither record.
+    Grammar(Refusal),
+    /// The first record's refusal.
+    First(Refusal),
+    /// The second record's refusal. The first record is accepted.
+    Second(Refusal),
+}
+
 impl Answer {
     /// The answer itself if the call was accepted, else its refusal.
     pub(crate) fn into_result(self) -> Result<Answer, Refusal> {

@@ -8,7 +8,7 @@
 //! A call uses less than 1 MiB of stack, on values as deep as 4,096 rows can be.
 
 use crate::ffi;
-use crate::refusal::Refusal;
+use crate::Refusal;
 
 /// The size in bytes of the value that rows 0 to `n - 1` stand for: the length of its record.
 ///
@@ -26,7 +26,8 @@ use crate::refusal::Refusal;
 ///   at.
 ///
 /// ```
-/// use route_record::{compute_size_of, Place, Refusal};
+/// use route_record::calls::compute_size_of;
+/// use route_record::{Place, Refusal};
 ///
 /// let tuple_of_u32_and_bytes = [4, 3, 2, 0, 1, 1, 7, 0, 5, 1, 2, 12];
 /// assert_eq!(compute_size_of(&tuple_of_u32_and_bytes, 3, &[0; 14]), Ok(14));
@@ -45,7 +46,8 @@ pub fn compute_size_of(rows: &[u64], n: usize, store: &[u8]) -> Result<u64, Refu
 /// kind is not 5 to 7.
 ///
 /// ```
-/// use route_record::{locate_array, Place, Refusal};
+/// use route_record::calls::locate_array;
+/// use route_record::{Place, Refusal};
 ///
 /// let tuple_of_u32_and_bytes = [4, 3, 2, 0, 1, 1, 7, 0, 5, 1, 2, 12];
 /// assert_eq!(locate_array(&tuple_of_u32_and_bytes, 3, &[0; 14], 2), Ok((12, 2)));

@@ -8,7 +8,7 @@
 //! A call uses less than 1 MiB of stack, on values as deep as 4,096 rows can be.
 
 use crate::ffi::{self, Answer};
-use crate::refusal::Refusal;
+use crate::Refusal;
 
 /// The number of bytes written.
 fn size(answer: Answer) -> Result<usize, Refusal> {
@@ -20,8 +20,8 @@ fn size(answer: Answer) -> Result<usize, Refusal> {
 /// at byte `index` of the output, and gives its size in bytes. Changes the bytes `index` to
 /// `index + size - 1` of the output and no other. The output may be longer.
 ///
-/// Refused by 1 to 5 as [`check_grammar`](crate::check_grammar) refuses; then by 6 and 12 to 14 as
-/// [`compute_size_of`](crate::compute_size_of) refuses; then, for each row from row 0 on, by 15 at
+/// Refused by 1 to 5 as [`check_grammar`](crate::calls::check_grammar) refuses; then by 6 and 12 to 14 as
+/// [`compute_size_of`](crate::calls::compute_size_of) refuses; then, for each row from row 0 on, by 15 at
 /// the row when its value is not one of its node of the grammar:
 /// - its kind is not the node's;
 /// - its kind is 4 and its count not the node's;
@@ -34,7 +34,8 @@ fn size(answer: Answer) -> Result<usize, Refusal> {
 /// What was read is written back:
 ///
 /// ```
-/// use route_record::{demarshall, marshall_val, Place, Refusal};
+/// use route_record::calls::{demarshall, marshall_val};
+/// use route_record::{Place, Refusal};
 ///
 /// let tuple_of_u32_and_bytes = [3, 4, 0, 2, 1, 0, 0, 5, 0, 0, 2, 1, 2];
 /// let record = [7, 0, 0, 0, 2, 0, 0, 0, 0, 0, 0, 0, 0x41, 0x42];
@@ -64,7 +65,8 @@ pub fn marshall_val(
 /// Writes as [`marshall_val`] does at byte 0.
 ///
 /// ```
-/// use route_record::{marshall, Place, Refusal};
+/// use route_record::calls::marshall;
+/// use route_record::{Place, Refusal};
 ///
 /// let uint32 = [1, 1, 0, 0, 0];
 /// let mut out = [0xff; 5];

@@ -1,18 +1,7 @@
 //! Whether two records are of the same route.
 
 use crate::ffi::{self, Answer};
-use crate::refusal::Refusal;
-
-/// Why [`same_route`] was refused, with the record of the refusal.
-#[derive(Clone, Copy, Debug, PartialEq, Eq)]
-pub enum SameRouteRefusal {
-    /// The grammar's refusal, which is of neither record.
-    Grammar(Refusal),
-    /// The first record's refusal.
-    First(Refusal),
-    /// The second record's refusal. The first record is accepted.
-    Second(Refusal),
-}
+use crate::SameRouteRefusal;
 
 /// Yes or no, or the refusal with its record, whose number is 1, 2 or, for neither, 0.
 fn is_same(answer: Answer) -> Result<bool, SameRouteRefusal> {
@@ -30,12 +19,13 @@ fn is_same(answer: Answer) -> Result<bool, SameRouteRefusal> {
 
 /// Whether the values of two records, each read whole as a value of the grammar's root, are equal.
 ///
-/// Refused by 1 to 5 as [`check_grammar`](crate::check_grammar) refuses, and then neither record is
-/// named; then by 6 and 8 to 11 as [`check_whole`](crate::check_whole) refuses the first record;
+/// Refused by 1 to 5 as [`check_grammar`](crate::calls::check_grammar) refuses, and then neither record is
+/// named; then by 6 and 8 to 11 as [`check_whole`](crate::calls::check_whole) refuses the first record;
 /// then by 6 and 8 to 11 as it refuses the second.
 ///
 /// ```
-/// use route_record::{same_route, Place, Refusal, SameRouteRefusal};
+/// use route_record::calls::same_route;
+/// use route_record::{Place, Refusal, SameRouteRefusal};
 ///
 /// let bytes = [1, 5, 0, 0, 0];
 /// let one = [1, 0, 0, 0, 0, 0, 0, 0, 0x41];
@@ -60,7 +50,7 @@ pub fn same_route(grammar: &[u32], first: &[u8], second: &[u8]) -> Result<bool, 
 #[cfg(test)]
 mod tests {
     use super::*;
-    use crate::refusal::Place;
+    use crate::{Place, Refusal};
 
     fn accepted(first: u64) -> Answer {
         Answer {

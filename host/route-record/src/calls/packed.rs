@@ -1,7 +1,7 @@
 //! Packed integers: numbers as bytes, least byte first, one by one and in runs.
 
 use crate::ffi;
-use crate::refusal::Refusal;
+use crate::Refusal;
 
 /// The number in the 4 bytes at `index`: the sum of byte i times 256 to the power i.
 ///

@@ -1,7 +1,7 @@
 //! Grammar tables: their check.
 
 use crate::ffi;
-use crate::refusal::Refusal;
+use crate::Refusal;
 
 /// Accepts the words that are a sound grammar table.
 ///
@@ -18,7 +18,8 @@ use crate::refusal::Refusal;
 /// - 5 at the word of its first child whose number is not above k or not below N.
 ///
 /// ```
-/// use route_record::{check_grammar, Place, Refusal};
+/// use route_record::calls::check_grammar;
+/// use route_record::{Place, Refusal};
 ///
 /// let tuple_of_u32_and_bytes = [3, 4, 0, 2, 1, 0, 0, 5, 0, 0, 2, 1, 2];
 /// assert_eq!(check_grammar(&tuple_of_u32_and_bytes), Ok(()));

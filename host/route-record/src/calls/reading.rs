@@ -8,16 +8,7 @@
 //! A call uses less than 64 KiB of stack, on grammars as deep as 256 nodes can be.
 
 use crate::ffi::{self, Answer};
-use crate::refusal::Refusal;
-
-/// What an accepted reading gives.
-#[derive(Clone, Copy, Debug, PartialEq, Eq)]
-pub struct Parsed {
-    /// The number of rows of the value.
-    pub rows: usize,
-    /// The first byte behind the value.
-    pub rest_index: usize,
-}
+use crate::{Parsed, Refusal};
 
 /// The counts of an answer.
 fn parsed(answer: Answer) -> Result<Parsed, Refusal> {
@@ -32,7 +23,7 @@ fn parsed(answer: Answer) -> Result<Parsed, Refusal> {
 /// Reads a value of the grammar's root from byte `index` on and lays it out in rows 0 to `n - 1`,
 /// `n` being its row count. The words behind them stay as they were.
 ///
-/// Refused by 1 to 5 as [`check_grammar`](crate::check_grammar) refuses; then by 6 at byte 0 when
+/// Refused by 1 to 5 as [`check_grammar`](crate::calls::check_grammar) refuses; then by 6 at byte 0 when
 /// the record has more than 1,048,576 bytes; then by 7 at byte `index` when it is above the
 /// record's length; then, for each value from the root on, at the byte where the value starts, by
 /// - 8 when no row is left;
@@ -43,7 +34,8 @@ fn parsed(answer: Answer) -> Result<Parsed, Refusal> {
 /// - what its children are refused by, in order.
 ///
 /// ```
-/// use route_record::{parse_val, Parsed, Place, Refusal};
+/// use route_record::calls::parse_val;
+/// use route_record::{Parsed, Place, Refusal};
 ///
 /// let tuple_of_u32_and_bytes = [3, 4, 0, 2, 1, 0, 0, 5, 0, 0, 2, 1, 2];
 /// let record = [0xff, 7, 0, 0, 0, 2, 0, 0, 0, 0, 0, 0, 0, 0x41, 0x42, 0xff];
@@ -72,7 +64,8 @@ pub fn parse_val(
 /// it is not the record's end.
 ///
 /// ```
-/// use route_record::{demarshall, Parsed, Place, Refusal};
+/// use route_record::calls::demarshall;
+/// use route_record::{Parsed, Place, Refusal};
 ///
 /// let uint32 = [1, 1, 0, 0, 0];
 /// let mut rows = [99; 5];
@@ -91,7 +84,8 @@ pub fn demarshall(grammar: &[u32], record: &[u8], rows: &mut [u64]) -> Result<Pa
 /// Reads as [`parse_val`] does with 4,096 rows, and keeps none.
 ///
 /// ```
-/// use route_record::{check_val, Parsed, Place, Refusal};
+/// use route_record::calls::check_val;
+/// use route_record::{Parsed, Place, Refusal};
 ///
 /// let uint64 = [1, 2, 0, 0, 0];
 /// assert_eq!(check_val(&uint64, &[0; 9], 1), Ok(Parsed { rows: 1, rest_index: 9 }));
@@ -106,7 +100,8 @@ pub fn check_val(grammar: &[u32], record: &[u8], index: usize) -> Result<Parsed,
 /// Reads as [`demarshall`] does with 4,096 rows, and keeps none.
 ///
 /// ```
-/// use route_record::{check_whole, Parsed, Place, Refusal};
+/// use route_record::calls::check_whole;
+/// use route_record::{Parsed, Place, Refusal};
 ///
 /// let uint64 = [1, 2, 0, 0, 0];
 /// assert_eq!(check_whole(&uint64, &[0; 8]), Ok(Parsed { rows: 1, rest_index: 8 }));
