@@ -1,13 +1,56 @@
 //! Safe bindings of the proved route-record library. They pass slices to it and hand back its
 //! answers; no answer is decided here.
+//!
+//! A [`Grammar`] is a table of words that passed its check. It reads a record into a [`Value`],
+//! whose [`Row`]s are a tree, and writes a value as its record. A [`Builder`] makes a value that was
+//! not read. What is refused is refused by a [`Refusal`] with number, place and words.
+//!
+//! ```
+//! use route_record::{Builder, Contents, Grammar};
+//!
+//! // An array of uint32: two nodes, and one child word.
+//! let grammar = Grammar::check(&[2, 3, 0, 1, 1, 0, 0, 1, 1])?;
+//!
+//! let mut route = Builder::new();
+//! route.array(|elements| {
+//!     elements.uint32(7);
+//!     elements.uint32(8);
+//! });
+//! let record = grammar.marshall_vec(&route.finish()?)?;
+//! assert_eq!(record, [2, 0, 0, 0, 0, 0, 0, 0, 7, 0, 0, 0, 8, 0, 0, 0]);
+//!
+//! let value = grammar.demarshall_vec(&record)?;
+//! for element in value.root().children() {
+//!     assert!(matches!(element.contents(), Contents::Number(7 | 8)));
+//! }
+//! assert_eq!(grammar.same_route(&record, &record), Ok(true));
+//!
+//! let refusal = grammar.demarshall_vec(&record[..15]).unwrap_err();
+//! let words = "refused 9 at byte 12: the value that starts there is cut short";
+//! assert_eq!(refusal.to_string(), words);
+//! # Ok::<(), route_record::Refusal>(())
+//! ```
+//!
+//! [`calls`] has the library's calls as they are, on slices of any content.
+//!
+//! The library allocates nothing, keeps nothing between calls and starts no thread: calls from
+//! several threads at once are fine. It uses less than 1 MiB of stack.
 
 #![deny(missing_docs, unsafe_code)]
 
+mod builder;
 pub mod calls;
 #[allow(unsafe_code)]
 mod ffi;
+mod grammar;
+mod kind;
 mod parsed;
 mod refusal;
+mod value;
 
+pub use builder::Builder;
+pub use grammar::Grammar;
+pub use kind::{Class, Kind, KINDS};
 pub use parsed::Parsed;
 pub use refusal::{Place, Refusal, SameRouteRefusal};
+pub use value::{Children, Contents, Elements, Row, Rows, Value};

@@ -1,4 +1,7 @@
-//! Refusals, and how they are read off an answer of the library.
+//! Refusals, their words, and how they are read off an answer of the library.
+
+use std::error::Error;
+use std::fmt;
 
 use crate::ffi::Answer;
 
@@ -32,6 +35,87 @@ pub enum SameRouteRefusal {
     /// The second record's refusal. The first record is accepted.
     Second(Refusal),
 }
+
+/// What each refusal says, number 1 first. "There" is its place.
+const WORDS: [&str; 19] = [
+    "the table is empty, or its node count is not 1 to 256",
+    "the count of child words is missing or above 1,024, or the table's length does not fit it",
+    "the node's kind is above 8",
+    "the node's first or count breaks the rule of its kind, or reaches past the child words",
+    "the child's number is not above its node's, or there is no such node",
+    "the record or store is longer than 1,048,576 bytes",
+    "the index is above the length",
+    "no row is left for the value that starts there, or too few for the elements that it counts",
+    "the value that starts there is cut short",
+    "the tag of the value that starts there is none of a case",
+    "the value ends there, and bytes follow it",
+    "the row count is 0, above 4,096 or above the rows given",
+    "the row breaks the layout of a value",
+    "the row's elements reach past the end of the store",
+    "the row's value is not one of its node of the grammar",
+    "the value's record is longer than 1,048,576 bytes",
+    "the output ends there, before the value's bytes do",
+    "there is no such row, or its kind is not an array of bytes or numbers",
+    "the input is not a grammar and a record as the program wants them",
+];
+
+impl fmt::Display for Place {
+    fn fmt(&self, f: &mut fmt::Formatter) -> fmt::Result {
+        match self {
+            Place::Word(word) => write!(f, "word {word}"),
+            Place::Byte(byte) => write!(f, "byte {byte}"),
+            Place::Row(row) => write!(f, "row {row}"),
+        }
+    }
+}
+
+impl Refusal {
+    /// What the refusal says, without its number and place.
+    ///
+    /// ```
+    /// use route_record::{Place, Refusal};
+    ///
+    /// let refusal = Refusal { number: 9, place: Place::Byte(4) };
+    /// assert_eq!(refusal.words(), "the value that starts there is cut short");
+    /// ```
+    pub fn words(&self) -> &'static str {
+        let words = usize::try_from(self.number).ok().and_then(|number| {
+            let place = number.checked_sub(1)?;
+            WORDS.get(place).copied()
+        });
+        words.unwrap_or("no refusal has this number")
+    }
+}
+
+/// Number, place and words.
+///
+/// ```
+/// use route_record::{Place, Refusal};
+///
+/// let refusal = Refusal { number: 9, place: Place::Byte(4) };
+/// let words = "refused 9 at byte 4: the value that starts there is cut short";
+/// assert_eq!(refusal.to_string(), words);
+/// ```
+impl fmt::Display for Refusal {
+    fn fmt(&self, f: &mut fmt::Formatter) -> fmt::Result {
+        let (number, place, words) = (self.number, self.place, self.words());
+        write!(f, "refused {number} at {place}: {words}")
+    }
+}
+
+impl Error for Refusal {}
+
+impl fmt::Display for SameRouteRefusal {
+    fn fmt(&self, f: &mut fmt::Formatter) -> fmt::Result {
+        match self {
+            SameRouteRefusal::Grammar(refusal) => write!(f, "the grammar: {refusal}"),
+            SameRouteRefusal::First(refusal) => write!(f, "the first record: {refusal}"),
+            SameRouteRefusal::Second(refusal) => write!(f, "the second record: {refusal}"),
+        }
+    }
+}
+
+impl Error for SameRouteRefusal {}
 
 impl Answer {
     /// The answer itself if the call was accepted, else its refusal.

@@ -1,0 +1,208 @@
+//! Making a value for writing: its rows and its store.
+
+use crate::kind::{
+    ARRAY, BYTE_ARRAY, CONSTANT, TAGGED_UNION, TUPLE, UINT32, UINT32_ARRAY, UINT64, UINT64_ARRAY,
+};
+use crate::value::Value;
+use crate::{calls, Refusal};
+
+/// Makes the rows and the store of a value, one value behind the other in preorder.
+///
+/// ```
+/// use route_record::{Builder, Grammar};
+///
+/// let mut value = Builder::new();
+/// value.tuple(|fields| {
+///     fields.uint32(7);
+///     fields.byte_array(b"AB");
+/// });
+/// let value = value.finish()?;
+///
+/// let tuple_of_u32_and_bytes = Grammar::check(&[3, 4, 0, 2, 1, 0, 0, 5, 0, 0, 2, 1, 2])?;
+/// let record = [7, 0, 0, 0, 2, 0, 0, 0, 0, 0, 0, 0, 0x41, 0x42];
+/// assert_eq!(tuple_of_u32_and_bytes.marshall_vec(&value)?, record);
+/// # Ok::<(), route_record::Refusal>(())
+/// ```
+#[derive(Clone, Debug, Default)]
+pub struct Builder {
+    rows: Vec<u64>,
+    store: Vec<u8>,
+    /// How many children the value whose children are being made has so far.
+    children: u64,
+}
+
+impl Builder {
+    /// A builder with no value yet.
+    pub fn new() -> Builder {
+        Builder::default()
+    }
+
+    /// A constant.
+    pub fn constant(&mut self) {
+        self.row(CONSTANT, 0, 0);
+    }
+
+    /// A uint32.
+    pub fn uint32(&mut self, number: u32) {
+        self.row(UINT32, number.into(), 0);
+    }
+
+    /// A uint64.
+    pub fn uint64(&mut self, number: u64) {
+        self.row(UINT64, number, 0);
+    }
+
+    /// An array whose elements the closure makes.
+    pub fn array(&mut self, elements: impl FnOnce(&mut Builder)) {
+        let (row, count) = self.parent(ARRAY, elements);
+        self.rows[4 * row + 2] = count;
+    }
+
+    /// A tuple whose fields the closure makes.
+    pub fn tuple(&mut self, fields: impl FnOnce(&mut Builder)) {
+        let (row, count) = self.parent(TUPLE, fields);
+        self.rows[4 * row + 2] = count;
+    }
+
+    /// An array of bytes.
+    pub fn byte_array(&mut self, bytes: &[u8]) {
+        self.elements(BYTE_ARRAY, bytes.len(), 1, |out| {
+            out.copy_from_slice(bytes);
+            Ok(())
+        });
+    }
+
+    /// An array of uint32.
+    pub fn uint32_array(&mut self, numbers: &[u32]) {
+        let pack = |out: &mut [u8]| calls::pack_u32_seq(numbers, out, 0);
+        self.elements(UINT32_ARRAY, numbers.len(), 4, pack);
+    }
+
+    /// An array of uint64.
+    pub fn uint64_array(&mut self, numbers: &[u64]) {
+        let pack = |out: &mut [u8]| calls::pack_u64_seq(numbers, out, 0);
+        self.elements(UINT64_ARRAY, numbers.len(), 8, pack);
+    }
+
+    /// The case of this tag of a union, whose one value the closure makes.
+    pub fn tagged_union(&mut self, tag: u64, value: impl FnOnce(&mut Builder)) {
+        let (row, _) = self.parent(TAGGED_UNION, value);
+        self.rows[4 * row + 2] = tag;
+    }
+
+    /// The value. Refused as [`Value::check`] refuses: a value of more than 4,096 rows or none, a
+    /// store above 1,048,576 bytes, a case without its one value, more than one value.
+    pub fn finish(self) -> Result<Value<'static>, Refusal> {
+        let Builder { rows, store, .. } = self;
+        calls::compute_size_of(&rows, rows.len() / 4, &store)?;
+        Ok(Value::read(rows, store))
+    }
+
+    /// Puts a row of span 1.
+    fn row(&mut self, kind: u32, word2: u64, word3: u64) {
+        self.rows.extend([kind.into(), 1, word2, word3]);
+        self.children += 1;
+    }
+
+    /// Puts the row of a value with children and the rows that the closure makes, and sets the
+    /// span; gives the row's number and how many children were made.
+    fn parent(&mut self, kind: u32, children: impl FnOnce(&mut Builder)) -> (usize, u64) {
+        let row = self.rows.len() / 4;
+        self.row(kind, 0, 0);
+        let siblings = std::mem::take(&mut self.children);
+        children(self);
+        let count = std::mem::replace(&mut self.children, siblings);
+        self.rows[4 * row + 1] = (self.rows.len() / 4 - row) as u64;
+        (row, count)
+    }
+
+    /// Puts the row of an array of `count` numbers of `width` bytes, which `pack` packs into the
+    /// store's end.
+    fn elements(
+        &mut self,
+        kind: u32,
+        count: usize,
+        width: usize,
+        pack: impl FnOnce(&mut [u8]) -> Result<(), Refusal>,
+    ) {
+        let place = self.store.len();
+        self.store.resize(place + count * width, 0);
+        pack(&mut self.store[place..]).expect("the store has room for the numbers");
+        self.row(kind, count as u64, place as u64);
+    }
+}
+
+#[cfg(test)]
+mod tests {
+    use super::*;
+    use crate::{Grammar, Place};
+
+    #[test]
+    fn every_kind_at_once() {
+        let mut value = Builder::new();
+        value.tuple(|fields| {
+            fields.constant();
+            fields.uint32(1);
+            fields.uint64(2);
+            fields.array(|elements| {
+                elements.tagged_union(1, |value| value.uint32(3));
+                elements.tagged_union(0, |value| value.tuple(|_| ()));
+            });
+            fields.byte_array(&[4, 5]);
+            fields.uint32_array(&[6]);
+            fields.uint64_array(&[7, 8]);
+        });
+        let value = value.finish().unwrap();
+        let rows = [
+            [4, 12, 7, 0],
+            [0, 1, 0, 0],
+            [1, 1, 1, 0],
+            [2, 1, 2, 0],
+            [3, 5, 2, 0],
+            [8, 2, 1, 0],
+            [1, 1, 3, 0],
+            [8, 2, 0, 0],
+            [4, 1, 0, 0],
+            [5, 1, 2, 0],
+            [6, 1, 1, 2],
+            [7, 1, 2, 6],
+        ];
+        assert_eq!(value.row_words(), rows.concat());
+        assert_eq!(value.store().len(), 22);
+        assert_eq!(value.size(), 4 + 8 + (8 + 12 + 8) + 10 + 12 + 24);
+    }
+
+    #[test]
+    fn what_is_no_value_is_refused() {
+        let refusal = |make: fn(&mut Builder)| {
+            let mut value = Builder::new();
+            make(&mut value);
+            let refusal = value.finish().unwrap_err();
+            (refusal.number, refusal.place)
+        };
+        assert_eq!(refusal(|_| ()), (12, Place::Row(0)));
+        let two: fn(&mut Builder) = |value| {
+            value.constant();
+            value.constant();
+        };
+        assert_eq!(refusal(two), (13, Place::Row(0)));
+        assert_eq!(refusal(|v| v.tagged_union(0, |_| ())), (13, Place::Row(0)));
+        let many: fn(&mut Builder) = |v| v.array(|v| (0..4_096).for_each(|_| v.constant()));
+        assert_eq!(refusal(many), (12, Place::Row(0)));
+        let long: fn(&mut Builder) = |v| v.byte_array(&[0; 1_048_577]);
+        assert_eq!(refusal(long), (6, Place::Byte(0)));
+    }
+
+    #[test]
+    fn a_record_above_the_limit_is_refused() {
+        let bytes = Grammar::check(&[1, 5, 0, 0, 0]).unwrap();
+        let record_of = |count| {
+            let mut value = Builder::new();
+            value.byte_array(&vec![9; count]);
+            bytes.marshall_vec(&value.finish().unwrap())
+        };
+        assert_eq!(record_of(1_048_568).unwrap().len(), 1_048_576);
+        let refusal = record_of(1_048_569).unwrap_err();
+        assert_eq!((refusal.number, refusal.place), (16, Place::Row(0)));
+    }
+}

@@ -1,0 +1,206 @@
+//! Grammars that passed their check, and what is done under one: reading, writing, comparing.
+
+use crate::value::Value;
+use crate::{calls, Parsed, Refusal, SameRouteRefusal};
+
+/// The most bytes that the library writes for one value.
+const MOST_BYTES: u64 = 1_048_576;
+
+/// A grammar table that passed its check.
+///
+/// ```
+/// use route_record::{Grammar, Place, Refusal};
+///
+/// // A tuple of a uint32 and bytes: three nodes, their kinds and children, two child words.
+/// let grammar = Grammar::check(&[3, 4, 0, 2, 1, 0, 0, 5, 0, 0, 2, 1, 2])?;
+/// let record = [7, 0, 0, 0, 2, 0, 0, 0, 0, 0, 0, 0, 0x41, 0x42];
+/// let value = grammar.demarshall_vec(&record)?;
+/// assert_eq!(value.row_words(), [4, 3, 2, 0, 1, 1, 7, 0, 5, 1, 2, 12]);
+/// assert_eq!(grammar.marshall_vec(&value)?, record);
+///
+/// let refusal = Refusal { number: 9, place: Place::Byte(4) };
+/// assert_eq!(grammar.demarshall_vec(&record[..13]).unwrap_err(), refusal);
+/// # Ok::<(), Refusal>(())
+/// ```
+#[derive(Clone, Debug, PartialEq, Eq)]
+pub struct Grammar {
+    words: Vec<u32>,
+}
+
+impl Grammar {
+    /// The grammar of these words, which are copied. Refused as
+    /// [`calls::check_grammar`] refuses.
+    ///
+    /// ```
+    /// use route_record::Grammar;
+    ///
+    /// let refusal = Grammar::check(&[1, 4, 0, 1, 1, 0]).unwrap_err();
+    /// let words = "refused 5 at word 5: \
+    ///     the child's number is not above its node's, or there is no such node";
+    /// assert_eq!(refusal.to_string(), words);
+    /// ```
+    pub fn check(words: &[u32]) -> Result<Grammar, Refusal> {
+        calls::check_grammar(words)?;
+        Ok(Grammar {
+            words: words.to_vec(),
+        })
+    }
+
+    /// The words of the table.
+    pub fn words(&self) -> &[u32] {
+        &self.words
+    }
+
+    /// How many rows the value that starts at byte `index` has and where it ends. Refused as
+    /// [`calls::check_val`] refuses.
+    pub fn check_val(&self, record: &[u8], index: usize) -> Result<Parsed, Refusal> {
+        calls::check_val(&self.words, record, index)
+    }
+
+    /// How many rows the value of a whole record has. Refused as [`calls::check_whole`] refuses.
+    ///
+    /// ```
+    /// use route_record::Grammar;
+    ///
+    /// let uint32 = Grammar::check(&[1, 1, 0, 0, 0])?;
+    /// assert_eq!(uint32.check_whole(&[7, 0, 0, 0])?.rows, 1);
+    ///
+    /// let refusal = uint32.check_whole(&[7, 0, 0, 0, 0]).unwrap_err();
+    /// let words = "refused 11 at byte 4: the value ends there, and bytes follow it";
+    /// assert_eq!(refusal.to_string(), words);
+    /// # Ok::<(), route_record::Refusal>(())
+    /// ```
+    pub fn check_whole(&self, record: &[u8]) -> Result<Parsed, Refusal> {
+        calls::check_whole(&self.words, record)
+    }
+
+    /// Reads the value that starts at byte `index` into the rows lent, and gives it with the first
+    /// byte behind it. Refused as [`calls::parse_val`] refuses; the rows are then as they were.
+    ///
+    /// ```
+    /// use route_record::Grammar;
+    ///
+    /// let uint32 = Grammar::check(&[1, 1, 0, 0, 0])?;
+    /// let (record, mut rows) = ([0xff, 7, 0, 0, 0, 0xff], [0; 4]);
+    /// let (value, rest_index) = uint32.parse_val(&record, 1, &mut rows)?;
+    /// assert_eq!((value.row_words(), rest_index), (&[1, 1, 7, 0][..], 5));
+    /// # Ok::<(), route_record::Refusal>(())
+    /// ```
+    pub fn parse_val<'a>(
+        &self,
+        record: &'a [u8],
+        index: usize,
+        rows: &'a mut [u64],
+    ) -> Result<(Value<'a>, usize), Refusal> {
+        let parsed = calls::parse_val(&self.words, record, index, rows)?;
+        let value = Value::read(&rows[..4 * parsed.rows], record);
+        Ok((value, parsed.rest_index))
+    }
+
+    /// Reads a whole record into the rows lent. Refused as [`calls::demarshall`] refuses; the rows
+    /// are then as they were.
+    ///
+    /// ```
+    /// use route_record::Grammar;
+    ///
+    /// let array_of_constants = Grammar::check(&[2, 3, 0, 1, 0, 0, 0, 1, 1])?;
+    /// let (record, mut rows) = ([3, 0, 0, 0, 0, 0, 0, 0], [0; 16]);
+    /// let value = array_of_constants.demarshall(&record, &mut rows)?;
+    /// assert_eq!(value.root().children().count(), 3);
+    ///
+    /// let refusal = array_of_constants.demarshall(&record, &mut rows[..15]).unwrap_err();
+    /// assert_eq!(refusal.number, 8);
+    /// # Ok::<(), route_record::Refusal>(())
+    /// ```
+    pub fn demarshall<'a>(
+        &self,
+        record: &'a [u8],
+        rows: &'a mut [u64],
+    ) -> Result<Value<'a>, Refusal> {
+        let parsed = calls::demarshall(&self.words, record, rows)?;
+        Ok(Value::read(&rows[..4 * parsed.rows], record))
+    }
+
+    /// Reads as [`parse_val`](Grammar::parse_val) does with 4,096 rows, into as many rows as the
+    /// value has.
+    pub fn parse_val_vec<'a>(
+        &self,
+        record: &'a [u8],
+        index: usize,
+    ) -> Result<(Value<'a>, usize), Refusal> {
+        let mut rows = vec![0; 4 * self.check_val(record, index)?.rows];
+        let parsed = calls::parse_val(&self.words, record, index, &mut rows)?;
+        Ok((Value::read(rows, record), parsed.rest_index))
+    }
+
+    /// Reads as [`demarshall`](Grammar::demarshall) does with 4,096 rows, into as many rows as the
+    /// value has.
+    pub fn demarshall_vec<'a>(&self, record: &'a [u8]) -> Result<Value<'a>, Refusal> {
+        let mut rows = vec![0; 4 * self.check_whole(record)?.rows];
+        calls::demarshall(&self.words, record, &mut rows)?;
+        Ok(Value::read(rows, record))
+    }
+
+    /// Writes the record of a value at byte `index` of the output and gives its size. Refused by
+    /// 15 to 17 as [`calls::marshall_val`] refuses; the output is then as it was.
+    ///
+    /// ```
+    /// use route_record::{Builder, Grammar};
+    ///
+    /// let uint32 = Grammar::check(&[1, 1, 0, 0, 0])?;
+    /// let mut value = Builder::new();
+    /// value.uint32(7);
+    /// let value = value.finish()?;
+    ///
+    /// let mut out = [0xff; 6];
+    /// assert_eq!(uint32.marshall_val(&value, &mut out, 1)?, 4);
+    /// assert_eq!(out, [0xff, 7, 0, 0, 0, 0xff]);
+    ///
+    /// let refusal = uint32.marshall_val(&value, &mut out, 3).unwrap_err();
+    /// let words = "refused 17 at byte 6: the output ends there, before the value's bytes do";
+    /// assert_eq!(refusal.to_string(), words);
+    /// # Ok::<(), route_record::Refusal>(())
+    /// ```
+    pub fn marshall_val(
+        &self,
+        value: &Value,
+        out: &mut [u8],
+        index: usize,
+    ) -> Result<usize, Refusal> {
+        let (rows, n, store) = value.parts();
+        calls::marshall_val(&self.words, rows, n, store, out, index)
+    }
+
+    /// Writes as [`marshall_val`](Grammar::marshall_val) does at byte 0.
+    pub fn marshall(&self, value: &Value, out: &mut [u8]) -> Result<usize, Refusal> {
+        let (rows, n, store) = value.parts();
+        calls::marshall(&self.words, rows, n, store, out)
+    }
+
+    /// The record of a value. Refused by 15 and 16 as [`marshall`](Grammar::marshall) is.
+    pub fn marshall_vec(&self, value: &Value) -> Result<Vec<u8>, Refusal> {
+        // A value of more bytes is refused by 15 or 16, whatever output is lent.
+        let length = value.size().min(MOST_BYTES) as usize;
+        let mut out = vec![0; length];
+        self.marshall(value, &mut out)?;
+        Ok(out)
+    }
+
+    /// Whether two records are of the same route: whether their values are equal. Refused as
+    /// [`calls::same_route`] refuses.
+    ///
+    /// ```
+    /// use route_record::Grammar;
+    ///
+    /// let uint32 = Grammar::check(&[1, 1, 0, 0, 0]).unwrap();
+    /// assert_eq!(uint32.same_route(&[7, 0, 0, 0], &[7, 0, 0, 0]), Ok(true));
+    /// assert_eq!(uint32.same_route(&[7, 0, 0, 0], &[8, 0, 0, 0]), Ok(false));
+    ///
+    /// let refusal = uint32.same_route(&[7, 0, 0, 0], &[7, 0, 0]).unwrap_err();
+    /// let words = "the second record: refused 9 at byte 0: the value that starts there is cut short";
+    /// assert_eq!(refusal.to_string(), words);
+    /// ```
+    pub fn same_route(&self, first: &[u8], second: &[u8]) -> Result<bool, SameRouteRefusal> {
+        calls::same_route(&self.words, first, second)
+    }
+}
