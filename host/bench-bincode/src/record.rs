@@ -1,15 +1,10 @@
-//! The record, as a value of bincode's and as the library's rows.
+//! The types of the records that bincode reads and writes: bytes as one part of the record, and a case
+//! as an 8-byte tag and its value.
 
-use bincode::{DefaultOptions, Options};
+use std::fmt;
+
+use serde::de::{Error, SeqAccess, Visitor};
 use serde::{Deserialize, Deserializer, Serialize, Serializer};
-
-/// An array of tuples of a uint32, a uint64, bytes and a uint32 array.
-pub const GRAMMAR: [u32; 25] = [
-    6, 3, 0, 1, 4, 1, 4, 1, 0, 0, 2, 0, 0, 5, 0, 0, 6, 0, 0, 5, 1, 2, 3, 4, 5,
-];
-
-/// A tuple of the record.
-pub type Step<'a> = (u32, u64, Bytes<'a>, Vec<u32>);
 
 /// Bytes that serde hands on as a whole, and not one by one.
 #[derive(Debug, PartialEq)]
@@ -27,56 +22,54 @@ impl<'de: 'a, 'a> Deserialize<'de> for Bytes<'a> {
     }
 }
 
-/// The byte arrays of so many steps, the same in every run.
-pub fn elements(count: usize) -> Vec<Vec<u8>> {
-    let bytes = |length| (0..length).map(|i| i as u8).collect();
-    (0..count).map(|k| bytes(k % 32)).collect()
+/// A case of the mixed records.
+#[derive(Debug, PartialEq)]
+pub enum Case<'a> {
+    Number(u32),
+    Four(u32, u64, Bytes<'a>, Vec<u32>),
+    Numbers(Vec<u32>),
+    Two(Bytes<'a>, u64),
 }
 
-/// The steps that have these byte arrays.
-pub fn steps(elements: &[Vec<u8>]) -> Vec<Step<'_>> {
-    let step = |(k, bytes)| {
-        let number = k as u32;
-        let numbers = (0..number % 16).collect();
-        (number, u64::from(number) << 32, Bytes(bytes), numbers)
-    };
-    let elements = elements.iter().map(Vec::as_slice);
-    elements.enumerate().map(step).collect()
-}
-
-/// bincode's configuration: numbers of a fixed width, and no bytes left over.
-fn fixed_int() -> impl Options {
-    DefaultOptions::new().with_fixint_encoding()
-}
-
-/// The bytes of the steps.
-pub fn write(steps: &[Step]) -> Vec<u8> {
-    fixed_int().serialize(steps).expect("no limit is set")
-}
-
-/// Writes the bytes of the steps from the start of a slice on.
-pub fn write_into(out: &mut [u8], steps: &[Step]) -> bincode::Result<()> {
-    fixed_int().serialize_into(out, steps)
-}
-
-/// Reads the steps.
-pub fn read(bytes: &[u8]) -> bincode::Result<Vec<Step<'_>>> {
-    fixed_int().deserialize(bytes)
-}
-
-/// The rows of the steps, the record being their store.
-pub fn rows_of(steps: &[Step]) -> Vec<u64> {
-    let mut rows = vec![3, 1 + 5 * steps.len() as u64, steps.len() as u64, 0];
-    let mut place = 8;
-    for (number, wide, Bytes(bytes), numbers) in steps {
-        rows.extend([4, 5, 4, 0]);
-        rows.extend([1, 1, u64::from(*number), 0]);
-        rows.extend([2, 1, *wide, 0]);
-        place += 4 + 8 + 8;
-        rows.extend([5, 1, bytes.len() as u64, place]);
-        place += bytes.len() as u64 + 8;
-        rows.extend([6, 1, numbers.len() as u64, place]);
-        place += 4 * numbers.len() as u64;
+impl Serialize for Case<'_> {
+    fn serialize<S: Serializer>(&self, serializer: S) -> Result<S::Ok, S::Error> {
+        match self {
+            Case::Number(number) => (0_u64, number).serialize(serializer),
+            Case::Four(a, b, c, d) => (1_u64, (a, b, c, d)).serialize(serializer),
+            Case::Numbers(numbers) => (2_u64, numbers).serialize(serializer),
+            Case::Two(a, b) => (3_u64, (a, b)).serialize(serializer),
+        }
     }
-    rows
+}
+
+impl<'de: 'a, 'a> Deserialize<'de> for Case<'a> {
+    fn deserialize<D: Deserializer<'de>>(deserializer: D) -> Result<Case<'a>, D::Error> {
+        deserializer.deserialize_tuple(2, CaseVisitor)
+    }
+}
+
+/// Takes the tag, then the value that it says.
+struct CaseVisitor;
+
+impl<'de> Visitor<'de> for CaseVisitor {
+    type Value = Case<'de>;
+
+    fn expecting(&self, f: &mut fmt::Formatter) -> fmt::Result {
+        f.write_str("a tag and its value")
+    }
+
+    fn visit_seq<A: SeqAccess<'de>>(self, mut parts: A) -> Result<Case<'de>, A::Error> {
+        let missing = || A::Error::invalid_length(1, &"a tag and its value");
+        let tag: u64 = parts.next_element()?.ok_or_else(missing)?;
+        let case = match tag {
+            0 => parts.next_element()?.map(Case::Number),
+            1 => parts
+                .next_element()?
+                .map(|(a, b, c, d)| Case::Four(a, b, c, d)),
+            2 => parts.next_element()?.map(Case::Numbers),
+            3 => parts.next_element()?.map(|(a, b)| Case::Two(a, b)),
+            _ => return Err(A::Error::custom("no such tag")),
+        };
+        case.ok_or_else(missing)
+    }
 }

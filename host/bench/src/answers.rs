@@ -1,10 +1,14 @@
 //! The comparison of the answers of the library and of safe Rust. Each call gives the answer, and
 //! panics where the two differ.
 
-use route_record::{Parsed, Place, Refusal};
+use route_record::{Parsed, Place, Refusal, SameRouteRefusal};
 
 use crate::peer;
+use crate::program::Call;
 use crate::records::{Input, Value};
+
+/// The words of the most rows.
+const WORDS: usize = 4 * 4_096;
 
 /// What each word of the rows holds before a call.
 const UNTOUCHED: u64 = 0xa5a5_a5a5_a5a5_a5a5;
@@ -26,6 +30,31 @@ fn parsed(of_peer: peer::Parsed) -> Parsed {
     Parsed {
         rows: of_peer.rows,
         rest_index: of_peer.rest_index,
+    }
+}
+
+/// Compares a call on a record, and gives whether it is accepted. Of a record that is refused, the
+/// calls on its rows are not asked for.
+pub fn compare(call: Call, input: &Input) -> bool {
+    match call {
+        Call::CheckGrammar => check_grammar(input).is_ok(),
+        Call::Check => check_whole(input).is_ok(),
+        Call::Read => demarshall(input, WORDS).is_ok(),
+        Call::Write => {
+            let (rows, n) = input.rows();
+            let value = Value {
+                grammar: input.grammar.clone(),
+                rows,
+                n,
+                store: input.record.clone(),
+            };
+            marshall(&value, input.record.len(), None).is_ok()
+        }
+        Call::Size => {
+            let (rows, n) = input.rows();
+            compute_size_of(&rows, n, &input.record).is_ok()
+        }
+        Call::SameRoute => same_route(input, &input.record).is_ok(),
     }
 }
 
@@ -92,5 +121,34 @@ pub fn marshall(value: &Value, length: usize, index: Option<usize>) -> Result<us
     );
     assert_eq!(library, rust, "{case}");
     assert!(library_out == rust_out, "output of {case}");
+    library
+}
+
+/// Compares the size of the value that `n` rows stand for.
+pub fn compute_size_of(rows: &[u64], n: usize, store: &[u8]) -> Result<u64, Refusal> {
+    let library = route_record::calls::compute_size_of(rows, n, store);
+    let rust = peer::compute_size_of(rows, n, store).map_err(refusal);
+    let bytes = store.len();
+    assert_eq!(
+        library, rust,
+        "size of {n} rows, {rows:?}, store of {bytes} bytes"
+    );
+    library
+}
+
+/// Compares whether the record and a second one are the same route.
+pub fn same_route(input: &Input, second: &[u8]) -> Result<bool, Refusal> {
+    let Input { grammar, record } = input;
+    let library = route_record::calls::same_route(grammar, record, second);
+    let library = library.map_err(|refusal| match refusal {
+        SameRouteRefusal::Grammar(r) | SameRouteRefusal::First(r) | SameRouteRefusal::Second(r) => {
+            r
+        }
+    });
+    let rust = peer::same_route(grammar, record, second).map_err(refusal);
+    assert_eq!(
+        library, rust,
+        "same_route of {grammar:?}, {record:?}, {second:?}"
+    );
     library
 }

@@ -1,63 +1,62 @@
-//! Times of the library and of another program that does the same.
+//! Times of programs that do the same.
 
 use std::hint::black_box;
 use std::time::{Duration, Instant};
 
-/// What a round of one function takes at least: long beside a reading of the clock.
+/// What a round of one program takes at least: long beside a reading of the clock.
 const ROUND: Duration = Duration::from_micros(20);
 
-/// The rounds of each function.
+/// The most rounds of each program.
 const ROUNDS: usize = 10_000;
 
-/// Nanoseconds per call.
-#[derive(Clone, Copy)]
-pub struct Times {
-    /// The library's.
-    pub library: f64,
-    /// The other's.
-    pub other: f64,
-}
+/// What the rounds of all programs together may take, but for the first ones.
+const BUDGET: Duration = Duration::from_millis(1_000);
 
-impl Times {
-    /// The library's time divided by the other's.
-    pub fn ratio(self) -> f64 {
-        self.library / self.other
+/// The rounds that each program has at least.
+const LEAST_ROUNDS: usize = 5;
+
+/// A call of a program, ready to be measured: what so many calls take.
+pub struct Contender<'a>(Box<dyn FnMut(u32) -> Duration + 'a>);
+
+impl<'a> Contender<'a> {
+    /// The contender that makes this call.
+    pub fn new<A>(mut call: impl FnMut() -> A + 'a) -> Contender<'a> {
+        Contender(Box::new(move |calls| {
+            let start = Instant::now();
+            for _ in 0..calls {
+                black_box(call());
+            }
+            start.elapsed()
+        }))
+    }
+
+    /// How many calls make a round.
+    fn calls_of_round(&mut self) -> u32 {
+        let mut calls = 1;
+        while (self.0)(calls) < ROUND {
+            calls *= 2;
+        }
+        calls
     }
 }
 
-/// Measures both in short rounds, by turns, and gives the least time of each: other work on the
-/// machine can only make a round longer.
-pub fn measure<A, B>(mut library: impl FnMut() -> A, mut other: impl FnMut() -> B) -> Times {
-    let library_calls = calls_of_round(&mut library);
-    let other_calls = calls_of_round(&mut other);
-    let mut least = Times {
-        library: f64::INFINITY,
-        other: f64::INFINITY,
-    };
-    for _ in 0..ROUNDS {
-        least.library = least.library.min(per_call(&mut library, library_calls));
-        least.other = least.other.min(per_call(&mut other, other_calls));
+/// Measures the contenders in short rounds, by turns, and gives for each the least nanoseconds per
+/// call: other work on the machine can only make a round longer.
+pub fn measure(contenders: &mut [Contender]) -> Vec<f64> {
+    let calls: Vec<u32> = contenders
+        .iter_mut()
+        .map(Contender::calls_of_round)
+        .collect();
+    let mut least = vec![f64::INFINITY; contenders.len()];
+    let start = Instant::now();
+    for round in 0..ROUNDS {
+        if round >= LEAST_ROUNDS && start.elapsed() > BUDGET {
+            break;
+        }
+        for (place, contender) in contenders.iter_mut().enumerate() {
+            let time = (contender.0)(calls[place]).as_nanos() as f64;
+            least[place] = least[place].min(time / f64::from(calls[place]));
+        }
     }
     least
-}
-
-/// How many calls make a round.
-fn calls_of_round<A>(call: &mut impl FnMut() -> A) -> u32 {
-    let mut calls = 1;
-    while time_of(call, calls) < ROUND {
-        calls *= 2;
-    }
-    calls
-}
-
-fn per_call<A>(call: &mut impl FnMut() -> A, calls: u32) -> f64 {
-    time_of(call, calls).as_nanos() as f64 / f64::from(calls)
-}
-
-fn time_of<A>(call: &mut impl FnMut() -> A, calls: u32) -> Duration {
-    let start = Instant::now();
-    for _ in 0..calls {
-        black_box(call());
-    }
-    start.elapsed()
 }

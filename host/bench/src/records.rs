@@ -22,12 +22,18 @@ pub struct Value {
 }
 
 impl Input {
-    /// The value of a record that is accepted, with the record as the store.
-    pub fn into_value(self) -> Value {
+    /// The words of the rows of a record that is accepted, and the row count.
+    pub fn rows(&self) -> (Vec<u64>, usize) {
         let mut rows = vec![0; 4 * 4_096];
         let parsed = route_record::calls::demarshall(&self.grammar, &self.record, &mut rows);
         let n = parsed.expect("a sound record").rows;
         rows.truncate(4 * n);
+        (rows, n)
+    }
+
+    /// The value of a record that is accepted, with the record as the store.
+    pub fn into_value(self) -> Value {
+        let (rows, n) = self.rows();
         Value {
             grammar: self.grammar,
             rows,

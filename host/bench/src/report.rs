@@ -1,60 +1,77 @@
 //! The tables that are printed.
 
-use crate::measure::Times;
-
 /// What a figure is to stay within.
 pub enum Limit {
-    /// The library's time divided by the other's.
-    Ratio(f64),
+    /// The library's time divided by that of the program of this name.
+    Beside(&'static str, f64),
     /// The library's time in milliseconds.
     Milliseconds(f64),
 }
 
-/// How many figures were above their limit so far.
-#[derive(Default)]
+/// The programs of the tables, and how many figures were above their limit so far. The library is
+/// the first program.
 pub struct Report {
+    programs: Vec<&'static str>,
     above: usize,
 }
 
 impl Report {
-    /// Prints the heading of a table of cases, in which the library is compared with another.
-    pub fn cases(&self, title: &str, other: &str) {
-        println!("\n{title}\n");
-        println!("| case | library ns | {other} ns | ratio | limit | |");
-        println!("|---|---:|---:|---:|---:|---|");
+    /// A report on these programs.
+    pub fn new(programs: Vec<&'static str>) -> Report {
+        Report { programs, above: 0 }
     }
 
-    /// Prints the line of a case.
-    pub fn case(&mut self, name: &str, times: Times, limit: Option<Limit>) {
-        let ratio = times.ratio();
+    /// Prints the heading of the table of calls.
+    pub fn calls(&self) {
+        let names: String = self
+            .programs
+            .iter()
+            .map(|name| format!(" {name} |"))
+            .collect();
+        println!("| ns per call |{names} limit | |");
+        println!("|---|{}---|---|", "---:|".repeat(self.programs.len()));
+    }
+
+    /// Prints the line of a call: the times of the programs that have it, with the library's
+    /// divided by each.
+    pub fn call(&mut self, name: &str, times: &[Option<f64>], limit: Option<Limit>) {
+        let library = times[0].expect("the library has every call");
+        let cell = |time: &Option<f64>| match time {
+            None => " |".to_string(),
+            Some(time) => format!(" {time:.0} ({:.2}) |", library / time),
+        };
+        let others: String = times[1..].iter().map(cell).collect();
         let (limit, verdict) = match limit {
             None => (String::new(), ""),
-            Some(Limit::Ratio(most)) => (format!("{most:.1}"), self.verdict(ratio <= most)),
+            Some(Limit::Beside(other, most)) => {
+                let place = self.programs.iter().position(|&name| name == other);
+                let time = place.and_then(|place| times[place]);
+                let ratio = library / time.expect("the program has the call");
+                (format!("{most} × {other}"), self.verdict(ratio <= most))
+            }
             Some(Limit::Milliseconds(most)) => {
-                let within = times.library <= most * 1_000_000.0;
+                let within = library <= most * 1_000_000.0;
                 (format!("{most} ms"), self.verdict(within))
             }
         };
-        let Times { library, other } = times;
-        println!("| {name} | {library:.0} | {other:.0} | {ratio:.2} | {limit} | {verdict} |");
+        println!("| {name} | {library:.0} |{others} {limit} | {verdict} |");
     }
 
-    /// Prints the heading of a table of times per row, a column for each number of rows.
-    pub fn rows(&self, title: &str, row_counts: &[usize]) {
-        println!("\n{title}\n");
+    /// Prints the heading of the table of times per row, a column for each number of rows.
+    pub fn rows(&self, row_counts: &[usize]) {
         let counts: String = row_counts.iter().map(|rows| format!(" {rows} |")).collect();
-        println!("| ns per row |{counts} greatest / least | limit | |");
+        println!("\n| ns per row |{counts} greatest / least | limit | |");
         println!("|---|{}---:|---:|---|", "---:|".repeat(row_counts.len()));
     }
 
-    /// Prints the line of a call in a table of times per row.
+    /// Prints the line of a call in the table of times per row.
     pub fn per_row(&mut self, name: &str, times: &[f64], limit: Option<f64>) {
         let least = times.iter().copied().fold(f64::INFINITY, f64::min);
         let greatest = times.iter().copied().fold(0.0, f64::max);
         let spread = greatest / least;
         let (limit, verdict) = match limit {
             None => (String::new(), ""),
-            Some(most) => (format!("{most:.1}"), self.verdict(spread <= most)),
+            Some(most) => (format!("{most}"), self.verdict(spread <= most)),
         };
         let times: String = times.iter().map(|time| format!(" {time:.2} |")).collect();
         println!("| {name} |{times} {spread:.2} | {limit} | {verdict} |");

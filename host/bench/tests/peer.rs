@@ -1,7 +1,7 @@
 //! Safe Rust answers as the library does: on what the bench reads, on parts of it, and on random
 //! tables and records.
 
-use bench::answers::{check_grammar, check_whole, demarshall};
+use bench::answers::{check_grammar, check_whole, demarshall, same_route};
 use bench::records::{self, Input};
 use compare::{Random, Record, Table};
 use route_record::{Parsed, Place, Refusal};
@@ -54,6 +54,25 @@ fn cut_records() {
         assert_eq!(check_whole(&input).is_ok(), length == record.len());
         assert_eq!(demarshall(&input, WORDS), check_whole(&input));
     }
+}
+
+#[test]
+fn same_routes() {
+    let input = records::mixed(300);
+    let record = &input.record;
+    assert_eq!(same_route(&input, record), Ok(true));
+    let mut other = record.clone();
+    *other.last_mut().unwrap() ^= 1;
+    assert_eq!(same_route(&input, &other), Ok(false));
+    for length in [0, 7, record.len() - 1] {
+        let refusal = same_route(&input, &record[..length]).unwrap_err();
+        assert_eq!(refusal.number, 9);
+    }
+    let unsound = Input {
+        grammar: vec![1, 9, 0, 0, 0],
+        record: record.clone(),
+    };
+    assert_eq!(same_route(&unsound, record).unwrap_err().number, 3);
 }
 
 #[test]

@@ -1,7 +1,7 @@
 //! Safe Rust writes as the library does: what the bench writes, into outputs of any length, and
 //! random rows.
 
-use bench::answers::marshall;
+use bench::answers::{compute_size_of, marshall};
 use bench::records::{self, Input, Value};
 use compare::{Random, Record, RowTable, Table};
 
@@ -12,6 +12,10 @@ fn what_the_bench_writes() {
         assert_eq!(
             marshall(&value, value.store.len(), None),
             Ok(value.store.len())
+        );
+        assert_eq!(
+            compute_size_of(&value.rows, value.n, &value.store),
+            Ok(value.store.len() as u64)
         );
     }
     let value = records::long_array().into_value();
@@ -63,6 +67,7 @@ fn random_rows() {
             n: random.pick(&[n, n, n, n, 0, n - 1, n + 1, 4_097]),
             store: table.record,
         };
+        let _ = compute_size_of(&value.rows, value.n, &value.store);
         let length = random.within(0..=value.store.len());
         match marshall(&value, length, None) {
             Ok(_) => numbers[0] += 1,

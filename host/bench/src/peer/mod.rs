@@ -8,9 +8,9 @@ mod rows;
 mod writing;
 
 pub use grammar::check_grammar;
-pub use reading::{check_whole, demarshall, Parsed};
+pub use reading::{check_whole, demarshall, same_route, Parsed};
 pub use refusal::{Place, Refusal};
-pub use writing::{marshall, marshall_val};
+pub use writing::{compute_size_of, marshall, marshall_val};
 
 /// The bytes of the longest record.
 const MOST_BYTES: usize = 1_048_576;

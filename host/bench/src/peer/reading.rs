@@ -28,6 +28,14 @@ pub fn demarshall(words: &[u32], record: &[u8], rows: &mut [u64]) -> Result<Pars
     read(grammar, record, rows, capacity)
 }
 
+/// Whether two records are of the same route. Values are equal where their bytes are.
+pub fn same_route(words: &[u32], first: &[u8], second: &[u8]) -> Result<bool, Refusal> {
+    let grammar = Grammar::of(words)?;
+    check(grammar, first, MOST_ROWS)?;
+    check(grammar, second, MOST_ROWS)?;
+    Ok(first == second)
+}
+
 /// The first pass.
 fn check(grammar: Grammar, record: &[u8], capacity: usize) -> Result<Parsed, Refusal> {
     if record.len() > MOST_BYTES {

@@ -27,7 +27,7 @@ pub fn marshall_val(
     let grammar = Grammar::of(words)?;
     let rows = check_rows(rows, n, store)?;
     check_value(grammar, rows, 0, 0)?;
-    let size: u64 = rows.iter().map(own_size).sum();
+    let size = size_of(rows);
     if size > MOST_BYTES as u64 {
         return Err(Refusal::at_row(16, 0));
     }
@@ -41,6 +41,15 @@ pub fn marshall_val(
         at += put_row(row, store, &mut out[at..]);
     }
     Ok(size)
+}
+
+/// The size in bytes of the value that `n` rows stand for.
+pub fn compute_size_of(rows: &[u64], n: usize, store: &[u8]) -> Result<u64, Refusal> {
+    check_rows(rows, n, store).map(size_of)
+}
+
+fn size_of(rows: &[Row]) -> u64 {
+    rows.iter().map(own_size).sum()
 }
 
 /// Checks that the value of a row is one of a node, its rows in order.

@@ -1,0 +1,163 @@
+//! The programs that are measured, and their calls.
+
+use std::hint::black_box;
+
+use crate::measure::Contender;
+use crate::records::Input;
+
+/// The most rows, and their words.
+const ROWS: usize = 4_096;
+const WORDS: usize = 4 * ROWS;
+
+/// What is measured of a record that is accepted whole.
+#[derive(Clone, Copy, Debug, PartialEq, Eq)]
+pub enum Call {
+    /// The check of the grammar, which the other calls make first, but for the size.
+    CheckGrammar,
+    /// The check of the record, with no rows.
+    Check,
+    /// Reading the record into rows.
+    Read,
+    /// Writing the record's value from its rows.
+    Write,
+    /// The size of the value, from its rows.
+    Size,
+    /// Whether the record and a copy of it are the same route.
+    SameRoute,
+}
+
+impl Call {
+    /// The call's name in the tables.
+    pub fn name(self) -> &'static str {
+        match self {
+            Call::CheckGrammar => "check the grammar",
+            Call::Check => "check",
+            Call::Read => "read",
+            Call::Write => "write",
+            Call::Size => "size",
+            Call::SameRoute => "same route",
+        }
+    }
+}
+
+/// A program that is measured.
+pub trait Program {
+    /// The program's name in the tables.
+    fn name(&self) -> &'static str;
+
+    /// The call on this record, if the program has it.
+    fn contender<'a>(&self, call: Call, input: &'a Input) -> Option<Contender<'a>>;
+}
+
+/// The contender of a module that has the library's calls under the library's names.
+macro_rules! contender {
+    ($($module:ident)::+, $call:expr, $input:expr) => {{
+        use $($module)::+ as calls;
+        let input: &Input = $input;
+        let Input { grammar, record } = input;
+        match $call {
+            Call::CheckGrammar => Contender::new(|| calls::check_grammar(black_box(grammar))),
+            Call::Check => {
+                Contender::new(|| calls::check_whole(black_box(grammar), black_box(record)))
+            }
+            Call::Read => {
+                let mut rows = vec![0; WORDS];
+                Contender::new(move || {
+                    calls::demarshall(black_box(grammar), black_box(record), black_box(&mut rows))
+                })
+            }
+            Call::Write => {
+                let (rows, n) = input.rows();
+                let mut out = vec![0; record.len()];
+                Contender::new(move || {
+                    let (rows, out) = (black_box(&rows), black_box(&mut out));
+                    calls::marshall(black_box(grammar), rows, n, black_box(record), out)
+                })
+            }
+            Call::Size => {
+                let (rows, n) = input.rows();
+                Contender::new(move || {
+                    calls::compute_size_of(black_box(&rows), n, black_box(record))
+                })
+            }
+            Call::SameRoute => {
+                let copy = record.clone();
+                Contender::new(move || {
+                    calls::same_route(black_box(grammar), black_box(record), black_box(&copy))
+                })
+            }
+        }
+    }};
+}
+
+/// The library, called through its bindings.
+pub struct Library;
+
+impl Program for Library {
+    fn name(&self) -> &'static str {
+        "library"
+    }
+
+    fn contender<'a>(&self, call: Call, input: &'a Input) -> Option<Contender<'a>> {
+        Some(contender!(route_record::calls, call, input))
+    }
+}
+
+/// The same algorithm in safe Rust.
+pub struct Rust;
+
+impl Program for Rust {
+    fn name(&self) -> &'static str {
+        "Rust"
+    }
+
+    fn contender<'a>(&self, call: Call, input: &'a Input) -> Option<Contender<'a>> {
+        Some(contender!(crate::peer, call, input))
+    }
+}
+
+/// The model's calls with the library's parameters. Its check is a reading.
+mod of_model {
+    pub use model::{check_grammar, compute_size_of, marshall, same_route};
+    use model::{Reading, Refusal};
+
+    pub fn check_whole(grammar: &[u32], record: &[u8]) -> Result<Reading, Refusal> {
+        model::demarshall(grammar, record, super::ROWS)
+    }
+
+    pub fn demarshall(grammar: &[u32], record: &[u8], rows: &[u64]) -> Result<Reading, Refusal> {
+        model::demarshall(grammar, record, model::capacity(rows.len()))
+    }
+}
+
+/// The model, which makes trees and vectors.
+pub struct Model;
+
+impl Program for Model {
+    fn name(&self) -> &'static str {
+        "model"
+    }
+
+    fn contender<'a>(&self, call: Call, input: &'a Input) -> Option<Contender<'a>> {
+        Some(contender!(self::of_model, call, input))
+    }
+}
+
+/// The copying of a record that is one array, beside which its writing is held.
+pub struct Copy;
+
+impl Program for Copy {
+    fn name(&self) -> &'static str {
+        "copy"
+    }
+
+    fn contender<'a>(&self, call: Call, input: &'a Input) -> Option<Contender<'a>> {
+        if call != Call::Write || input.rows().1 != 1 {
+            return None;
+        }
+        let mut out = vec![0; input.record.len()];
+        Some(Contender::new(move || {
+            black_box(&mut out).copy_from_slice(black_box(&input.record));
+        }))
+    }
+}

@@ -1,0 +1,155 @@
+//! The measurements: the calls on records of several sizes, and the time per row.
+
+use crate::answers;
+use crate::measure::measure;
+use crate::picture::Curve;
+use crate::program::{Call, Program};
+use crate::records::{self, Input};
+use crate::report::{Limit, Report};
+
+/// The most that the library's time may be, divided by safe Rust's or by that of copying.
+const RATIO: f64 = 1.5;
+
+/// What "at once" is, in milliseconds.
+const AT_ONCE: f64 = 1.0;
+
+/// The numbers of rows for which the time per row is measured.
+const ROW_COUNTS: [usize; 5] = [16, 64, 256, 1_024, 4_096];
+
+/// The most that the greatest time per further row of a reading may be, divided by the least.
+const SPREAD: f64 = 1.3;
+
+/// The calls in the table, but for the check of the grammar.
+const CALLS: [Call; 5] = [
+    Call::Check,
+    Call::Read,
+    Call::Write,
+    Call::Size,
+    Call::SameRoute,
+];
+
+/// Measures and prints the table of calls.
+pub fn calls(report: &mut Report, programs: &[&dyn Program]) {
+    report.calls();
+    let sizes = [
+        ("16 rows", records::mixed(16)),
+        ("300 rows", records::mixed(300)),
+        ("4,096 rows", records::mixed(4_096)),
+        ("1 MiB", records::long_array()),
+    ];
+    for (size, input) in &sizes {
+        for call in CALLS {
+            let limit = match (call, *size) {
+                (Call::Check | Call::Read | Call::Write, "300 rows") => {
+                    Some(Limit::Beside("Rust", RATIO))
+                }
+                (Call::Write, "1 MiB") => Some(Limit::Beside("copy", RATIO)),
+                _ => None,
+            };
+            line(report, programs, call, (size, input), limit);
+        }
+    }
+    let (size, input) = &sizes[1];
+    line(report, programs, Call::CheckGrammar, (size, input), None);
+    for (name, input) in [
+        ("array of 4,095 constants", records::constants()),
+        ("tuple of 1,024 fields", records::wide_tuple()),
+        (
+            "256 nodes that share children, refused by 9",
+            records::shared_children(1, vec![7; 16]),
+        ),
+        (
+            "256 nodes that share children, refused by 8",
+            records::shared_children(0, Vec::new()),
+        ),
+    ] {
+        let at_once = Some(Limit::Milliseconds(AT_ONCE));
+        line(report, programs, Call::Read, (name, &input), at_once);
+    }
+}
+
+/// Measures and prints one line of the table of calls.
+fn line(
+    report: &mut Report,
+    programs: &[&dyn Program],
+    call: Call,
+    (name, input): (&str, &Input),
+    limit: Option<Limit>,
+) {
+    let times = times(programs, call, input);
+    report.call(&format!("{}, {name}", call.name()), &times, limit);
+}
+
+/// The times of the programs that have the call, once the library's answers were compared with
+/// safe Rust's.
+fn times(programs: &[&dyn Program], call: Call, input: &Input) -> Vec<Option<f64>> {
+    answers::compare(call, input);
+    let mut places = Vec::new();
+    let mut contenders = Vec::new();
+    for (place, program) in programs.iter().enumerate() {
+        if let Some(contender) = program.contender(call, input) {
+            places.push(place);
+            contenders.push(contender);
+        }
+    }
+    let mut times = vec![None; programs.len()];
+    for (place, time) in places.into_iter().zip(measure(&mut contenders)) {
+        times[place] = Some(time);
+    }
+    times
+}
+
+/// Measures and prints the times per row, and gives the curves of the mixed records.
+pub fn rows(report: &mut Report, programs: &[&dyn Program]) -> Vec<Curve> {
+    report.rows(&ROW_COUNTS);
+    let mut curves = Vec::new();
+    for call in [Call::Check, Call::Read, Call::Write] {
+        curves.extend(per_row(report, programs, call, ("mixed", records::mixed)));
+    }
+    for call in [Call::Check, Call::Read] {
+        per_row(
+            report,
+            programs,
+            call,
+            ("array of uint32", records::numbers),
+        );
+    }
+    curves
+}
+
+/// Prints the times per row of a call on records of so many rows: the library's, also without what
+/// a record of one row takes, which has the limit of a reading, and those of the others.
+fn per_row(
+    report: &mut Report,
+    programs: &[&dyn Program],
+    call: Call,
+    (records, record_of): (&str, fn(usize) -> Input),
+) -> Vec<Curve> {
+    let one_row = times(programs, call, &record_of(1))[0];
+    let measured = ROW_COUNTS.map(|rows| times(programs, call, &record_of(rows)));
+    let mut curves = Vec::new();
+    for (place, program) in programs.iter().enumerate() {
+        let times = measured.iter().map(|times| times[place]);
+        let points = ROW_COUNTS.into_iter().zip(times);
+        let points: Option<Vec<_>> = points
+            .map(|(rows, time)| Some((rows as f64, time?)))
+            .collect();
+        let Some(points) = points else { continue };
+        let per_row: Vec<_> = points.iter().map(|(rows, time)| time / rows).collect();
+        let name = format!("{}, {records}, {}", call.name(), program.name());
+        report.per_row(&name, &per_row, None);
+        if place == 0 {
+            let one_row = one_row.expect("the library has every call");
+            let further = |&(rows, time): &(f64, f64)| (time - one_row) / (rows - 1.0);
+            let further: Vec<_> = points.iter().map(further).collect();
+            let limit = (call != Call::Write).then_some(SPREAD);
+            report.per_row(&format!("{name}, behind the first row"), &further, limit);
+        }
+        curves.push(Curve {
+            panel: call.name(),
+            program: program.name(),
+            points,
+        });
+    }
+    curves
+}
