@@ -1,0 +1,140 @@
+//! The commands.
+
+use std::ops::RangeInclusive;
+
+use route::sections;
+
+use crate::answer::{Answer, Stop, DIFFERENT};
+use crate::arguments::Arguments;
+use crate::tree::tree;
+
+/// A command: what it takes, what the help says of it, and what it does.
+pub struct Command {
+    pub name: &'static str,
+    /// How many records it takes.
+    pub count: RangeInclusive<usize>,
+    pub takes_index: bool,
+    /// What it takes behind the grammar, as the help writes it.
+    pub records: &'static str,
+    pub summary: &'static str,
+    /// A line that can be typed.
+    pub example: &'static str,
+    /// What the example prints.
+    pub printed: &'static str,
+    pub run: fn(&Arguments) -> Result<Answer, Stop>,
+}
+
+impl Command {
+    /// How the command is written.
+    pub fn usage(&self) -> String {
+        format!("route {} GRAMMAR {}", self.name, self.records)
+            .trim_end()
+            .to_string()
+    }
+}
+
+/// All commands, in the order of the help.
+pub static COMMANDS: [Command; 5] = [
+    Command {
+        name: "check",
+        count: 0..=1,
+        takes_index: false,
+        records: "[RECORD]",
+        summary: "Says whether the grammar is accepted, or the whole record under it.",
+        example: "echo 07000000 | route check -g u32 --hex -",
+        printed: "accepted: rows 1, bytes 4\n",
+        run: check,
+    },
+    Command {
+        name: "tree",
+        count: 1..=1,
+        takes_index: false,
+        records: "RECORD",
+        summary: "Shows the record's value, a line for each row, and where each value starts.",
+        example: "echo 07000000 0200000000000000 4142 | route tree -g 'tuple(u32, bytes)' --hex -",
+        printed: "byte  0  tuple of 2\nbyte  0    u32 7\nbyte  4    bytes of 2: 41 42\n",
+        run: show_tree,
+    },
+    Command {
+        name: "same",
+        count: 2..=2,
+        takes_index: false,
+        records: "FIRST SECOND",
+        summary: "Says whether two records are of the same route.",
+        example: "echo 07000000 >first.hex; echo 08000000 | route same -g u32 --hex first.hex -",
+        printed: "different\n",
+        run: same,
+    },
+    Command {
+        name: "size",
+        count: 1..=1,
+        takes_index: true,
+        records: "RECORD [--index I]",
+        summary: "Gives the size of the value that starts at byte I. Bytes may follow it.",
+        example: "echo ffff 07000000 ff | route size -g u32 --hex - --index 2",
+        printed: "rows 1, bytes 4\n",
+        run: size,
+    },
+    Command {
+        name: "words",
+        count: 0..=0,
+        takes_index: false,
+        records: "",
+        summary: "Prints the words of the grammar's table, for an array in C or Rust.",
+        example: "route words -g 'tuple(u32, bytes)'",
+        printed: "3,\n4, 0, 2,\n1, 0, 0,\n5, 0, 0,\n2,\n1, 2,\n",
+        run: words,
+    },
+];
+
+fn check(arguments: &Arguments) -> Result<Answer, Stop> {
+    let grammar = arguments.grammar()?;
+    let counts = if arguments.records.is_empty() {
+        let [nodes, _, child_words, _] = sections(grammar.words());
+        format!("nodes {}, child words {}", nodes[0], child_words[0])
+    } else {
+        let parsed = grammar.check_whole(&arguments.record(0)?)?;
+        format!("rows {}, bytes {}", parsed.rows, parsed.rest_index)
+    };
+    Ok(Answer::done(format!("accepted: {counts}\n")))
+}
+
+fn show_tree(arguments: &Arguments) -> Result<Answer, Stop> {
+    let grammar = arguments.grammar()?;
+    let record = arguments.record(0)?;
+    Ok(Answer::done(tree(&grammar.demarshall_vec(&record)?)))
+}
+
+fn same(arguments: &Arguments) -> Result<Answer, Stop> {
+    let grammar = arguments.grammar()?;
+    let (first, second) = (arguments.record(0)?, arguments.record(1)?);
+    Ok(match grammar.same_route(&first, &second)? {
+        true => Answer::done("same\n".to_string()),
+        false => Answer {
+            text: "different\n".to_string(),
+            status: DIFFERENT,
+        },
+    })
+}
+
+fn size(arguments: &Arguments) -> Result<Answer, Stop> {
+    let grammar = arguments.grammar()?;
+    let parsed = grammar.check_val(&arguments.record(0)?, arguments.index)?;
+    let (rows, size) = (parsed.rows, parsed.rest_index - arguments.index);
+    Ok(Answer::done(format!("rows {rows}, bytes {size}\n")))
+}
+
+fn words(arguments: &Arguments) -> Result<Answer, Stop> {
+    let grammar = arguments.grammar()?;
+    let [node_count, nodes, child_word_count, child_words] = sections(grammar.words());
+    let lines = [node_count]
+        .into_iter()
+        .chain(nodes.chunks(3))
+        .chain([child_word_count])
+        .chain(child_words.chunks(16));
+    let line = |words: &[u32]| {
+        let words: Vec<String> = words.iter().map(u32::to_string).collect();
+        words.join(", ") + ",\n"
+    };
+    Ok(Answer::done(lines.map(line).collect()))
+}

@@ -1,0 +1,64 @@
+//! A value as a tree for people.
+
+use std::fmt::Write;
+
+use route_record::{Class, Contents, Elements, Row, Value};
+
+/// The most elements of an array of bytes or numbers that a line shows.
+const SHOWN: usize = 16;
+
+/// The bytes of an element count or of a tag.
+const COUNT_BYTES: usize = 8;
+
+/// The rows of a value that was read whole, one to a line: the byte where the row's value starts,
+/// and the row, indented by its depth.
+pub fn tree(value: &Value) -> String {
+    let width = value.size().to_string().len();
+    let mut text = String::new();
+    let mut start = 0;
+    for (depth, row) in value.rows() {
+        let (indent, line) = (2 * depth, describe(&row));
+        writeln!(text, "byte {start:width$}  {:indent$}{line}", "").expect("room in a String");
+        start += own_bytes(&row);
+    }
+    text
+}
+
+fn describe(row: &Row) -> String {
+    let kind = row.kind().text;
+    match row.contents() {
+        Contents::Constant => kind.to_string(),
+        Contents::Number(number) => format!("{kind} {number}"),
+        Contents::Array(children) | Contents::Tuple(children) => {
+            format!("{kind} of {}", children.count())
+        }
+        Contents::Elements(elements) => format!("{kind} of {}", list(&elements)),
+        Contents::Case { tag, .. } => format!("{kind} tag {tag}"),
+    }
+}
+
+/// The count and the first elements, bytes in hexadecimal digits.
+fn list(elements: &Elements) -> String {
+    let mut text = elements.len().to_string();
+    for (i, number) in elements.numbers().take(SHOWN).enumerate() {
+        text += if i == 0 { ": " } else { " " };
+        text += &match elements.width() {
+            1 => format!("{number:02x}"),
+            _ => number.to_string(),
+        };
+    }
+    if elements.len() > SHOWN {
+        text += &format!(" and {} more", elements.len() - SHOWN);
+    }
+    text
+}
+
+/// The bytes of a record that are the row's own: rows and their bytes are in the same order.
+fn own_bytes(row: &Row) -> usize {
+    match row.kind().class {
+        Class::Constant | Class::Tuple => 0,
+        Class::Number { width } => width,
+        Class::Array | Class::Union => COUNT_BYTES,
+        Class::Elements { width } => COUNT_BYTES + width * row.words()[2] as usize,
+    }
+}
