@@ -1,0 +1,167 @@
+//! Every command, with files, standard input and both forms of grammar and record.
+
+use route_record::Place;
+
+use crate::run::{file, folder, printed, refused, route};
+
+const TYPES: &str = "# case A\nroute = tuple(u32, bytes)\nroute\n";
+const WORDS: &str = "3,\n4, 0, 2,\n1, 0, 0,\n5, 0, 0,\n2,\n1, 2,\n";
+const RECORD: [u8; 14] = [7, 0, 0, 0, 2, 0, 0, 0, 0, 0, 0, 0, 0x41, 0x42];
+const HEX: &str = "07 00 00 00\n0200000000000000\t4142\n";
+
+#[test]
+fn a_grammar_and_a_record_come_from_files_or_standard_input() {
+    let folder = folder("sources");
+    let record = &file(&folder, "record", RECORD);
+    let hex = &file(&folder, "record.hex", HEX);
+    let accepted = printed(0, "accepted: rows 3, bytes 14\n");
+    for text in [TYPES, WORDS] {
+        let grammar = &file(&folder, "grammar", text);
+        let check = |arguments: &[&str], stdin: &[u8]| {
+            let got = route(&[&["check"], arguments].concat(), stdin);
+            assert_eq!(got, accepted, "{arguments:?}");
+        };
+        check(&[grammar, record], b"");
+        check(&["-", record], text.as_bytes());
+        check(&[grammar, "-"], &RECORD);
+        check(&[grammar, hex, "--hex"], b"");
+        check(&["--hex", "-", hex], text.as_bytes());
+        check(&[grammar, "--hex", "-"], HEX.as_bytes());
+        check(&["-g", text, record], b"");
+        check(&[record, "--grammar", text], b"");
+        check(&["-g", text, "--hex", "--", hex], b"");
+    }
+}
+
+#[test]
+fn check_of_a_grammar_alone() {
+    for text in [TYPES, WORDS] {
+        let got = route(&["check", "-g", text], b"");
+        assert_eq!(got, printed(0, "accepted: nodes 3, child words 2\n"));
+    }
+}
+
+#[test]
+fn tree_of_every_kind() {
+    let grammar = "\
+        number = u64
+        tuple(array(union(constant, number)), bytes, u32s, u64s, tuple(), number)";
+    let record = "\
+        0200000000000000
+          0000000000000000
+          0100000000000000 0201000000000000
+        0300000000000000 005aff
+        0200000000000000 00000000 ffffffff
+        0100000000000000 ffffffffffffffff
+        0700000000000000";
+    let tree = "\
+byte  0  tuple of 6
+byte  0    array of 2
+byte  8      union tag 0
+byte 16        constant
+byte 16      union tag 1
+byte 24        u64 258
+byte 32    bytes of 3: 00 5a ff
+byte 43    u32s of 2: 0 4294967295
+byte 59    u64s of 1: 18446744073709551615
+byte 75    tuple of 0
+byte 75    u64 7
+";
+    let got = route(&["tree", "-g", grammar, "--hex", "-"], record.as_bytes());
+    assert_eq!(got, printed(0, tree));
+}
+
+/// What the tree of an array of the numbers from 0 on says behind the count.
+fn elements(grammar: &str, width: usize, count: u8) -> String {
+    let mut record = u64::from(count).to_le_bytes().to_vec();
+    for number in 0..count {
+        record.push(number);
+        record.resize(record.len() + width - 1, 0);
+    }
+    let line = route(&["tree", "-g", grammar, "-"], &record).stdout;
+    let (_, elements) = line
+        .split_once(&format!("{grammar} of {count}"))
+        .expect(&line);
+    elements.to_string()
+}
+
+#[test]
+fn tree_cuts_long_arrays_and_says_their_count() {
+    let bytes = ": 00 01 02 03 04 05 06 07 08 09 0a 0b 0c 0d 0e 0f";
+    let numbers = ": 0 1 2 3 4 5 6 7 8 9 10 11 12 13 14 15";
+    for (grammar, width, all) in [
+        ("bytes", 1, bytes),
+        ("u32s", 4, numbers),
+        ("u64s", 8, numbers),
+    ] {
+        let elements = |count| elements(grammar, width, count);
+        assert_eq!(elements(0), "\n");
+        assert_eq!(elements(16), format!("{all}\n"));
+        assert_eq!(elements(17), format!("{all} and 1 more\n"));
+        assert_eq!(elements(255), format!("{all} and 239 more\n"));
+    }
+}
+
+#[test]
+fn same_has_a_word_and_a_status_for_each_answer() {
+    let folder = folder("same");
+    let first = &file(&folder, "first", RECORD);
+    let other = &file(&folder, "other", [&[8], &RECORD[1..]].concat());
+    let same = |second: &str, stdin: &[u8]| route(&["same", "-g", TYPES, first, second], stdin);
+    assert_eq!(same(first, b""), printed(0, "same\n"));
+    assert_eq!(same("-", &RECORD), printed(0, "same\n"));
+    assert_eq!(same(other, b""), printed(3, "different\n"));
+    let cut = |record: &str| {
+        let refusal = refused(9, Place::Byte(4)).stdout;
+        printed(1, &format!("the {record} record: {refusal}"))
+    };
+    assert_eq!(same("-", &RECORD[..13]), cut("second"));
+    let got = route(&["same", "-g", TYPES, "-", first], &RECORD[..13]);
+    assert_eq!(got, cut("first"));
+}
+
+#[test]
+fn size_starts_at_the_index_and_ignores_what_follows() {
+    let record = [&[0xff, 0xff], &RECORD[..], &[0xee]].concat();
+    let size = |index: &str| route(&["size", "-g", TYPES, "-", "--index", index], &record);
+    assert_eq!(size("2"), printed(0, "rows 3, bytes 14\n"));
+    assert_eq!(size("3"), refused(9, Place::Byte(7)));
+    for index in [18, u64::MAX] {
+        assert_eq!(size(&index.to_string()), refused(7, Place::Byte(index)));
+    }
+    let got = route(&["size", "-g", TYPES, "-"], &RECORD);
+    assert_eq!(got, printed(0, "rows 3, bytes 14\n"));
+    let constant = route(&["size", "-g", "constant", "-", "--index", "17"], &record);
+    assert_eq!(constant, printed(0, "rows 1, bytes 0\n"));
+}
+
+#[test]
+fn words_print_a_table_that_is_read_again() {
+    for text in [TYPES, WORDS] {
+        assert_eq!(route(&["words", "-g", text], b""), printed(0, WORDS));
+    }
+    let shared = "n = u32\npair = tuple(n, n)\nunion(pair, array(pair), u64s)";
+    let words = "\
+5,
+8, 0, 3,
+3, 3, 1,
+4, 4, 2,
+1, 0, 0,
+7, 0, 0,
+6,
+2, 1, 4, 2, 3, 3,
+";
+    assert_eq!(route(&["words", "-g", shared], b""), printed(0, words));
+    let again = route(&["words", "-"], words.as_bytes());
+    assert_eq!(again, printed(0, words));
+}
+
+#[test]
+fn words_of_many_children_take_several_lines() {
+    let text = format!("n = u32; tuple(n{})", ", n".repeat(16));
+    let sixteen = ["1"; 16].join(", ");
+    let words = format!("2,\n4, 0, 17,\n1, 0, 0,\n17,\n{sixteen},\n1,\n");
+    assert_eq!(route(&["words", "-g", &text], b""), printed(0, &words));
+    let no_child = route(&["words", "-g", "u32"], b"");
+    assert_eq!(no_child, printed(0, "1,\n1, 0, 0,\n0,\n"));
+}
