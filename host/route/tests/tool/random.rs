@@ -3,7 +3,7 @@
 use std::collections::HashSet;
 
 use compare::{Random, Record, Table};
-use route::{parse_grammar, sections};
+use route::{parse_grammar, sections, Position};
 use route_record::{Class, Grammar, Place, KINDS};
 
 use crate::run::{printed, route};
@@ -121,6 +121,41 @@ fn a_table_written_as_types_has_the_same_tree() {
         answers[expected.map_or(0, |(number, _)| number as usize)] += 1;
     }
     assert!(answers.iter().all(|&count| count >= 5), "{answers:?}");
+}
+
+/// Start and end of a part of a text, of up to 4 characters and without the first one.
+fn part(text: &[char], random: &mut Random) -> (usize, usize) {
+    let start = 1 + random.below(text.len() - 1);
+    (start, (start + random.below(5)).min(text.len()))
+}
+
+/// One part takes another's place. The text's first character stays a letter, so it has types and
+/// not words.
+#[test]
+fn a_damaged_text_gives_a_sound_table_or_an_error_in_the_text() {
+    let mut random = Random::new(43);
+    let (mut sound, mut errors) = (0, 0);
+    for _ in 0..3_000 {
+        let (n, shared) = (random.within(1..=8), random.pick(&[0, 2]));
+        let table = grown(&mut random, n, shared);
+        let mut text: Vec<char> = text_of(&table, &mut random).chars().collect();
+        let (start, end) = part(&text, &mut random);
+        let other = part(&text, &mut random);
+        let copy = text[other.0..other.1].to_vec();
+        text.splice(start..end, copy);
+        let text: String = text.into_iter().collect();
+        match parse_grammar(&text) {
+            Ok(words) => {
+                assert!(Grammar::check(&words).is_ok(), "{text}");
+                sound += 1;
+            }
+            Err(error) => {
+                assert!(error.position <= Position::START.behind(&text), "{text}");
+                errors += 1;
+            }
+        }
+    }
+    assert!(sound >= 300 && errors >= 300, "{sound} {errors}");
 }
 
 /// Where the values that start with a count or a tag start, by their lines.
