@@ -1,4 +1,4 @@
-//! What a command line is answered: text and exit status.
+//! Exit statuses, and what is said where a command has no answer to print.
 
 use route_record::{Refusal, SameRouteRefusal};
 
@@ -8,20 +8,6 @@ pub const DONE: u8 = 0;
 pub const REFUSED: u8 = 1;
 /// The status of a command line, file or text that the tool can do nothing with.
 pub const FAILED: u8 = 2;
-/// The status of two records that are not of the same route.
-pub const DIFFERENT: u8 = 3;
-
-/// What is printed on standard output, and the exit status.
-pub struct Answer {
-    pub text: String,
-    pub status: u8,
-}
-
-impl Answer {
-    pub fn done(text: String) -> Answer {
-        Answer { text, status: DONE }
-    }
-}
 
 /// Why a command ended early, in lines to print.
 pub enum Stop {

@@ -4,7 +4,7 @@ use std::ops::RangeInclusive;
 
 use route::sections;
 
-use crate::answer::{Answer, Stop, DIFFERENT};
+use crate::answer::Stop;
 use crate::arguments::Arguments;
 use crate::tree::tree;
 
@@ -21,7 +21,8 @@ pub struct Command {
     pub example: &'static str,
     /// What the example prints.
     pub printed: &'static str,
-    pub run: fn(&Arguments) -> Result<Answer, Stop>,
+    /// Gives what is printed.
+    pub run: fn(&Arguments) -> Result<String, Stop>,
 }
 
 impl Command {
@@ -87,7 +88,7 @@ pub static COMMANDS: [Command; 5] = [
     },
 ];
 
-fn check(arguments: &Arguments) -> Result<Answer, Stop> {
+fn check(arguments: &Arguments) -> Result<String, Stop> {
     let grammar = arguments.grammar()?;
     let counts = if arguments.records.is_empty() {
         let [nodes, _, child_words, _] = sections(grammar.words());
@@ -96,35 +97,32 @@ fn check(arguments: &Arguments) -> Result<Answer, Stop> {
         let parsed = grammar.check_whole(&arguments.record(0)?)?;
         format!("rows {}, bytes {}", parsed.rows, parsed.rest_index)
     };
-    Ok(Answer::done(format!("accepted: {counts}\n")))
+    Ok(format!("accepted: {counts}\n"))
 }
 
-fn show_tree(arguments: &Arguments) -> Result<Answer, Stop> {
+fn show_tree(arguments: &Arguments) -> Result<String, Stop> {
     let grammar = arguments.grammar()?;
     let record = arguments.record(0)?;
-    Ok(Answer::done(tree(&grammar.demarshall_vec(&record)?)))
+    Ok(tree(&grammar.demarshall_vec(&record)?))
 }
 
-fn same(arguments: &Arguments) -> Result<Answer, Stop> {
+fn same(arguments: &Arguments) -> Result<String, Stop> {
     let grammar = arguments.grammar()?;
     let (first, second) = (arguments.record(0)?, arguments.record(1)?);
-    Ok(match grammar.same_route(&first, &second)? {
-        true => Answer::done("same\n".to_string()),
-        false => Answer {
-            text: "different\n".to_string(),
-            status: DIFFERENT,
-        },
-    })
+    let same = grammar.same_route(&first, &second)?;
+    let answer = if same { "same\n" } else { "different\n" };
+    Ok(answer.to_string())
 }
 
-fn size(arguments: &Arguments) -> Result<Answer, Stop> {
+fn size(arguments: &Arguments) -> Result<String, Stop> {
     let grammar = arguments.grammar()?;
-    let parsed = grammar.check_val(&arguments.record(0)?, arguments.index)?;
-    let (rows, size) = (parsed.rows, parsed.rest_index - arguments.index);
-    Ok(Answer::done(format!("rows {rows}, bytes {size}\n")))
+    let record = arguments.record(0)?;
+    let (value, _) = grammar.parse_val_vec(&record, arguments.index)?;
+    let (rows, size) = (value.rows().count(), value.size());
+    Ok(format!("rows {rows}, bytes {size}\n"))
 }
 
-fn words(arguments: &Arguments) -> Result<Answer, Stop> {
+fn words(arguments: &Arguments) -> Result<String, Stop> {
     let grammar = arguments.grammar()?;
     let [node_count, nodes, child_word_count, child_words] = sections(grammar.words());
     let lines = [node_count]
@@ -136,5 +134,5 @@ fn words(arguments: &Arguments) -> Result<Answer, Stop> {
         let words: Vec<String> = words.iter().map(u32::to_string).collect();
         words.join(", ") + ",\n"
     };
-    Ok(Answer::done(lines.map(line).collect()))
+    Ok(lines.map(line).collect())
 }

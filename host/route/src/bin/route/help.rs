@@ -20,10 +20,9 @@ Options:
     -V, --version         the version
 
 Exit status:
-    0    done; for same, the records are of the same route
+    0    done
     1    refused; standard output gives the refusal, its place and its meaning
     2    bad usage, an unreadable file or a wrong text; standard error says what
-    3    the records are not of the same route
 ";
 
 /// The help for a command, or for all.

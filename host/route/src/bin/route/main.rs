@@ -14,7 +14,7 @@ use std::ffi::OsString;
 use std::io::{self, ErrorKind, Write};
 use std::process::ExitCode;
 
-use answer::{Answer, Stop, FAILED, REFUSED};
+use answer::{Stop, DONE, FAILED, REFUSED};
 use arguments::Request;
 
 const VERSION: &str = concat!("route ", env!("CARGO_PKG_VERSION"), "\n");
@@ -22,16 +22,16 @@ const VERSION: &str = concat!("route ", env!("CARGO_PKG_VERSION"), "\n");
 fn main() -> ExitCode {
     let arguments: Vec<OsString> = env::args_os().skip(1).collect();
     match answer_to(&arguments) {
-        Ok(Answer { text, status }) => print(&text, status),
+        Ok(text) => print(&text, DONE),
         Err(Stop::Refused(text)) => print(&text, REFUSED),
         Err(Stop::Failed(text)) => fail(&text),
     }
 }
 
-fn answer_to(arguments: &[OsString]) -> Result<Answer, Stop> {
+fn answer_to(arguments: &[OsString]) -> Result<String, Stop> {
     match Request::parse(arguments)? {
-        Request::Help(command) => Ok(Answer::done(help::text(command))),
-        Request::Version => Ok(Answer::done(VERSION.to_string())),
+        Request::Help(command) => Ok(help::text(command)),
+        Request::Version => Ok(VERSION.to_string()),
         Request::Run(command, arguments) => (command.run)(&arguments),
     }
 }
