@@ -105,7 +105,8 @@ route_answer route_check_grammar(const uint32_t *words, size_t words_len);
  * 14 at the row, when its kind is 5, 6 or 7 and its place plus its count times 1, 4 or 8 is above
  * store_len, count 0 too;
  * then its children, as many as word 2 says for kinds 3 and 4, one for kind 8, and behind them
- * 13 at the row, when a child is missing or rows of its span are left over, which are free. */
+ * 13 at the row, when a child is missing or rows of its span are left over, which are not
+ * looked at. */
 route_answer route_compute_size_of(const uint64_t *rows, size_t rows_len, size_t n,
                                    const uint8_t *store, size_t store_len);
 

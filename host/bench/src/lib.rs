@@ -30,7 +30,7 @@ pub fn run(more: Option<&dyn Program>) -> ExitCode {
     while let Some(argument) = arguments.next() {
         match (argument.as_str(), strict, &picture) {
             ("--strict", false, _) => strict = true,
-            ("--svg", _, None) => picture = arguments.next(),
+            ("--svg", _, None) if arguments.len() > 0 => picture = arguments.next(),
             _ => {
                 eprintln!("usage: bench [--strict] [--svg FILE]");
                 return ExitCode::from(2);

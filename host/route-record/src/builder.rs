@@ -1,42 +1,73 @@
 //! Making a value for writing: its rows and its store.
 
+use std::cell::Cell;
+use std::marker::PhantomData;
+use std::mem;
+
 use crate::kind::{
     ARRAY, BYTE_ARRAY, CONSTANT, TAGGED_UNION, TUPLE, UINT32, UINT32_ARRAY, UINT64, UINT64_ARRAY,
 };
 use crate::value::Value;
 use crate::{calls, Refusal};
 
-/// Makes the rows and the store of a value, one value behind the other in preorder.
+/// Makes the rows and the store of a value, one value behind the other. [`Value::build`] lends it.
 ///
 /// ```
-/// use route_record::{Builder, Grammar};
+/// use route_record::{Grammar, Value};
 ///
-/// let mut value = Builder::new();
-/// value.tuple(|fields| {
-///     fields.uint32(7);
-///     fields.byte_array(b"AB");
-/// });
-/// let value = value.finish()?;
+/// let value = Value::build(|value| {
+///     value.tuple(|fields| {
+///         fields.uint32(7);
+///         fields.byte_array(b"AB");
+///     });
+/// })?;
 ///
 /// let tuple_of_u32_and_bytes = Grammar::check(&[3, 4, 0, 2, 1, 0, 0, 5, 0, 0, 2, 1, 2])?;
 /// let record = [7, 0, 0, 0, 2, 0, 0, 0, 0, 0, 0, 0, 0x41, 0x42];
 /// assert_eq!(tuple_of_u32_and_bytes.marshall_vec(&value)?, record);
 /// # Ok::<(), route_record::Refusal>(())
 /// ```
-#[derive(Clone, Debug, Default)]
-pub struct Builder {
+#[derive(Debug)]
+pub struct Builder<'b> {
     rows: Vec<u64>,
     store: Vec<u8>,
     /// How many children the value whose children are being made has so far.
     children: u64,
+    /// A lifetime of its own for each builder, so that none is put in another's place.
+    own: PhantomData<Cell<&'b ()>>,
 }
 
-impl Builder {
-    /// A builder with no value yet.
-    pub fn new() -> Builder {
-        Builder::default()
+impl Value<'_> {
+    /// The value that the closure makes with the builder lent to it. Refused as [`Value::check`]
+    /// refuses: by 6 when the arrays have more than 1,048,576 bytes together; by 12 when there is no
+    /// value or there are more than 4,096 rows; by 13 when there are two values, or a case has none
+    /// or two.
+    ///
+    /// ```
+    /// use route_record::Value;
+    ///
+    /// let value = Value::build(|value| value.uint32(7))?;
+    /// assert_eq!(value.row_words(), [1, 1, 7, 0]);
+    ///
+    /// let refusal = Value::build(|value| value.tagged_union(0, |_| ())).unwrap_err();
+    /// assert_eq!(refusal.number, 13);
+    /// # Ok::<(), route_record::Refusal>(())
+    /// ```
+    pub fn build(make: impl for<'b> FnOnce(&mut Builder<'b>)) -> Result<Value<'static>, Refusal> {
+        let mut builder = Builder {
+            rows: Vec::new(),
+            store: Vec::new(),
+            children: 0,
+            own: PhantomData,
+        };
+        make(&mut builder);
+        let Builder { rows, store, .. } = builder;
+        calls::compute_size_of(&rows, rows.len() / 4, &store)?;
+        Ok(Value::read(rows, store))
     }
+}
 
+impl<'b> Builder<'b> {
     /// A constant.
     pub fn constant(&mut self) {
         self.row(CONSTANT, 0, 0);
@@ -53,15 +84,15 @@ impl Builder {
     }
 
     /// An array whose elements the closure makes.
-    pub fn array(&mut self, elements: impl FnOnce(&mut Builder)) {
-        let (row, count) = self.parent(ARRAY, elements);
-        self.rows[4 * row + 2] = count;
+    pub fn array(&mut self, elements: impl FnOnce(&mut Builder<'b>)) {
+        let (word2, count) = self.parent(ARRAY, elements);
+        self.rows[word2] = count;
     }
 
     /// A tuple whose fields the closure makes.
-    pub fn tuple(&mut self, fields: impl FnOnce(&mut Builder)) {
-        let (row, count) = self.parent(TUPLE, fields);
-        self.rows[4 * row + 2] = count;
+    pub fn tuple(&mut self, fields: impl FnOnce(&mut Builder<'b>)) {
+        let (word2, count) = self.parent(TUPLE, fields);
+        self.rows[word2] = count;
     }
 
     /// An array of bytes.
@@ -85,17 +116,9 @@ impl Builder {
     }
 
     /// The case of this tag of a union, whose one value the closure makes.
-    pub fn tagged_union(&mut self, tag: u64, value: impl FnOnce(&mut Builder)) {
-        let (row, _) = self.parent(TAGGED_UNION, value);
-        self.rows[4 * row + 2] = tag;
-    }
-
-    /// The value. Refused as [`Value::check`] refuses: a value of more than 4,096 rows or none, a
-    /// store above 1,048,576 bytes, a case without its one value, more than one value.
-    pub fn finish(self) -> Result<Value<'static>, Refusal> {
-        let Builder { rows, store, .. } = self;
-        calls::compute_size_of(&rows, rows.len() / 4, &store)?;
-        Ok(Value::read(rows, store))
+    pub fn tagged_union(&mut self, tag: u64, value: impl FnOnce(&mut Builder<'b>)) {
+        let (word2, _) = self.parent(TAGGED_UNION, value);
+        self.rows[word2] = tag;
     }
 
     /// Puts a row of span 1.
@@ -104,16 +127,17 @@ impl Builder {
         self.children += 1;
     }
 
-    /// Puts the row of a value with children and the rows that the closure makes, and sets the
-    /// span; gives the row's number and how many children were made.
-    fn parent(&mut self, kind: u32, children: impl FnOnce(&mut Builder)) -> (usize, u64) {
-        let row = self.rows.len() / 4;
-        self.row(kind, 0, 0);
-        let siblings = std::mem::take(&mut self.children);
+    /// Puts the row of a value with children and the rows that the closure makes; gives where the
+    /// row's word 2 stands and how many children were made. The span is 0, which no value has, until
+    /// the children are made.
+    fn parent(&mut self, kind: u32, children: impl FnOnce(&mut Builder<'b>)) -> (usize, u64) {
+        let start = self.rows.len();
+        self.rows.extend([kind.into(), 0, 0, 0]);
+        let siblings = mem::take(&mut self.children);
         children(self);
-        let count = std::mem::replace(&mut self.children, siblings);
-        self.rows[4 * row + 1] = (self.rows.len() / 4 - row) as u64;
-        (row, count)
+        let count = mem::replace(&mut self.children, siblings + 1);
+        self.rows[start + 1] = ((self.rows.len() - start) / 4) as u64;
+        (start + 2, count)
     }
 
     /// Puts the row of an array of `count` numbers of `width` bytes, which `pack` packs into the
@@ -134,25 +158,28 @@ impl Builder {
 
 #[cfg(test)]
 mod tests {
+    use std::panic::{catch_unwind, AssertUnwindSafe};
+
     use super::*;
     use crate::{Grammar, Place};
 
     #[test]
     fn every_kind_at_once() {
-        let mut value = Builder::new();
-        value.tuple(|fields| {
-            fields.constant();
-            fields.uint32(1);
-            fields.uint64(2);
-            fields.array(|elements| {
-                elements.tagged_union(1, |value| value.uint32(3));
-                elements.tagged_union(0, |value| value.tuple(|_| ()));
+        let value = Value::build(|value| {
+            value.tuple(|fields| {
+                fields.constant();
+                fields.uint32(1);
+                fields.uint64(2);
+                fields.array(|elements| {
+                    elements.tagged_union(1, |value| value.uint32(3));
+                    elements.tagged_union(0, |value| value.tuple(|_| ()));
+                });
+                fields.byte_array(&[4, 5]);
+                fields.uint32_array(&[6]);
+                fields.uint64_array(&[7, 8]);
             });
-            fields.byte_array(&[4, 5]);
-            fields.uint32_array(&[6]);
-            fields.uint64_array(&[7, 8]);
         });
-        let value = value.finish().unwrap();
+        let value = value.unwrap();
         let rows = [
             [4, 12, 7, 0],
             [0, 1, 0, 0],
@@ -168,38 +195,49 @@ mod tests {
             [7, 1, 2, 6],
         ];
         assert_eq!(value.row_words(), rows.concat());
-        assert_eq!(value.store().len(), 22);
+        let store = [
+            4, 5, 6, 0, 0, 0, 7, 0, 0, 0, 0, 0, 0, 0, 8, 0, 0, 0, 0, 0, 0, 0,
+        ];
+        assert_eq!(value.store(), store);
         assert_eq!(value.size(), 4 + 8 + (8 + 12 + 8) + 10 + 12 + 24);
+    }
+
+    /// The refusal of what the closure makes.
+    fn refusal(make: impl for<'b> FnOnce(&mut Builder<'b>)) -> (u64, Place) {
+        let refusal = Value::build(make).unwrap_err();
+        (refusal.number, refusal.place)
     }
 
     #[test]
     fn what_is_no_value_is_refused() {
-        let refusal = |make: fn(&mut Builder)| {
-            let mut value = Builder::new();
-            make(&mut value);
-            let refusal = value.finish().unwrap_err();
-            (refusal.number, refusal.place)
-        };
         assert_eq!(refusal(|_| ()), (12, Place::Row(0)));
-        let two: fn(&mut Builder) = |value| {
+        let of_two = refusal(|value| {
             value.constant();
             value.constant();
-        };
-        assert_eq!(refusal(two), (13, Place::Row(0)));
+        });
+        assert_eq!(of_two, (13, Place::Row(0)));
         assert_eq!(refusal(|v| v.tagged_union(0, |_| ())), (13, Place::Row(0)));
-        let many: fn(&mut Builder) = |v| v.array(|v| (0..4_096).for_each(|_| v.constant()));
-        assert_eq!(refusal(many), (12, Place::Row(0)));
-        let long: fn(&mut Builder) = |v| v.byte_array(&[0; 1_048_577]);
-        assert_eq!(refusal(long), (6, Place::Byte(0)));
+        let of_many = refusal(|v| v.array(|v| (0..4_096).for_each(|_| v.constant())));
+        assert_eq!(of_many, (12, Place::Row(0)));
+        let of_long = refusal(|v| v.byte_array(&[0; 1_048_577]));
+        assert_eq!(of_long, (6, Place::Byte(0)));
+    }
+
+    #[test]
+    fn children_that_were_not_made_to_the_end_are_refused() {
+        let of_panic = refusal(|value| {
+            let make = || value.array(|_| panic!("on purpose"));
+            assert!(catch_unwind(AssertUnwindSafe(make)).is_err());
+        });
+        assert_eq!(of_panic, (13, Place::Row(0)));
     }
 
     #[test]
     fn a_record_above_the_limit_is_refused() {
         let bytes = Grammar::check(&[1, 5, 0, 0, 0]).unwrap();
         let record_of = |count| {
-            let mut value = Builder::new();
-            value.byte_array(&vec![9; count]);
-            bytes.marshall_vec(&value.finish().unwrap())
+            let value = Value::build(|value| value.byte_array(&vec![9; count]));
+            bytes.marshall_vec(&value.unwrap())
         };
         assert_eq!(record_of(1_048_568).unwrap().len(), 1_048_576);
         let refusal = record_of(1_048_569).unwrap_err();

@@ -53,6 +53,14 @@ impl Grammar {
 
     /// How many rows the value that starts at byte `index` has and where it ends. Refused as
     /// [`calls::check_val`] refuses.
+    ///
+    /// ```
+    /// use route_record::Grammar;
+    ///
+    /// let uint32 = Grammar::check(&[1, 1, 0, 0, 0])?;
+    /// assert_eq!(uint32.check_val(&[0xff, 7, 0, 0, 0, 0xff], 1)?.rest_index, 5);
+    /// # Ok::<(), route_record::Refusal>(())
+    /// ```
     pub fn check_val(&self, record: &[u8], index: usize) -> Result<Parsed, Refusal> {
         calls::check_val(&self.words, record, index)
     }
@@ -123,6 +131,17 @@ impl Grammar {
 
     /// Reads as [`parse_val`](Grammar::parse_val) does with 4,096 rows, into as many rows as the
     /// value has.
+    ///
+    /// ```
+    /// use route_record::Grammar;
+    ///
+    /// let uint32 = Grammar::check(&[1, 1, 0, 0, 0])?;
+    /// let record = [7, 0, 0, 0, 8, 0, 0, 0];
+    /// let (_, rest_index) = uint32.parse_val_vec(&record, 0)?;
+    /// let (second, _) = uint32.parse_val_vec(&record, rest_index)?;
+    /// assert_eq!(second.row_words(), [1, 1, 8, 0]);
+    /// # Ok::<(), route_record::Refusal>(())
+    /// ```
     pub fn parse_val_vec<'a>(
         &self,
         record: &'a [u8],
@@ -135,6 +154,14 @@ impl Grammar {
 
     /// Reads as [`demarshall`](Grammar::demarshall) does with 4,096 rows, into as many rows as the
     /// value has.
+    ///
+    /// ```
+    /// use route_record::Grammar;
+    ///
+    /// let uint32 = Grammar::check(&[1, 1, 0, 0, 0])?;
+    /// assert_eq!(uint32.demarshall_vec(&[7, 0, 0, 0])?.row_count(), 1);
+    /// # Ok::<(), route_record::Refusal>(())
+    /// ```
     pub fn demarshall_vec<'a>(&self, record: &'a [u8]) -> Result<Value<'a>, Refusal> {
         let mut rows = vec![0; 4 * self.check_whole(record)?.rows];
         calls::demarshall(&self.words, record, &mut rows)?;
@@ -145,19 +172,17 @@ impl Grammar {
     /// 15 to 17 as [`calls::marshall_val`] refuses; the output is then as it was.
     ///
     /// ```
-    /// use route_record::{Builder, Grammar};
+    /// use route_record::{Grammar, Value};
     ///
     /// let uint32 = Grammar::check(&[1, 1, 0, 0, 0])?;
-    /// let mut value = Builder::new();
-    /// value.uint32(7);
-    /// let value = value.finish()?;
+    /// let value = Value::build(|value| value.uint32(7))?;
     ///
     /// let mut out = [0xff; 6];
     /// assert_eq!(uint32.marshall_val(&value, &mut out, 1)?, 4);
     /// assert_eq!(out, [0xff, 7, 0, 0, 0, 0xff]);
     ///
     /// let refusal = uint32.marshall_val(&value, &mut out, 3).unwrap_err();
-    /// let words = "refused 17 at byte 6: the output ends there, before the value's bytes do";
+    /// let words = "refused 17 at byte 6: the output ends there, before what is to be written does";
     /// assert_eq!(refusal.to_string(), words);
     /// # Ok::<(), route_record::Refusal>(())
     /// ```
@@ -172,12 +197,34 @@ impl Grammar {
     }
 
     /// Writes as [`marshall_val`](Grammar::marshall_val) does at byte 0.
+    ///
+    /// ```
+    /// use route_record::{Grammar, Value};
+    ///
+    /// let uint32 = Grammar::check(&[1, 1, 0, 0, 0])?;
+    /// let mut out = [0xff; 5];
+    /// assert_eq!(uint32.marshall(&Value::build(|value| value.uint32(7))?, &mut out)?, 4);
+    /// assert_eq!(out, [7, 0, 0, 0, 0xff]);
+    /// # Ok::<(), route_record::Refusal>(())
+    /// ```
     pub fn marshall(&self, value: &Value, out: &mut [u8]) -> Result<usize, Refusal> {
         let (rows, n, store) = value.parts();
         calls::marshall(&self.words, rows, n, store, out)
     }
 
     /// The record of a value. Refused by 15 and 16 as [`marshall`](Grammar::marshall) is.
+    ///
+    /// ```
+    /// use route_record::{Grammar, Value};
+    ///
+    /// let uint32 = Grammar::check(&[1, 1, 0, 0, 0])?;
+    /// let record = uint32.marshall_vec(&Value::build(|value| value.uint32(7))?)?;
+    /// assert_eq!(record, [7, 0, 0, 0]);
+    ///
+    /// let wide = Value::build(|value| value.uint64(7))?;
+    /// assert_eq!(uint32.marshall_vec(&wide).unwrap_err().number, 15);
+    /// # Ok::<(), route_record::Refusal>(())
+    /// ```
     pub fn marshall_vec(&self, value: &Value) -> Result<Vec<u8>, Refusal> {
         // A value of more bytes is refused by 15 or 16, whatever output is lent.
         let length = value.size().min(MOST_BYTES) as usize;

@@ -65,7 +65,7 @@ const fn kind(number: u32, name: &'static str, text: &'static str, class: Class)
 /// assert_eq!(bytes.class, Class::Elements { width: 1 });
 /// ```
 #[rustfmt::skip]
-pub static KINDS: [Kind; 9] = [
+pub static KINDS: &[Kind] = &[
     kind(CONSTANT, "GConstant", "constant", Class::Constant),
     kind(UINT32, "GUint32", "u32", Class::Number { width: 4 }),
     kind(UINT64, "GUint64", "u64", Class::Number { width: 8 }),

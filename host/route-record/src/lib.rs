@@ -1,22 +1,23 @@
 //! Safe bindings of the proved route-record library. They pass slices to it and hand back its
-//! answers; no answer is decided here.
+//! answers; no answer is decided here. A value's tree is read off rows that the library accepted.
 //!
 //! A [`Grammar`] is a table of words that passed its check. It reads a record into a [`Value`],
-//! whose [`Row`]s are a tree, and writes a value as its record. A [`Builder`] makes a value that was
-//! not read. What is refused is refused by a [`Refusal`] with number, place and words.
+//! whose [`Row`]s are a tree, and writes a value as its record. [`Value::build`] makes a value
+//! that was not read. What is refused is refused by a [`Refusal`] with number, place and meaning.
 //!
 //! ```
-//! use route_record::{Builder, Contents, Grammar};
+//! use route_record::{Contents, Grammar, Value};
 //!
 //! // An array of uint32: two nodes, and one child word.
 //! let grammar = Grammar::check(&[2, 3, 0, 1, 1, 0, 0, 1, 1])?;
 //!
-//! let mut route = Builder::new();
-//! route.array(|elements| {
-//!     elements.uint32(7);
-//!     elements.uint32(8);
-//! });
-//! let record = grammar.marshall_vec(&route.finish()?)?;
+//! let route = Value::build(|value| {
+//!     value.array(|elements| {
+//!         elements.uint32(7);
+//!         elements.uint32(8);
+//!     });
+//! })?;
+//! let record = grammar.marshall_vec(&route)?;
 //! assert_eq!(record, [2, 0, 0, 0, 0, 0, 0, 0, 7, 0, 0, 0, 8, 0, 0, 0]);
 //!
 //! let value = grammar.demarshall_vec(&record)?;

@@ -1,16 +1,16 @@
-//! Refusals, their words, and how they are read off an answer of the library.
+//! Refusals, their meanings, and how they are read off an answer of the library.
 
 use std::error::Error;
 use std::fmt;
 
 use crate::ffi::Answer;
 
-/// What a refusal speaks of, with its number: a word of the grammar, a byte or a row.
+/// Where a refusal was found: a word of the grammar, a byte or a row.
 #[derive(Clone, Copy, Debug, PartialEq, Eq)]
 pub enum Place {
     /// A word of the grammar table.
     Word(u64),
-    /// A byte of the packed bytes or of the output.
+    /// A byte of the record, of the store, of packed numbers or of the output.
     Byte(u64),
     /// A row of the value.
     Row(u64),
@@ -19,7 +19,7 @@ pub enum Place {
 /// Why a call was refused: the refusal's number and its place.
 #[derive(Clone, Copy, Debug, PartialEq, Eq)]
 pub struct Refusal {
-    /// The number of the refusal, 1 or above.
+    /// The number of the refusal, 1 to 19.
     pub number: u64,
     /// Where it was found.
     pub place: Place,
@@ -36,8 +36,8 @@ pub enum SameRouteRefusal {
     Second(Refusal),
 }
 
-/// What each refusal says, number 1 first. "There" is its place.
-const WORDS: [&str; 19] = [
+/// What each refusal means, number 1 first. "There" is its place.
+const MEANINGS: [&str; 19] = [
     "the table is empty, or its node count is not 1 to 256",
     "the count of child words is missing or above 1,024, or the table's length does not fit it",
     "the node's kind is above 8",
@@ -47,15 +47,15 @@ const WORDS: [&str; 19] = [
     "the index is above the length",
     "no row is left for the value that starts there, or too few for the elements that it counts",
     "the value that starts there is cut short",
-    "the tag of the value that starts there is none of a case",
+    "no case has the tag of the value that starts there",
     "the value ends there, and bytes follow it",
     "the row count is 0, above 4,096 or above the rows given",
     "the row breaks the layout of a value",
-    "the row's elements reach past the end of the store",
-    "the row's value is not one of its node of the grammar",
+    "the row's array lies or reaches past the end of the store",
+    "the row's kind, field count or tag does not fit its node of the grammar",
     "the value's record is longer than 1,048,576 bytes",
-    "the output ends there, before the value's bytes do",
-    "there is no such row, or its kind is not an array of bytes or numbers",
+    "the output ends there, before what is to be written does",
+    "there is no such row, or its kind is not 5, 6 or 7",
     "the input is not a grammar and a record as the program wants them",
 ];
 
@@ -70,24 +70,22 @@ impl fmt::Display for Place {
 }
 
 impl Refusal {
-    /// What the refusal says, without its number and place.
+    /// What the refusal means, without its number and place.
     ///
     /// ```
     /// use route_record::{Place, Refusal};
     ///
     /// let refusal = Refusal { number: 9, place: Place::Byte(4) };
-    /// assert_eq!(refusal.words(), "the value that starts there is cut short");
+    /// assert_eq!(refusal.meaning(), "the value that starts there is cut short");
     /// ```
-    pub fn words(&self) -> &'static str {
-        let words = usize::try_from(self.number).ok().and_then(|number| {
-            let place = number.checked_sub(1)?;
-            WORDS.get(place).copied()
-        });
-        words.unwrap_or("no refusal has this number")
+    pub fn meaning(&self) -> &'static str {
+        let place = self.number.checked_sub(1).map(usize::try_from);
+        let meaning = place.and_then(|place| MEANINGS.get(place.ok()?));
+        meaning.copied().unwrap_or("no refusal has this number")
     }
 }
 
-/// Number, place and words.
+/// Number, place and meaning.
 ///
 /// ```
 /// use route_record::{Place, Refusal};
@@ -98,12 +96,22 @@ impl Refusal {
 /// ```
 impl fmt::Display for Refusal {
     fn fmt(&self, f: &mut fmt::Formatter) -> fmt::Result {
-        let (number, place, words) = (self.number, self.place, self.words());
-        write!(f, "refused {number} at {place}: {words}")
+        let (number, place, meaning) = (self.number, self.place, self.meaning());
+        write!(f, "refused {number} at {place}: {meaning}")
     }
 }
 
 impl Error for Refusal {}
+
+impl SameRouteRefusal {
+    /// The refusal, without whose it is.
+    pub fn refusal(&self) -> Refusal {
+        let (SameRouteRefusal::Grammar(refusal)
+        | SameRouteRefusal::First(refusal)
+        | SameRouteRefusal::Second(refusal)) = self;
+        *refusal
+    }
+}
 
 impl fmt::Display for SameRouteRefusal {
     fn fmt(&self, f: &mut fmt::Formatter) -> fmt::Result {

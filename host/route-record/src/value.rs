@@ -66,6 +66,11 @@ impl<'a> Value<'a> {
         &self.rows
     }
 
+    /// How many rows the value has.
+    pub fn row_count(&self) -> usize {
+        self.rows.len() / 4
+    }
+
     /// The bytes that the arrays lie in. Of a value just read it is the record.
     pub fn store(&self) -> &[u8] {
         &self.store
@@ -73,7 +78,7 @@ impl<'a> Value<'a> {
 
     /// What the library is given for the value: row words, row count and store.
     pub(crate) fn parts(&self) -> (&[u64], usize, &[u8]) {
-        (&self.rows, self.rows.len() / 4, &self.store)
+        (&self.rows, self.row_count(), &self.store)
     }
 
     /// The size in bytes: the length of the value's record.
@@ -269,7 +274,7 @@ impl<'v> Iterator for Rows<'v> {
 
     fn next(&mut self) -> Option<(usize, Row<'v>)> {
         let next = self.next;
-        let row = (4 * next < self.value.rows.len()).then(|| self.value.row(next))?;
+        let row = (next < self.value.row_count()).then(|| self.value.row(next))?;
         while self.ends.last().is_some_and(|&end| end <= next) {
             self.ends.pop();
         }

@@ -191,17 +191,60 @@ fn a_value_of_more_bytes_than_may_be_written_has_a_size() {
 }
 
 #[test]
-fn each_refusal_has_words_of_its_own() {
-    let words = |number| {
+fn words_behind_the_rows_are_not_the_value_s() {
+    let words = [4, 2, 1, 0, 1, 1, 7, 0, 9, 9, 9, 9];
+    let value = Value::check(&words, 2, &[]).unwrap();
+    assert_eq!(value.row_words(), [4, 2, 1, 0, 1, 1, 7, 0]);
+    assert_eq!((value.row_count(), value.rows().count()), (2, 2));
+}
+
+#[test]
+fn elements_may_be_none() {
+    for (count, is_empty) in [(0, true), (1, false)] {
+        let rows = [6, 1, count, 0];
+        let value = Value::check(&rows, 1, &[0; 4]).unwrap();
+        let Contents::Elements(elements) = value.root().contents() else {
+            panic!("a uint32 array");
+        };
+        assert_eq!(
+            (elements.len() as u64, elements.is_empty()),
+            (count, is_empty)
+        );
+    }
+}
+
+#[test]
+fn each_refusal_has_its_meaning() {
+    let meaning = |number| {
         let place = Place::Row(0);
-        Refusal { number, place }.words()
+        Refusal { number, place }.meaning()
     };
-    let known: Vec<_> = (1..=19).map(words).collect();
-    for (place, words) in known.iter().enumerate() {
-        assert!(!known[..place].contains(words), "{words}");
+    let about = [
+        "node count",
+        "child words",
+        "kind is above",
+        "first or count",
+        "child's number",
+        "longer than 1,048,576",
+        "index is above",
+        "no row is left",
+        "cut short",
+        "no case",
+        "bytes follow",
+        "row count",
+        "layout",
+        "end of the store",
+        "grammar",
+        "record is longer",
+        "output ends",
+        "no such row",
+        "the program wants",
+    ];
+    for (number, part) in (1..).zip(about) {
+        assert!(meaning(number).contains(part), "{number}: {part}");
     }
     for number in [0, 20, u64::MAX] {
-        assert_eq!(words(number), "no refusal has this number");
+        assert_eq!(meaning(number), "no refusal has this number");
     }
 }
 
@@ -222,7 +265,7 @@ fn two_threads_at_once() {
 
 #[test]
 fn kinds_have_names_of_their_own() {
-    for kind in &KINDS {
+    for kind in KINDS {
         let same = |other: &&route_record::Kind| other.text == kind.text || other.name == kind.name;
         assert_eq!(KINDS.iter().filter(same).count(), 1, "{}", kind.text);
     }

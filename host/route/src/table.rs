@@ -79,22 +79,30 @@ pub fn sections(words: &[u32]) -> [&[u32]; 4] {
     [node_count, nodes, child_word_count, child_words]
 }
 
-/// What the word at this place of a grammar table is, and what it holds.
+/// What the word at this place of a grammar table is, and what it holds; of a word of a node, all
+/// that its rule speaks of.
 pub fn describe_word(words: &[u32], place: u64) -> String {
+    let content = |place| {
+        let word = usize::try_from(place).ok().and_then(|at| words.get(at));
+        word.map_or("missing".to_string(), u32::to_string)
+    };
     let nodes_end = 3 * u64::from(words.first().copied().unwrap_or(0));
     let meaning = match place {
-        0 => "the node count".to_string(),
+        0 => format!("the node count: {}", content(0)),
         _ if place <= nodes_end => {
-            let part = ["kind", "first child word", "child count"][(place - 1) as usize % 3];
-            format!("the {part} of node {}", (place - 1) / 3)
+            let (node, part) = ((place - 1) / 3, (place - 1) % 3);
+            let part = ["kind", "first", "count"][part as usize];
+            let [kind, first, count] = [1, 2, 3].map(|word| content(3 * node + word));
+            let child_words = content(nodes_end + 1);
+            format!(
+                "the {part} of node {node}: kind {kind}, first {first}, count {count}; child words \
+                 {child_words}"
+            )
         }
-        _ if place == nodes_end + 1 => "the count of child words".to_string(),
-        _ => format!("child word {}", place - nodes_end - 2),
+        _ if place == nodes_end + 1 => format!("the count of child words: {}", content(place)),
+        _ => format!("child word {}: {}", place - nodes_end - 2, content(place)),
     };
-    let content = usize::try_from(place).ok().and_then(|at| words.get(at));
-    let content = content.map_or("missing".to_string(), u32::to_string);
-    let count = words.len();
-    format!("word {place} is {meaning}: {content} (table length {count})")
+    format!("word {place} is {meaning} (table length {})", words.len())
 }
 
 #[cfg(test)]
@@ -151,14 +159,13 @@ mod tests {
         let words = [2, 4, 0, 2, 1, 0, 0, 2, 1, 0];
         for (place, text) in [
             (0, "word 0 is the node count: 2 (table length 10)"),
-            (1, "word 1 is the kind of node 0: 4 (table length 10)"),
             (
-                5,
-                "word 5 is the first child word of node 1: 0 (table length 10)",
+                1,
+                "word 1 is the kind of node 0: kind 4, first 0, count 2; child words 2 (table length 10)",
             ),
             (
-                6,
-                "word 6 is the child count of node 1: 0 (table length 10)",
+                5,
+                "word 5 is the first of node 1: kind 1, first 0, count 0; child words 2 (table length 10)",
             ),
             (7, "word 7 is the count of child words: 2 (table length 10)"),
             (9, "word 9 is child word 1: 0 (table length 10)"),

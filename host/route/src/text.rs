@@ -56,11 +56,15 @@ impl fmt::Display for TextError {
 
 impl std::error::Error for TextError {}
 
+/// The most characters of a text that an error shows.
+const SHOWN: usize = 40;
+
 /// How an error shows a part of a text, which is empty at the text's end.
 pub fn quote(part: &str) -> String {
-    match part {
-        "" => "the end of the text".to_string(),
-        _ => format!("'{}'", part.escape_debug()),
+    match part.char_indices().nth(SHOWN) {
+        None if part.is_empty() => "the end of the text".to_string(),
+        None => format!("'{}'", part.escape_debug()),
+        Some((end, _)) => format!("'{}..'", part[..end].escape_debug()),
     }
 }
 
@@ -93,6 +97,13 @@ mod tests {
         for (text, position) in behind {
             assert_eq!(start.behind(text).to_string(), position, "{text:?}");
         }
+    }
+
+    #[test]
+    fn a_long_part_is_cut() {
+        assert_eq!(quote(""), "the end of the text");
+        assert_eq!(quote(&"ä".repeat(40)), format!("'{}'", "ä".repeat(40)));
+        assert_eq!(quote(&"ä".repeat(41)), format!("'{}..'", "ä".repeat(40)));
     }
 
     #[test]

@@ -24,7 +24,9 @@ fn every_command_refuses_a_refused_grammar() {
     let folder = folder("refused");
     let record = &file(&folder, "record", "");
     let grammar = "1, 9 0 0, 0";
-    let refusal = refused_grammar(3, 1, "word 1 is the kind of node 0: 9 (table length 5)");
+    let node =
+        "word 1 is the kind of node 0: kind 9, first 0, count 0; child words 0 (table length 5)";
+    let refusal = refused_grammar(3, 1, node);
     for (command, records) in [
         ("check", &[][..]),
         ("check", &[record]),

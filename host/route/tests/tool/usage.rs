@@ -26,9 +26,16 @@ fn commands_and_options_that_are_none() {
         ("tree --raw", "there is no option '--raw'"),
         ("tree -x", "there is no option '-x'"),
         ("tree -g", "-g wants a value"),
+        ("tree -g u32 --grammar u64", "the grammar is given twice"),
         ("size --index", "--index wants a value"),
-        ("size --index -1", "--index wants a number, not '-1'"),
-        ("size --index 1.5", "--index wants a number, not '1.5'"),
+        (
+            "size --index -1",
+            "--index wants a number below 2^64, not '-1'",
+        ),
+        (
+            "size --index 1.5",
+            "--index wants a number below 2^64, not '1.5'",
+        ),
     ] {
         assert_misused(line, fault);
     }

@@ -91,11 +91,18 @@ impl<'a> Given<'a> {
                 Some("-h" | "--help") => given.help = true,
                 Some("--hex") => given.hex = true,
                 Some(option @ ("-g" | "--grammar")) => {
-                    given.grammar = Some(value_of(option, &mut arguments)?.to_string());
+                    let text = value_of(option, &mut arguments)?.to_string();
+                    if given.grammar.replace(text).is_some() {
+                        return Err(misused("the grammar is given twice"));
+                    }
                 }
                 Some(option @ "--index") => {
                     let value = value_of(option, &mut arguments)?;
-                    let fault = || misused(&format!("{option} wants a number, not '{value}'"));
+                    let fault = || {
+                        misused(&format!(
+                            "{option} wants a number below 2^64, not '{value}'"
+                        ))
+                    };
                     given.index = Some(value.parse().map_err(|_| fault())?);
                 }
                 Some("--") => given.names.extend(arguments.by_ref()),

@@ -6,8 +6,9 @@ use crate::commands::{Command, COMMANDS};
 
 /// What the help says behind the commands and the forms of a type.
 const NOTES: &str = "\
-Definitions may stand before it, each before its use; a comment starts with #:
-    point = tuple(u32, u32)    # one node of the grammar, wherever it is used
+Definitions may stand before it, each before its use, none unused; a comment
+starts with #, and a ; may end a definition:
+    point = tuple(u32, u32)    # shared by all that name it
     array(point)
 Or it is the words of the grammar's table, decimal or 0x.., separated by white
 space or commas.

@@ -2,7 +2,7 @@
 
 use std::ffi::OsStr;
 use std::fmt;
-use std::fs;
+use std::fs::File;
 use std::io::{self, Read};
 use std::path::PathBuf;
 
@@ -10,6 +10,9 @@ use route::{decode, describe_word, parse_grammar, parse_hex, TextError};
 use route_record::{Grammar, Place};
 
 use crate::answer::Stop;
+
+/// How many bytes of a record are read: more than the library accepts, so that it refuses them.
+const MOST_BYTES: u64 = 1_048_577;
 
 /// Where a grammar or a record comes from.
 #[derive(PartialEq)]
@@ -42,7 +45,7 @@ impl Source {
     /// The grammar that the source holds. If its table is refused, the answer also says what the
     /// word at the refusal's place is: who wrote types never saw the words.
     pub fn grammar(&self) -> Result<Grammar, Stop> {
-        let words = self.parse(&self.bytes()?, parse_grammar)?;
+        let words = self.parse(&self.bytes(u64::MAX)?, parse_grammar)?;
         Grammar::check(&words).map_err(|refusal| match refusal.place {
             Place::Word(word) => {
                 let description = describe_word(&words, word);
@@ -54,23 +57,24 @@ impl Source {
 
     /// The record that the source holds, as its bytes or in hexadecimal digits.
     pub fn record(&self, hex: bool) -> Result<Vec<u8>, Stop> {
-        let bytes = self.bytes()?;
         match hex {
-            true => self.parse(&bytes, parse_hex),
-            false => Ok(bytes),
+            true => self.parse(&self.bytes(u64::MAX)?, parse_hex),
+            false => self.bytes(MOST_BYTES),
         }
     }
 
-    fn bytes(&self) -> Result<Vec<u8>, Stop> {
-        let bytes = match self {
-            Source::File(path) => fs::read(path),
-            Source::StandardInput => {
-                let mut bytes = Vec::new();
-                io::stdin().read_to_end(&mut bytes).map(|_| bytes)
+    /// The first bytes of the source, at most so many.
+    fn bytes(&self, most: u64) -> Result<Vec<u8>, Stop> {
+        let mut bytes = Vec::new();
+        let read = match self {
+            Source::File(path) => {
+                File::open(path).and_then(|file| file.take(most).read_to_end(&mut bytes))
             }
-            Source::Text(text) => Ok(text.as_bytes().to_vec()),
+            Source::StandardInput => io::stdin().take(most).read_to_end(&mut bytes),
+            Source::Text(text) => text.as_bytes().read_to_end(&mut bytes),
         };
-        bytes.map_err(|error| Stop::Failed(format!("route: cannot read {self}: {error}\n")))
+        let fault = |error| Stop::Failed(format!("route: cannot read {self}: {error}\n"));
+        read.map_err(fault).map(|_| bytes)
     }
 
     fn parse<T>(&self, bytes: &[u8], parser: fn(&str) -> Result<T, TextError>) -> Result<T, Stop> {
