@@ -1,10 +1,11 @@
 //! Comparison of the library, called through its bindings, and of the show program with the model.
-//! A comparison runs one case through both, panics with the case where they differ, and gives the
-//! answer or whether the case was accepted.
+//! A comparison runs one [`Case`] through both, panics with the case where they differ, and gives
+//! the answer or whether the case was accepted.
 
 #![forbid(unsafe_code)]
 #![deny(missing_docs)]
 
+mod case;
 mod grammar;
 mod packed;
 mod random;
@@ -18,8 +19,9 @@ mod table;
 mod tally;
 mod writing;
 
+pub use case::{Answer, Case, Field, Outcome};
 pub use grammar::check_grammar;
-pub use packed::{narrow, Calls, Number, MARGIN, U32, U64};
+pub use packed::{narrow, Calls, Number, U32, U64};
 pub use random::Random;
 pub use reading::{check_val, check_whole, demarshall, parse_val};
 pub use record::{for_each_record, for_some_records, Record, RECORDS};

@@ -2,24 +2,19 @@
 
 use route_record::SameRouteRefusal;
 
-use crate::refusal;
-
-/// The model's refusal in the bindings' type.
-fn named_refusal(of_model: model::SameRouteRefusal) -> SameRouteRefusal {
-    match of_model {
-        model::SameRouteRefusal::Grammar(r) => SameRouteRefusal::Grammar(refusal(r)),
-        model::SameRouteRefusal::First(r) => SameRouteRefusal::First(refusal(r)),
-        model::SameRouteRefusal::Second(r) => SameRouteRefusal::Second(refusal(r)),
-    }
-}
+use crate::{Answer, Case};
 
 /// Compares the answer whether two records are of the same route.
 pub fn same_route(grammar: &[u32], first: &[u8], second: &[u8]) -> Result<bool, SameRouteRefusal> {
-    let expected = model::same_route(grammar, first, second).map_err(named_refusal);
-    let got = route_record::calls::same_route(grammar, first, second);
-    assert_eq!(
-        got, expected,
-        "same_route of {grammar:?}, {first:?}, {second:?}"
-    );
-    expected
+    let case = Case::SameRoute {
+        grammar: grammar.to_vec(),
+        first: first.to_vec(),
+        second: second.to_vec(),
+    };
+    match case.compare().answer {
+        Answer::Accepted(same) => Ok(same == [1]),
+        Answer::Refused { refusal, record: 0 } => Err(SameRouteRefusal::Grammar(refusal)),
+        Answer::Refused { refusal, record: 1 } => Err(SameRouteRefusal::First(refusal)),
+        Answer::Refused { refusal, .. } => Err(SameRouteRefusal::Second(refusal)),
+    }
 }

@@ -1,14 +1,11 @@
 //! The comparisons of the writing calls.
 
-use std::fmt;
-
-use model::Writing;
 use route_record::Refusal;
 
-use crate::{refusal, MARGIN};
+use crate::Case;
 
 /// What the writing calls are given, but for the output.
-#[derive(Clone, PartialEq)]
+#[derive(Clone, Debug, PartialEq)]
 pub struct Value {
     /// The words of the grammar.
     pub grammar: Vec<u32>,
@@ -18,17 +15,6 @@ pub struct Value {
     pub n: usize,
     /// The store.
     pub store: Vec<u8>,
-}
-
-impl fmt::Debug for Value {
-    fn fmt(&self, f: &mut fmt::Formatter) -> fmt::Result {
-        let (grammar, rows, bytes) = (&self.grammar, &self.rows, self.store.len());
-        write!(
-            f,
-            "{grammar:?}, {rows:?}, n {}, store of {bytes} bytes",
-            self.n
-        )
-    }
 }
 
 impl Value {
@@ -46,56 +32,57 @@ impl Value {
         }
     }
 
+    /// The writing at `index` to this output.
+    pub fn marshall_val_case(self, out: Vec<u8>, index: usize) -> Case {
+        Case::MarshallVal {
+            grammar: self.grammar,
+            rows: self.rows,
+            n: self.n,
+            store: self.store,
+            out,
+            index,
+        }
+    }
+
+    /// The writing at byte 0 to this output.
+    pub fn marshall_case(self, out: Vec<u8>) -> Case {
+        Case::Marshall {
+            grammar: self.grammar,
+            rows: self.rows,
+            n: self.n,
+            store: self.store,
+            out,
+        }
+    }
+
     /// Compares the writing at `index` to an output of this length, and gives the bytes written.
     pub fn marshall_val(&self, length: usize, index: usize) -> Result<Vec<u8>, Refusal> {
-        let (grammar, rows, n, store) = (&self.grammar, &self.rows, self.n, &self.store);
-        self.compare(
-            (length, index),
-            |out| model::marshall_val(grammar, rows, n, store, out, index),
-            |out| route_record::calls::marshall_val(grammar, rows, n, store, out, index),
-        )
+        let case = self.clone().marshall_val_case(lent(length), index);
+        written(&case, index)
     }
 
     /// Compares the writing at byte 0 to an output of this length, and gives the bytes written.
     pub fn marshall(&self, length: usize) -> Result<Vec<u8>, Refusal> {
-        let (grammar, rows, n, store) = (&self.grammar, &self.rows, self.n, &self.store);
-        self.compare(
-            (length, 0),
-            |out| model::marshall(grammar, rows, n, store, out),
-            |out| route_record::calls::marshall(grammar, rows, n, store, out),
-        )
-    }
-
-    /// Compares the answer of a call that is lent an output of this length and writes at `index`;
-    /// what the output and the bytes on each side of it hold after the call; and that the call
-    /// leaves what else it is given as it was.
-    fn compare(
-        &self,
-        (length, index): (usize, usize),
-        of_model: impl FnOnce(&[u8]) -> Result<Writing, model::Refusal>,
-        call: impl FnOnce(&mut [u8]) -> Result<usize, Refusal>,
-    ) -> Result<Vec<u8>, Refusal> {
-        let given = self.clone();
-        let mut got: Vec<u8> = (0..MARGIN + length + MARGIN).map(fill).collect();
-        let mut expected = got.clone();
-        let lent = MARGIN..MARGIN + length;
-        let of_model = of_model(&got[lent.clone()]).map_err(refusal);
-        if let Ok(writing) = &of_model {
-            expected[lent.clone()].copy_from_slice(&writing.out);
-        }
-        let answer = call(&mut got[lent]);
-        let case = format_args!("written at {index} of {length} bytes: {given:?}");
-        assert_eq!(answer, of_model.map(|writing| writing.size), "{case}");
-        if got != expected {
-            let byte = (0..got.len()).find(|&byte| got[byte] != expected[byte]);
-            panic!("byte {byte:?} of the output with its margins differs, {case}");
-        }
-        assert!(*self == given, "what is only read changed, {case}");
-        answer.map(|size| got[MARGIN + index..][..size].to_vec())
+        written(&self.clone().marshall_case(lent(length)), 0)
     }
 }
 
-/// What a byte of the output holds before the call.
-fn fill(place: usize) -> u8 {
-    (place % 251) as u8 ^ 0xa5
+/// An output of this length.
+fn lent(length: usize) -> Vec<u8> {
+    let pattern: Vec<u8> = (0..251).map(|byte| byte ^ 0xa5).collect();
+    let mut out = pattern.repeat(length / 251 + 1);
+    out.truncate(length);
+    out
+}
+
+/// Compares a writing at `index`, and gives the bytes written.
+fn written(case: &Case, index: usize) -> Result<Vec<u8>, Refusal> {
+    let outcome = case.compare();
+    let [size] = outcome.answer.clone().result()?;
+    match outcome.after() {
+        Case::MarshallVal { out, .. } | Case::Marshall { out, .. } => {
+            Ok(out[index..][..size as usize].to_vec())
+        }
+        other => panic!("{} is no writing", other.call()),
+    }
 }

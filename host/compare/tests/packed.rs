@@ -1,6 +1,6 @@
 //! The packed integers of the library against the model.
 
-use compare::{narrow, Calls, Number, Random, MARGIN, U32, U64};
+use compare::{narrow, Calls, Number, Random, U32, U64};
 use route_record::{Place, Refusal};
 
 /// How often each length, index and count is met, with other contents each time.
@@ -42,14 +42,14 @@ fn pack_everywhere<N: Number>(calls: &Calls<N>) -> usize {
     let mut random = Random::new(2);
     accepted_everywhere(|length, index| {
         let number = calls.numbers(&mut random, 1)[0];
-        calls.pack(number, &random.bytes(length + 2 * MARGIN), index)
+        calls.pack(number, &random.bytes(length), index)
     })
 }
 
 fn unpack_seq_everywhere<N: Number>(calls: &Calls<N>) -> usize {
     let mut random = Random::new(3);
     accepted_in_runs(|length, index, count| {
-        let numbers = calls.numbers(&mut random, count + 2 * MARGIN);
+        let numbers = calls.numbers(&mut random, count);
         calls.unpack_seq(&random.bytes(length), index, &numbers)
     })
 }
@@ -58,7 +58,7 @@ fn pack_seq_everywhere<N: Number>(calls: &Calls<N>) -> usize {
     let mut random = Random::new(4);
     accepted_in_runs(|length, index, count| {
         let numbers = calls.numbers(&mut random, count);
-        calls.pack_seq(&numbers, &random.bytes(length + 2 * MARGIN), index)
+        calls.pack_seq(&numbers, &random.bytes(length), index)
     })
 }
 
@@ -70,8 +70,8 @@ fn long_runs<N: Number>(calls: &Calls<N>) {
     let (mut accepted, mut refused) = (0, 0);
     for _ in 0..50 {
         let index = random.below(400);
-        let numbers = calls.numbers(&mut random, COUNT + 2 * MARGIN);
-        let out = random.bytes(length + 2 * MARGIN);
+        let numbers = calls.numbers(&mut random, COUNT);
+        let out = random.bytes(length);
         let unpacked = calls.unpack_seq(&random.bytes(length), index, &numbers);
         let packed = calls.pack_seq(&numbers[..COUNT], &out, index);
         assert_eq!((unpacked, packed), (index <= 200, index <= 200));
@@ -92,13 +92,13 @@ fn extreme_numbers<N: Number>(calls: &Calls<N>) {
     for &number in &extremes {
         let bytes = &number.to_le_bytes()[..width];
         assert!(calls.unpack(bytes, 0));
-        assert!(calls.pack(narrow(number), &random.bytes(width + 2 * MARGIN), 0));
+        assert!(calls.pack(narrow(number), &random.bytes(width), 0));
         packed.extend(bytes);
     }
     let run: Vec<N> = extremes.into_iter().map(narrow).collect();
-    let numbers = calls.numbers(&mut random, run.len() + 2 * MARGIN);
+    let numbers = calls.numbers(&mut random, run.len());
     assert!(calls.unpack_seq(&packed, 0, &numbers));
-    assert!(calls.pack_seq(&run, &random.bytes(packed.len() + 2 * MARGIN), 0));
+    assert!(calls.pack_seq(&run, &random.bytes(packed.len()), 0));
 }
 
 /// Counts in the millions against few bytes.
@@ -107,7 +107,7 @@ fn counts_above_the_bytes<N: Number>(calls: &Calls<N>) {
     let numbers = calls.numbers(&mut random, 3_000_000);
     for (length, index) in [(0, 0), (16, 0), (16, 3), (16, 16), (16, 17)] {
         assert!(!calls.unpack_seq(&random.bytes(length), index, &numbers));
-        assert!(!calls.pack_seq(&numbers, &random.bytes(length + 2 * MARGIN), index));
+        assert!(!calls.pack_seq(&numbers, &random.bytes(length), index));
     }
 }
 

@@ -191,3 +191,13 @@ pub fn demarshall(grammar: &[u32], record: &[u8], capacity: usize) -> Result<Rea
         rest_index: record.len(),
     })
 }
+
+/// Reads as [`parse_val`] with the largest capacity does: the check, which is lent no rows.
+pub fn check_val(grammar: &[u32], record: &[u8], index: usize) -> Result<Reading, Refusal> {
+    parse_val(grammar, record, index, MOST_ROWS)
+}
+
+/// Reads as [`demarshall`] with the largest capacity does: the check, which is lent no rows.
+pub fn check_whole(grammar: &[u32], record: &[u8]) -> Result<Reading, Refusal> {
+    demarshall(grammar, record, MOST_ROWS)
+}

@@ -1,0 +1,154 @@
+//! One call of the library with everything that it is given, and what comes of it, by the model
+//! and by the library.
+
+mod by_library;
+mod by_model;
+mod field;
+mod outcome;
+
+pub use field::Field;
+pub use outcome::{Answer, Outcome};
+
+use field::Given;
+
+/// Defines the cases: a variant for each call, with the call's name, what it is given, the buffer
+/// that is lent to it and the numbers that it gives when it is accepted.
+macro_rules! cases {
+    ($(
+        $variant:ident $call:ident { $($field:ident: $kind:ty),* }
+        lends [$($lent:ident)?] gives [$($given:ident),*];
+    )*) => {
+        /// A call of the library with everything that it is given. A lent buffer is given as it is
+        /// before the call.
+        #[derive(Clone, Debug, PartialEq, Eq, Hash)]
+        #[allow(missing_docs)]
+        pub enum Case {
+            $($variant { $($field: $kind),* },)*
+        }
+
+        impl Case {
+            /// A case of each call, with empty slices and with zeros.
+            pub fn blanks() -> Vec<Case> {
+                vec![$(Case::$variant { $($field: Default::default()),* }),*]
+            }
+
+            /// The name of the call.
+            pub fn call(&self) -> &'static str {
+                match self {
+                    $(Case::$variant { .. } => stringify!($call),)*
+                }
+            }
+
+            /// What the call is given, by name.
+            pub fn fields(&mut self) -> Vec<(&'static str, Field<'_>)> {
+                match self {
+                    $(Case::$variant { $($field),* } => {
+                        vec![$((stringify!($field), $field.as_field())),*]
+                    })*
+                }
+            }
+
+            /// The model's answer to the case, which is then as after the call. The lent buffer
+            /// has margins.
+            fn call_model(&mut self) -> Answer {
+                match self {
+                    $(Case::$variant { $($field),* } => {
+                        by_model::$call($($field.as_argument()),*)
+                    })*
+                }
+            }
+
+            /// The library's answer to the case, which is then as after the call. The lent buffer
+            /// has margins.
+            fn call_library(&mut self) -> Answer {
+                match self {
+                    $(Case::$variant { $($field),* } => {
+                        by_library::$call($($field.as_argument()),*)
+                    })*
+                }
+            }
+
+            /// The name of the lent buffer, if there is one.
+            pub fn lent_name(&self) -> Option<&'static str> {
+                match self {
+                    $(Case::$variant { .. } => {
+                        let lent: &[&'static str] = &[$(stringify!($lent))?];
+                        lent.first().copied()
+                    })*
+                }
+            }
+
+            /// The names of the numbers that the call gives when it is accepted.
+            pub fn given_names(&self) -> &'static [&'static str] {
+                match self {
+                    $(Case::$variant { .. } => &[$(stringify!($given)),*],)*
+                }
+            }
+        }
+    };
+}
+
+cases! {
+    UnpackU32 unpack_u32 { packed: Vec<u8>, index: usize } lends [] gives [number];
+    UnpackU64 unpack_u64 { packed: Vec<u8>, index: usize } lends [] gives [number];
+    PackU32 pack_u32 { number: u32, out: Vec<u8>, index: usize } lends [out] gives [];
+    PackU64 pack_u64 { number: u64, out: Vec<u8>, index: usize } lends [out] gives [];
+    UnpackU32Seq unpack_u32_seq { packed: Vec<u8>, index: usize, numbers: Vec<u32> }
+        lends [numbers] gives [];
+    UnpackU64Seq unpack_u64_seq { packed: Vec<u8>, index: usize, numbers: Vec<u64> }
+        lends [numbers] gives [];
+    PackU32Seq pack_u32_seq { numbers: Vec<u32>, out: Vec<u8>, index: usize }
+        lends [out] gives [];
+    PackU64Seq pack_u64_seq { numbers: Vec<u64>, out: Vec<u8>, index: usize }
+        lends [out] gives [];
+    CheckGrammar check_grammar { grammar: Vec<u32> } lends [] gives [];
+    ComputeSizeOf compute_size_of { rows: Vec<u64>, n: usize, store: Vec<u8> }
+        lends [] gives [size];
+    LocateArray locate_array { rows: Vec<u64>, n: usize, store: Vec<u8>, row: usize }
+        lends [] gives [start, length];
+    ParseVal parse_val { grammar: Vec<u32>, record: Vec<u8>, index: usize, rows: Vec<u64> }
+        lends [rows] gives [row_count, rest_index];
+    Demarshall demarshall { grammar: Vec<u32>, record: Vec<u8>, rows: Vec<u64> }
+        lends [rows] gives [row_count, rest_index];
+    CheckVal check_val { grammar: Vec<u32>, record: Vec<u8>, index: usize }
+        lends [] gives [row_count, rest_index];
+    CheckWhole check_whole { grammar: Vec<u32>, record: Vec<u8> }
+        lends [] gives [row_count, rest_index];
+    MarshallVal marshall_val {
+        grammar: Vec<u32>, rows: Vec<u64>, n: usize, store: Vec<u8>, out: Vec<u8>, index: usize
+    } lends [out] gives [size];
+    Marshall marshall {
+        grammar: Vec<u32>, rows: Vec<u64>, n: usize, store: Vec<u8>, out: Vec<u8>
+    } lends [out] gives [size];
+    SameRoute same_route { grammar: Vec<u32>, first: Vec<u8>, second: Vec<u8> }
+        lends [] gives [same];
+}
+
+impl Case {
+    /// The lent buffer, if there is one.
+    pub fn lent(&mut self) -> Option<Field<'_>> {
+        let name = self.lent_name()?;
+        let lent = self.fields().into_iter().find(|field| field.0 == name);
+        lent.map(|(_, field)| field)
+    }
+
+    /// What comes of the case by the model.
+    pub fn of_model(&self) -> Outcome {
+        Outcome::of(self, Case::call_model)
+    }
+
+    /// What comes of the case by the library.
+    pub fn of_library(&self) -> Outcome {
+        Outcome::of(self, Case::call_library)
+    }
+
+    /// What comes of the case, by both. Panics with the case where they differ.
+    pub fn compare(&self) -> Outcome {
+        let (model, library) = (self.of_model(), self.of_library());
+        assert!(
+            library == model,
+            "{self:?}\nby the library {library:?}\nby the model {model:?}"
+        );
+        library
+    }
+}
