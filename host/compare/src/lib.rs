@@ -7,6 +7,9 @@
 
 mod case;
 mod grammar;
+pub mod json;
+mod line;
+pub mod list;
 mod packed;
 mod random;
 mod reading;
@@ -21,6 +24,7 @@ mod writing;
 
 pub use case::{Answer, Case, Field, Outcome};
 pub use grammar::check_grammar;
+pub use line::{Line, BYTES};
 pub use packed::{narrow, Calls, Number, U32, U64};
 pub use random::Random;
 pub use reading::{check_val, check_whole, demarshall, parse_val};
@@ -28,7 +32,7 @@ pub use record::{for_each_record, for_some_records, Record, RECORDS};
 pub use row_table::{element_width, RowTable};
 pub use rows::{compute_size_of, locate_array};
 pub use same_route::same_route;
-pub use show::{show, show_from, show_in_pieces, show_input};
+pub use show::{show, show_by_model, show_by_program, show_from, show_in_pieces, show_input};
 pub use table::{chain, leaf, table, Table};
 pub use tally::Tally;
 pub use writing::Value;

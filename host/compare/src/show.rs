@@ -59,13 +59,26 @@ fn run<'a>(stdin: Stdio, pieces: impl Iterator<Item = &'a [u8]> + Send) -> Outpu
     })
 }
 
+/// What the model says the program prints for an input.
+pub fn show_by_model(input: &[u8]) -> String {
+    String::from_utf8(model::show(input)).expect("text")
+}
+
+/// What a run of the program printed.
+fn printed(output: Output) -> String {
+    assert!(output.status.success(), "{}", output.status);
+    String::from_utf8_lossy(&output.stdout).into_owned()
+}
+
+/// What the program prints for an input.
+pub fn show_by_program(input: &[u8]) -> String {
+    printed(run(Stdio::piped(), iter::once(input)))
+}
+
 /// Compares what the program printed for an input, and gives it.
 fn compare(input: &[u8], output: Output) -> String {
-    let case = format_args!("show of {} bytes, {input:?}", input.len());
-    assert!(output.status.success(), "{}, {case}", output.status);
-    let got = String::from_utf8_lossy(&output.stdout);
-    let expected = String::from_utf8(model::show(input)).expect("text");
-    assert_eq!(got, expected, "{case}");
+    let (got, expected) = (printed(output), show_by_model(input));
+    assert_eq!(got, expected, "show of {} bytes, {input:?}", input.len());
     expected
 }
 

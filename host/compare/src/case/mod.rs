@@ -132,6 +132,26 @@ impl Case {
         lent.map(|(_, field)| field)
     }
 
+    /// The numbers of the answers that the call can give, 0 for accepted.
+    pub fn answer_numbers(&self) -> &'static [u64] {
+        match self {
+            Case::UnpackU32 { .. } | Case::UnpackU64 { .. } => &[0, 7, 9],
+            Case::UnpackU32Seq { .. } | Case::UnpackU64Seq { .. } => &[0, 7, 9],
+            Case::PackU32 { .. } | Case::PackU64 { .. } => &[0, 17],
+            Case::PackU32Seq { .. } | Case::PackU64Seq { .. } => &[0, 17],
+            Case::CheckGrammar { .. } => &[0, 1, 2, 3, 4, 5],
+            Case::ComputeSizeOf { .. } => &[0, 6, 12, 13, 14],
+            Case::LocateArray { .. } => &[0, 6, 12, 13, 14, 18],
+            Case::ParseVal { .. } | Case::CheckVal { .. } => &[0, 1, 2, 3, 4, 5, 6, 7, 8, 9, 10],
+            Case::Demarshall { .. } | Case::CheckWhole { .. } | Case::SameRoute { .. } => {
+                &[0, 1, 2, 3, 4, 5, 6, 8, 9, 10, 11]
+            }
+            Case::MarshallVal { .. } | Case::Marshall { .. } => {
+                &[0, 1, 2, 3, 4, 5, 6, 12, 13, 14, 15, 16, 17]
+            }
+        }
+    }
+
     /// What comes of the case by the model.
     pub fn of_model(&self) -> Outcome {
         Outcome::of(self, Case::call_model)

@@ -1,0 +1,194 @@
+//! Cases as lines of JSON: what is written is read back, and what is not such a line is refused.
+
+use compare::json::Json;
+use compare::{Case, Line};
+
+/// The line of a case.
+fn line(case: Case) -> Line {
+    let outcome = case.of_model();
+    let name = "a name".to_string();
+    Line {
+        name,
+        case,
+        outcome,
+    }
+}
+
+/// The text of a line.
+fn text(case: Case) -> String {
+    line(case).to_json().to_string()
+}
+
+/// The line of a text.
+fn read(text: &str) -> Result<Line, String> {
+    Line::from_json(Json::parse(text)?)
+}
+
+fn packing() -> Case {
+    Case::PackU32 {
+        number: 7,
+        out: vec![0xee; 5],
+        index: 1,
+    }
+}
+
+#[test]
+fn texts() {
+    assert_eq!(
+        text(packing()),
+        r#"{"name": "a name", "call": "pack_u32", "number": "7", "out": ["EEEEEEEEEE"], "index": "1", "accepted": {}, "out_after": ["EE07000000"]}"#
+    );
+    let reading = Case::Demarshall {
+        grammar: vec![2, 3, 0, 1, 0, 0, 0, 1, 1],
+        record: vec![6, 0, 0, 0, 0, 0, 0, 0],
+        rows: vec![99; 29],
+    };
+    assert_eq!(
+        text(reading),
+        r#"{"name": "a name", "call": "demarshall", "grammar": ["2", "3 0 1", "0 0 0", "1", "1"], "record": ["0600000000000000"], "rows": [{"repeat": "99 99 99 99", "times": 7}, "99"], "accepted": {"row_count": "7", "rest_index": "8"}, "rows_after": ["3 7 6 0", {"repeat": "0 1 0 0", "times": 6}, "99"]}"#
+    );
+    let refused = Case::SameRoute {
+        grammar: vec![1, 2, 0, 0, 0],
+        first: vec![0; 8],
+        second: vec![0; 17],
+    };
+    assert_eq!(
+        text(refused),
+        r#"{"name": "a name", "call": "same_route", "grammar": ["1", "2 0 0", "0"], "first": ["0000000000000000"], "second": [{"repeat": "00", "times": 17}], "refused": {"number": 11, "place": "byte", "at": "8", "record": 2}}"#
+    );
+}
+
+#[test]
+fn read_back() {
+    for case in Case::blanks().into_iter().chain([packing()]) {
+        let line = line(case);
+        assert_eq!(read(&line.to_json().to_string()), Ok(line));
+    }
+}
+
+/// Runs of every length around the one from which content is repeated, and of two contents.
+#[test]
+fn runs_read_back() {
+    for length in 0..40 {
+        for other in 0..3 {
+            let mut packed = vec![5; length];
+            packed.extend(vec![6; other]);
+            packed.extend(vec![5; 20]);
+            let line = line(Case::UnpackU64 { packed, index: 3 });
+            assert_eq!(read(&line.to_json().to_string()), Ok(line));
+        }
+    }
+}
+
+#[test]
+fn grammars_of_any_words_read_back() {
+    let tables: [&[u32]; 6] = [
+        &[],
+        &[2],
+        &[2, 3, 0],
+        &[u32::MAX, 1],
+        &[0, 1, 2, 3],
+        &[1; 9],
+    ];
+    for table in tables {
+        let grammar = table.to_vec();
+        let line = line(Case::CheckGrammar { grammar });
+        assert_eq!(read(&line.to_json().to_string()), Ok(line));
+    }
+}
+
+/// The error of the packing's line with a part replaced.
+fn error(old: &str, new: &str) -> String {
+    let sound = text(packing());
+    assert!(sound.contains(old), "{old}");
+    read(&sound.replace(old, new)).expect_err(new)
+}
+
+#[test]
+fn fields_are_exactly_those_of_the_call() {
+    assert_eq!(error(r#""index": "1", "#, ""), "`index` is missing");
+    assert_eq!(error(r#""name": "a name", "#, ""), "`name` is missing");
+    assert_eq!(
+        error(r#""index": "1""#, r#""index": "1", "row": "0""#),
+        "`row` is unknown here"
+    );
+    assert_eq!(
+        error(r#""index": "1""#, r#""index": "1", "index": "1""#),
+        "`index` stands twice"
+    );
+    assert_eq!(error("pack_u32", "pack_u16"), "there is no call `pack_u16`");
+    assert_eq!(
+        error(r#", "out_after": ["EE07000000"]"#, ""),
+        "`out_after` is missing"
+    );
+    assert_eq!(
+        error(r#""accepted": {}"#, r#""accepted": {"size": "4"}"#),
+        "`size` is unknown here"
+    );
+    let refused = r#""refused": {"number": 17, "place": "byte", "at": "5"}"#;
+    assert_eq!(
+        error(r#""accepted": {}"#, refused),
+        "`out_after` is unknown here"
+    );
+    assert_eq!(
+        error(r#", "accepted": {}, "out_after": ["EE07000000"]"#, ""),
+        "`refused` is missing"
+    );
+}
+
+#[test]
+fn numbers_and_bytes_have_one_spelling() {
+    for (old, new) in [
+        (r#""1""#, r#""01""#),
+        (r#""1""#, r#""+1""#),
+        (r#""1""#, r#""-1""#),
+        (r#""1""#, r#""""#),
+        (r#""1""#, "1"),
+        (r#""1""#, r#""18446744073709551616""#),
+        (r#""7""#, r#""4294967296""#),
+        ("EE07000000", "ee07000000"),
+        ("EE07000000", "EE0700000"),
+        ("EE07000000", "EE 07000000"),
+        ("EE07000000", ""),
+        (r#"["EE07000000"]"#, r#""EE07000000""#),
+        (r#"["EE07000000"]"#, r#"[{"repeat": "EE", "times": 0}]"#),
+        (
+            r#"["EE07000000"]"#,
+            r#"[{"repeat": "EE", "times": 99999999}]"#,
+        ),
+        (r#"["EE07000000"]"#, r#"[{"repeat": "EE"}]"#),
+    ] {
+        assert!(!error(old, new).is_empty());
+    }
+}
+
+#[test]
+fn what_is_no_json() {
+    for text in [
+        "",
+        "{",
+        "[1, ]",
+        "[1 2]",
+        "[,1]",
+        r#"{"a" 1}"#,
+        r#"{a: 1}"#,
+        r#"{"a": 1,}"#,
+        r#""a"#,
+        r#""\n""#,
+        "\"\n\"",
+        "01",
+        "-1",
+        "1.5",
+        "1e3",
+        "18446744073709551616",
+        "true",
+        "null",
+        "1 1",
+        "[1]]",
+    ] {
+        assert!(Json::parse(text).is_err(), "{text}");
+    }
+    let sound = r#" { "a" : [ 1 , "b" , { } , [ ] ] , "c" : 0 } "#;
+    let written = Json::parse(sound).expect("JSON").to_string();
+    assert_eq!(written, r#"{"a": [1, "b", {}, []], "c": 0}"#);
+}

@@ -1,0 +1,106 @@
+//! The listed cases, in the notation of docs/FORMAT.md: grammars and rows as numbers with blanks
+//! and commas between them, bytes in hexadecimal.
+
+mod grammar;
+mod packed;
+mod reading;
+mod rows;
+mod same_route;
+mod show;
+mod writing;
+
+pub use grammar::grammar;
+pub use packed::packed;
+pub use reading::reading;
+pub use rows::rows;
+pub use same_route::same_route;
+pub use show::show;
+pub use writing::writing;
+
+use std::str::FromStr;
+
+use compare::Case;
+
+/// Cases with their names.
+pub type Cases = Vec<(String, Case)>;
+
+/// A list of cases in the making.
+#[derive(Default)]
+struct List(Cases);
+
+impl List {
+    /// Adds a case. Its name begins with that of the call.
+    fn add(&mut self, name: &str, case: Case) {
+        self.0.push((format!("{}: {name}", case.call()), case));
+    }
+}
+
+/// The most bytes of a record or a store, and of a value that is written.
+const MOST_BYTES: usize = 1_048_576;
+
+/// Example A: a tuple of a uint32 and a byte array, and its record.
+const A: &str = "3, 4 0 2, 1 0 0, 5 0 0, 2, 1 2";
+const A_RECORD: &str = "07000000 0200000000000000 4142";
+/// Example B: a constant.
+const B: &str = "1, 0 0 0, 0";
+/// Example C: an array of constants.
+const C: &str = "2, 3 0 1, 0 0 0, 1, 1";
+/// Example D: a union without cases.
+const D: &str = "1, 8 0 0, 0";
+/// Example E: an array of uint32.
+const E: &str = "1, 6 0 0, 0";
+/// A uint32.
+const U32: &str = "1, 1 0 0, 0";
+/// A uint64.
+const U64: &str = "1, 2 0 0, 0";
+/// A byte array.
+const BYT: &str = "1, 5 0 0, 0";
+/// An array of uint64.
+const A64: &str = "1, 7 0 0, 0";
+/// An array of values that are each a uint32.
+const ARR: &str = "2, 3 0 1, 1 0 0, 1, 1";
+/// The tuple of no fields.
+const TUP0: &str = "1, 4 0 0, 0";
+/// A tuple of two uint32, one node used twice.
+const PAIR: &str = "2, 4 0 2, 1 0 0, 2, 1 1";
+/// A union of a constant and a uint32.
+const UNI: &str = "3, 8 0 2, 0 0 0, 1 0 0, 2, 1 2";
+/// A tuple of an array of unions of a constant and a uint64, and a byte array; and a record.
+const MIX: &str = "6, 4 0 2, 3 2 1, 5 0 0, 8 3 2, 0 0 0, 2 0 0, 5, 1 2 3 4 5";
+const MIX_RECORD: &str = "0200000000000000 0000000000000000 0100000000000000 0201000000000000
+    0100000000000000 5A";
+const MIX_ROWS: &str = "4 7 2 0, 3 5 2 0, 8 2 0 0, 0 1 0 0, 8 2 1 0, 2 1 258 0, 5 1 1 40";
+/// A grammar that is refused with 3 at word 1.
+const KIND_9: &str = "1, 9 0 0, 0";
+
+/// Numbers with blanks and commas between them.
+fn numbers<N: FromStr>(text: &str) -> Vec<N> {
+    let numbers = text.split([' ', ',']).filter(|number| !number.is_empty());
+    let parse = |number: &str| number.parse().ok().expect("a number");
+    numbers.map(parse).collect()
+}
+
+/// Bytes in hexadecimal, with blanks between them.
+fn hex(text: &str) -> Vec<u8> {
+    let digits: String = text.split_whitespace().collect();
+    compare::list::bytes_of(&digits).expect("hexadecimal digits")
+}
+
+/// The 8 bytes of a count or a tag, and others behind them.
+fn counted(count: u64, behind: &[u8]) -> Vec<u8> {
+    [&count.to_le_bytes(), behind].concat()
+}
+
+/// A table of these nodes and child words.
+fn table(nodes: &[[u32; 3]], children: &[u32]) -> Vec<u32> {
+    compare::table(nodes, children)
+}
+
+/// 256 nodes, each but the last a tuple of the next one twice, and the last of this kind: a tree of
+/// 2 to the power 255 leaves.
+fn doubling(kind: u32) -> Vec<u32> {
+    let parents = (0..255).map(|k| [4, 2 * k, 2]);
+    let nodes: Vec<[u32; 3]> = parents.chain([[kind, 0, 0]]).collect();
+    let children: Vec<u32> = (1..256).flat_map(|k| [k, k]).collect();
+    table(&nodes, &children)
+}

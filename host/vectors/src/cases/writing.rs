@@ -1,0 +1,332 @@
+//! The writers. Each byte of an output is EE before the call.
+
+use compare::{Case, Value};
+
+use super::{hex, numbers, table, Cases, List, MOST_BYTES};
+use super::{A, A64, ARR, A_RECORD, B, BYT, C, D, E, KIND_9, MIX, MIX_RECORD, MIX_ROWS, PAIR};
+use super::{TUP0, U32, U64, UNI};
+
+/// A value of as many rows as are given.
+fn value(grammar: &str, rows: &str, store: &[u8]) -> Value {
+    let rows: Vec<u64> = numbers(rows);
+    Value {
+        grammar: numbers(grammar),
+        n: rows.len() / 4,
+        rows,
+        store: store.to_vec(),
+    }
+}
+
+/// The writing of a value at byte 0 to an output of so many bytes.
+fn marshall(value: &Value, length: usize) -> Case {
+    value.clone().marshall_case(vec![0xee; length])
+}
+
+/// The writing of a value at an index of an output of so many bytes.
+fn marshall_val(value: &Value, length: usize, index: usize) -> Case {
+    let out = vec![0xee; length];
+    value.clone().marshall_val_case(out, index)
+}
+
+/// Name, grammar, rows, store in hexadecimal, size.
+const ACCEPTED: [(&str, &str, &str, &str, usize); 20] = [
+    ("example G, 14 bytes", A, A_ROWS, A_RECORD, 14),
+    (
+        "example H, number 4,294,967,295",
+        U32,
+        "1 1 4294967295 0",
+        "",
+        4,
+    ),
+    ("constant", B, "0 1 0 0", "", 0),
+    ("uint64", U64, "2 1 578437695752307201 0", "", 8),
+    ("uint64 2^64-1", U64, "2 1 18446744073709551615 0", "", 8),
+    (
+        "array of constants",
+        C,
+        "3 4 3 0, 0 1 0 0, 0 1 0 0, 0 1 0 0",
+        "",
+        8,
+    ),
+    (
+        "array of uint32 values",
+        ARR,
+        "3 3 2 0, 1 1 5 0, 1 1 6 0",
+        "",
+        16,
+    ),
+    ("array without elements", ARR, "3 1 0 0", "", 8),
+    ("tuple without fields", TUP0, "4 1 0 0", "", 0),
+    (
+        "tuple of one node twice",
+        PAIR,
+        "4 3 2 0, 1 1 1 0, 1 1 2 0",
+        "",
+        8,
+    ),
+    (
+        "byte array from the middle of the store",
+        BYT,
+        "5 1 2 1",
+        "01020304",
+        10,
+    ),
+    (
+        "byte array without elements at the store's end",
+        BYT,
+        "5 1 0 4",
+        "01020304",
+        8,
+    ),
+    (
+        "uint32 array without alignment",
+        E,
+        "6 1 1 1",
+        "0102030405",
+        12,
+    ),
+    ("uint64 array", A64, "7 1 1 0", "0102030405060708", 16),
+    ("case 0, a constant", UNI, "8 2 0 0, 0 1 0 0", "", 8),
+    ("case 1, a uint32", UNI, "8 2 1 0, 1 1 9 0", "", 12),
+    ("nested", MIX, MIX_ROWS, MIX_RECORD, 41),
+    (
+        "words behind 4n are not looked at",
+        U32,
+        "1 1 7 0, 9 9 9",
+        "",
+        4,
+    ),
+    (
+        "two arrays share bytes of the store",
+        "2, 4 0 2, 5 0 0, 2, 1 1",
+        "4 3 2 0, 5 1 3 0, 5 1 2 1",
+        "414243",
+        21,
+    ),
+    (
+        "array of arrays of constants",
+        "3, 3 0 1, 3 1 1, 0 0 0, 2, 1 2",
+        "3 5 2 0, 3 3 2 0, 0 1 0 0, 0 1 0 0, 3 1 0 0",
+        "",
+        24,
+    ),
+];
+
+/// The rows of example A.
+const A_ROWS: &str = "4 3 2 0, 1 1 7 0, 5 1 2 12";
+
+/// Adds each accepted value to both calls: at byte 0 of an output of its size, and between other
+/// bytes.
+fn accepted(list: &mut List) {
+    for (name, grammar, rows, store, size) in ACCEPTED {
+        let value = value(grammar, rows, &hex(store));
+        list.add(name, marshall(&value, size));
+        list.add(name, marshall_val(&value, size + 3, 1));
+    }
+}
+
+/// Refused with 15, with room enough: name, grammar, rows.
+const NOT_IN_GRAMMAR: [(&str, &str, &str); 14] = [
+    ("a uint32 where a constant is wanted", B, "1 1 0 0"),
+    ("a uint64 where a uint32 is wanted", U32, "2 1 7 0"),
+    ("a byte array where a uint32 array is wanted", E, "5 1 0 0"),
+    ("a tuple where an array is wanted", ARR, "4 1 0 0"),
+    ("an array where a tuple is wanted", TUP0, "3 1 0 0"),
+    ("one field, two wanted", PAIR, "4 2 1 0, 1 1 7 0"),
+    (
+        "three fields, two wanted",
+        PAIR,
+        "4 4 3 0, 1 1 7 0, 1 1 7 0, 1 1 7 0",
+    ),
+    ("tag at the case count", UNI, "8 2 2 0, 0 1 0 0"),
+    ("tag 2^64-1", UNI, "8 2 18446744073709551615 0, 0 1 0 0"),
+    ("a tag of a union without cases", D, "8 2 0 0, 0 1 0 0"),
+    ("a constant under tag 1", UNI, "8 2 1 0, 0 1 0 0"),
+    (
+        "the second element is another kind",
+        ARR,
+        "3 3 2 0, 1 1 5 0, 2 1 6 0",
+    ),
+    (
+        "the first of two in preorder",
+        PAIR,
+        "4 3 2 0, 2 1 5 0, 2 1 6 0",
+    ),
+    (
+        "the parent before its child",
+        PAIR,
+        "3 3 2 0, 1 1 5 0, 2 1 6 0",
+    ),
+];
+
+/// Two faults in one writing, to an output without room: name, grammar, rows, n.
+const ORDER: [(&str, &str, &str, usize); 18] = [
+    ("1 before 12", "", "0 1 0 0", 0),
+    ("2 before 13", "1", "9 1 0 0", 1),
+    ("3 before 12", KIND_9, "9 1 0 0", 0),
+    ("4 before 14", "1, 1 1 0, 1, 0", "5 1 1 0", 1),
+    ("5 before 15, example F", "1, 4 0 1, 1, 0", "0 1 0 0", 1),
+    ("12 before 13", U32, "9 1 0 0", 2),
+    ("12 before 15 and 17", U32, "2 1 7 0", 0),
+    ("13 before 14 of one row", U32, "5 2 9 0, 0 1 0 0", 2),
+    (
+        "the first row's 14 before a later row's 13",
+        U32,
+        "4 3 2 0, 5 1 1 0, 9 1 0 0",
+        3,
+    ),
+    ("13 before 15 of one row", B, "1 1 4294967296 0", 1),
+    (
+        "a later row's 13 before row 0's 15",
+        B,
+        "4 2 1 0, 9 1 0 0",
+        2,
+    ),
+    (
+        "a later row's 14 before row 0's 15",
+        B,
+        "4 2 1 0, 5 1 1 0",
+        2,
+    ),
+    ("13 of a missing child before 15", B, "4 2 2 0, 0 1 0 0", 2),
+    (
+        "13 of all rows before 15",
+        PAIR,
+        "4 3 2 0, 2 1 7 0, 1 1 4294967296 0",
+        3,
+    ),
+    ("13 before 17", U32, "1 1 4294967296 0", 1),
+    ("14 before 17", BYT, "5 1 1 0", 1),
+    ("15 before 17", ARR, "3 3 2 0, 1 1 5 0, 2 1 6 0", 3),
+    ("15 before 17, tag", UNI, "8 2 2 0, 0 1 0 0", 2),
+];
+
+fn refused(list: &mut List) {
+    for (name, grammar, rows) in NOT_IN_GRAMMAR {
+        list.add(name, marshall(&value(grammar, rows, &[]), 40));
+    }
+    for (name, grammar, rows, n) in ORDER {
+        let mut value = value(grammar, rows, &[]);
+        value.n = n;
+        list.add(name, marshall(&value, 0));
+        list.add(name, marshall_val(&value, 5, 6));
+    }
+    let mut cut = value(A, A_ROWS, &hex(A_RECORD));
+    cut.store.pop();
+    list.add(
+        "the store of example A without its last byte",
+        marshall(&cut, 14),
+    );
+    let largest = value(U32, "1 1 4294967296 0", &[]);
+    list.add("example H, number 4,294,967,296", marshall(&largest, 4));
+}
+
+/// Refusal 17: the output's length and the index.
+fn room(list: &mut List) {
+    let a = value(A, A_ROWS, &hex(A_RECORD));
+    list.add("example G, 13 bytes", marshall(&a, 13));
+    list.add("no output", marshall(&a, 0));
+    list.add("room up to the end", marshall_val(&a, 16, 2));
+    list.add("a byte of room is missing", marshall_val(&a, 15, 2));
+    list.add("index above the length", marshall_val(&a, 14, 15));
+    let one = value(U32, "1 1 7 0", &[]);
+    list.add("index 2^64-1", marshall_val(&one, 5, usize::MAX));
+    list.add(
+        "index 2^64-4, which wraps to 0",
+        marshall_val(&one, 5, usize::MAX - 3),
+    );
+    list.add("index 2^63", marshall_val(&one, 5, 1 << 63));
+    let constant = value(B, "0 1 0 0", &[]);
+    list.add("no bytes at the length", marshall_val(&constant, 5, 5));
+    list.add("no bytes above the length", marshall_val(&constant, 5, 6));
+}
+
+/// Byte arrays of this value's record size, in a store of zeros.
+fn bytes_of_size(size: usize) -> Value {
+    let length = size - 8;
+    value(BYT, &format!("5 1 {length} 0"), &vec![0; length])
+}
+
+/// The greatest sizes.
+fn sizes(list: &mut List) {
+    let (most, more) = (bytes_of_size(MOST_BYTES), bytes_of_size(MOST_BYTES + 1));
+    list.add("size 1,048,576", marshall(&most, MOST_BYTES));
+    let case = marshall_val(&most, MOST_BYTES + 2, 1);
+    list.add("size 1,048,576, index 1", case);
+    let case = marshall(&most, MOST_BYTES - 1);
+    list.add("size 1,048,576, a byte of room is missing", case);
+    list.add("size 1,048,577", marshall(&more, MOST_BYTES + 1));
+    list.add("16 before 17", marshall(&more, 0));
+    list.add("16 before 17", marshall_val(&more, 9, usize::MAX));
+    let mut other = more;
+    other.grammar = numbers(U32);
+    list.add("15 before 16", marshall(&other, 0));
+    let two_arrays = "2, 4 0 2, 5 0 0, 2, 1 1";
+    for (name, rows, store) in [
+        (
+            "13 before 16",
+            "4 3 2 0, 5 1 1048576 0, 9 1 0 0",
+            MOST_BYTES,
+        ),
+        (
+            "14 before 16",
+            "4 3 2 0, 5 1 1048576 0, 6 1 0 1048577",
+            MOST_BYTES,
+        ),
+        (
+            "1,048,584 bytes from a store of 524,288",
+            "4 3 2 0, 5 1 524288 0, 5 1 524280 8",
+            524_288,
+        ),
+    ] {
+        let value = value(two_arrays, rows, &vec![0; store]);
+        list.add(name, marshall(&value, 0));
+    }
+}
+
+/// The longest stores.
+fn stores(list: &mut List) {
+    let mut long = value(B, "0 1 0 0", &vec![0; MOST_BYTES]);
+    list.add("a store of 1,048,576 bytes", marshall(&long, 0));
+    long.store.push(0);
+    list.add("a store of 1,048,577 bytes", marshall(&long, 0));
+    list.add("6 before 17", marshall_val(&long, 0, 1));
+    long.rows[0] = 9;
+    list.add("6 before 13", marshall(&long, 0));
+    long.n = 0;
+    list.add("6 before 12", marshall(&long, 0));
+    long.grammar = numbers(KIND_9);
+    list.add("the grammar before all else", marshall_val(&long, 0, 9));
+}
+
+/// The most rows.
+fn many_rows(list: &mut List) {
+    let value = |grammar, root: [u64; 4], child: [u64; 4]| {
+        let rows = [&root[..], &child.repeat(root[1] as usize - 1)].concat();
+        let (n, store) = (root[1] as usize, vec![]);
+        Value {
+            grammar,
+            rows,
+            n,
+            store,
+        }
+    };
+    let tuple = table(&[[4, 0, 1_024], [1, 0, 0]], &[1; 1_024]);
+    let wide = value(tuple, [4, 1_025, 1_024, 0], [1, 1, 0x0707_0707, 0]);
+    list.add("a tuple of 1,024 uint32", marshall(&wide, 4_096));
+    let constants = |rows| value(numbers(C), [3, rows, rows - 1, 0], [0, 1, 0, 0]);
+    list.add("n 4,096", marshall(&constants(4_096), 8));
+    list.add("n 4,097", marshall(&constants(4_097), 8));
+}
+
+/// The cases of the writers.
+pub fn writing() -> Cases {
+    let mut list = List::default();
+    accepted(&mut list);
+    refused(&mut list);
+    room(&mut list);
+    sizes(&mut list);
+    stores(&mut list);
+    many_rows(&mut list);
+    list.0
+}

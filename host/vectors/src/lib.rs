@@ -1,0 +1,79 @@
+//! Test vectors for a second implementation: files of lines of JSON, each a call with its answer.
+//! The calls are listed here, the answers are the model's.
+
+#![forbid(unsafe_code)]
+#![deny(missing_docs)]
+
+mod cases;
+mod check;
+mod show;
+mod vector;
+
+pub use check::{check, Counts};
+pub use show::Show;
+pub use vector::Vector;
+
+use std::path::PathBuf;
+
+/// A file of vectors.
+pub struct File {
+    /// Its name, without the folder.
+    pub name: &'static str,
+    /// Makes its vectors, in order, with the model's answers.
+    pub vectors: fn() -> Vec<Vector>,
+}
+
+/// All files.
+pub const FILES: [File; 7] = [
+    File {
+        name: "packed.jsonl",
+        vectors: || of_cases(cases::packed()),
+    },
+    File {
+        name: "grammar.jsonl",
+        vectors: || of_cases(cases::grammar()),
+    },
+    File {
+        name: "reading.jsonl",
+        vectors: || of_cases(cases::reading()),
+    },
+    File {
+        name: "rows.jsonl",
+        vectors: || of_cases(cases::rows()),
+    },
+    File {
+        name: "writing.jsonl",
+        vectors: || of_cases(cases::writing()),
+    },
+    File {
+        name: "same_route.jsonl",
+        vectors: || of_cases(cases::same_route()),
+    },
+    File {
+        name: "show.jsonl",
+        vectors: || cases::show().into_iter().map(Vector::of_input).collect(),
+    },
+];
+
+/// The vectors of library calls.
+fn of_cases(cases: cases::Cases) -> Vec<Vector> {
+    cases.into_iter().map(Vector::of_case).collect()
+}
+
+impl File {
+    /// The text of the file: a line for each vector.
+    pub fn text(&self) -> String {
+        let vectors = (self.vectors)();
+        vectors.iter().map(|vector| format!("{vector}\n")).collect()
+    }
+
+    /// Where the file stands in the repository.
+    pub fn path(&self) -> PathBuf {
+        folder().join(self.name)
+    }
+}
+
+/// The folder of the files.
+pub fn folder() -> PathBuf {
+    PathBuf::from(env!("CARGO_MANIFEST_DIR")).join("../../vectors")
+}

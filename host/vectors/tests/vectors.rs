@@ -1,0 +1,452 @@
+//! The committed files of vectors: each line is a case that the model and the library answer as it
+//! says, the files are those that the program writes, and they leave out no refusal.
+
+use std::collections::{BTreeMap, BTreeSet, HashSet};
+use std::fs;
+
+use compare::{Answer, Case, Line};
+use vectors::{check, Counts, Show, Vector, FILES};
+
+/// The lines of a committed file.
+fn committed(file: &vectors::File) -> String {
+    fs::read_to_string(file.path()).expect("a committed file")
+}
+
+/// The vectors of all committed files.
+fn all() -> Vec<Vector> {
+    let texts: Vec<String> = FILES.iter().map(committed).collect();
+    let lines = texts.iter().flat_map(|text| text.lines());
+    lines.map(|line| Vector::parse(line).expect(line)).collect()
+}
+
+/// The library calls of all committed files.
+fn calls() -> Vec<Line> {
+    let call = |vector| match vector {
+        Vector::Call(line) => Some(*line),
+        Vector::Show(_) => None,
+    };
+    all().into_iter().filter_map(call).collect()
+}
+
+/// The runs of the show program of all committed files.
+fn shows() -> Vec<Show> {
+    let show = |vector| match vector {
+        Vector::Call(_) => None,
+        Vector::Show(show) => Some(show),
+    };
+    all().into_iter().filter_map(show).collect()
+}
+
+#[test]
+fn the_files_are_those_that_are_written() {
+    for file in &FILES {
+        let (text, expected) = (committed(file), file.text());
+        let lines = text.lines().zip(expected.lines());
+        for (line, expected) in lines {
+            assert_eq!(line, expected, "{}", file.name);
+        }
+        assert_eq!(text.len(), expected.len(), "{}", file.name);
+    }
+    let listed = FILES.iter().map(|file| file.name.to_string());
+    let mut listed: BTreeSet<String> = listed.collect();
+    listed.insert("README.md".to_string());
+    let names = fs::read_dir(vectors::folder()).expect("the folder of the files");
+    let names = names.map(|entry| entry.expect("an entry").file_name());
+    let found: BTreeSet<String> = names.map(|name| name.into_string().unwrap()).collect();
+    assert_eq!(found, listed);
+}
+
+#[test]
+fn the_model_and_the_library_answer_so() {
+    for line in calls() {
+        assert!(line.case.of_model() == line.outcome, "{}", line.name);
+        assert!(line.case.of_library() == line.outcome, "{}", line.name);
+    }
+    for show in shows() {
+        assert_eq!(compare::show(&show.input), show.printed, "{}", show.name);
+    }
+}
+
+#[test]
+fn no_two_are_the_same() {
+    let vectors = all();
+    let names: BTreeSet<&str> = vectors.iter().map(Vector::name).collect();
+    assert_eq!(names.len(), vectors.len());
+    let (calls, shows) = (calls(), shows());
+    let mut cases: HashSet<&Case> = HashSet::new();
+    for line in &calls {
+        assert!(cases.insert(&line.case), "{}", line.name);
+    }
+    let inputs: BTreeSet<&Vec<u8>> = shows.iter().map(|show| &show.input).collect();
+    assert_eq!(inputs.len(), shows.len());
+}
+
+/// Lines are short enough to be read.
+#[test]
+fn no_line_is_long() {
+    for vector in all() {
+        assert!(vector.to_string().len() < 15_000, "{}", vector.name());
+    }
+}
+
+#[test]
+fn each_call_gives_each_of_its_answers() {
+    let mut given: BTreeMap<&str, BTreeSet<u64>> = BTreeMap::new();
+    for line in calls() {
+        let numbers = given.entry(line.case.call()).or_default();
+        numbers.insert(line.outcome.answer.number());
+    }
+    for blank in Case::blanks() {
+        let expected = blank.answer_numbers().iter().copied().collect();
+        assert_eq!(given[blank.call()], expected, "{}", blank.call());
+    }
+}
+
+/// Refusals with their borders: the number, a line that just passes its test, and one that just
+/// does not.
+const BORDERS: [(u64, &str, &str); 60] = [
+    (
+        1,
+        "check_grammar: example F, N 256",
+        "check_grammar: example F, N 257",
+    ),
+    (
+        1,
+        "check_grammar: example B, constant",
+        "check_grammar: N 0",
+    ),
+    (2, "check_grammar: M 1,024", "check_grammar: M 1,025"),
+    (
+        2,
+        "check_grammar: 1,794 words",
+        "check_grammar: 1,793 words, one missing",
+    ),
+    (
+        2,
+        "check_grammar: 1,794 words",
+        "check_grammar: 1,795 words, one too many",
+    ),
+    (
+        3,
+        "check_grammar: example D, union without cases",
+        "check_grammar: kind 9",
+    ),
+    (
+        4,
+        "check_grammar: example C, array of constants",
+        "check_grammar: array with count 0",
+    ),
+    (
+        4,
+        "check_grammar: example C, array of constants",
+        "check_grammar: array with count 2",
+    ),
+    (
+        4,
+        "check_grammar: array with the last child word",
+        "check_grammar: array with its child at M",
+    ),
+    (
+        4,
+        "check_grammar: tuple with first+count at M",
+        "check_grammar: tuple with first+count above M",
+    ),
+    (
+        4,
+        "check_grammar: count 0 and first at M",
+        "check_grammar: tuple with count 0 and first above M",
+    ),
+    (
+        4,
+        "check_grammar: union with first+count at M",
+        "check_grammar: union with first+count above M",
+    ),
+    (
+        4,
+        "check_grammar: a tuple of 1,024 fields",
+        "check_grammar: first+count 1,025",
+    ),
+    (
+        5,
+        "check_grammar: child that is the next node",
+        "check_grammar: child that is its node",
+    ),
+    (
+        5,
+        "check_grammar: child that is the next node",
+        "check_grammar: child number N",
+    ),
+    (
+        5,
+        "check_grammar: node 255 as the last child word",
+        "check_grammar: child number 256 of N 256",
+    ),
+    (
+        6,
+        "demarshall: a record of 1,048,576 bytes",
+        "demarshall: a record of 1,048,577 bytes",
+    ),
+    (
+        6,
+        "check_whole: a record of 1,048,576 bytes",
+        "check_whole: a record of 1,048,577 bytes",
+    ),
+    (
+        6,
+        "parse_val: the end of 1,048,576 bytes",
+        "parse_val: the end of 1,048,577 bytes",
+    ),
+    (
+        6,
+        "check_val: the end of 1,048,576 bytes",
+        "check_val: the end of 1,048,577 bytes",
+    ),
+    (
+        6,
+        "compute_size_of: a store of 1,048,576 bytes",
+        "compute_size_of: a store of 1,048,577 bytes",
+    ),
+    (
+        6,
+        "locate_array: a store of 1,048,576 bytes",
+        "locate_array: a store of 1,048,577 bytes",
+    ),
+    (
+        6,
+        "marshall: a store of 1,048,576 bytes",
+        "marshall: a store of 1,048,577 bytes",
+    ),
+    (
+        6,
+        "same_route: records of 1,048,576 bytes",
+        "same_route: 6 of both records",
+    ),
+    (
+        7,
+        "unpack_u32: index at the length",
+        "unpack_u32: index above the length, 7 before 9",
+    ),
+    (
+        7,
+        "unpack_u64_seq: no numbers at the length",
+        "unpack_u64_seq: no numbers above the length",
+    ),
+    (
+        7,
+        "parse_val: index at the length of a constant",
+        "parse_val: index above the length",
+    ),
+    (
+        7,
+        "check_val: index at the length of a constant",
+        "check_val: index above the length",
+    ),
+    (
+        8,
+        "demarshall: example C, capacity 4",
+        "demarshall: example C, capacity 3",
+    ),
+    (
+        8,
+        "demarshall: 17 words for 4 rows",
+        "demarshall: 15 words for 4 rows",
+    ),
+    (
+        8,
+        "demarshall: 4 words for 1 row",
+        "demarshall: 3 words for 1 row",
+    ),
+    (
+        8,
+        "demarshall: count at the rows left",
+        "demarshall: count above the rows left",
+    ),
+    (
+        8,
+        "demarshall: as many rows as needed",
+        "demarshall: no row left at the last field",
+    ),
+    (
+        8,
+        "demarshall: 4,096 rows",
+        "demarshall: more rows than 4,096 lent are none",
+    ),
+    (8, "check_whole: 4,096 rows", "check_whole: 4,097 rows"),
+    (8, "check_val: 4,096 rows", "check_val: 4,097 rows"),
+    (9, "demarshall: uint32", "demarshall: uint32, 3 bytes"),
+    (9, "demarshall: uint64", "demarshall: uint64, 7 bytes"),
+    (
+        9,
+        "demarshall: byte array",
+        "demarshall: an element of a byte array is missing",
+    ),
+    (
+        9,
+        "demarshall: uint32 array of two",
+        "demarshall: a byte of the last uint32 is missing",
+    ),
+    (
+        9,
+        "demarshall: uint64 array",
+        "demarshall: a byte of the last uint64 is missing",
+    ),
+    (
+        9,
+        "unpack_u32: the last 4 bytes",
+        "unpack_u32: 3 bytes left",
+    ),
+    (
+        9,
+        "unpack_u64: the last 8 bytes",
+        "unpack_u64: 7 bytes left",
+    ),
+    (
+        9,
+        "unpack_u32_seq: two numbers up to the end",
+        "unpack_u32_seq: a byte of the second is missing",
+    ),
+    (
+        10,
+        "demarshall: tag below the case count",
+        "demarshall: tag at the case count",
+    ),
+    (
+        11,
+        "demarshall: uint32",
+        "demarshall: uint32, a byte left over",
+    ),
+    (
+        11,
+        "demarshall: example B, constant",
+        "demarshall: example B, one byte",
+    ),
+    (12, "compute_size_of: n 4,096", "compute_size_of: n 4,097"),
+    (12, "compute_size_of: constant", "compute_size_of: n 0"),
+    (
+        12,
+        "compute_size_of: constant",
+        "compute_size_of: a word missing for n",
+    ),
+    (
+        13,
+        "compute_size_of: example H, number 4,294,967,295",
+        "compute_size_of: example H, number 4,294,967,296",
+    ),
+    (
+        14,
+        "compute_size_of: byte array up to the store's end",
+        "compute_size_of: byte array a byte beyond the store",
+    ),
+    (
+        14,
+        "compute_size_of: uint32 array up to the store's end",
+        "compute_size_of: uint32 array a byte beyond the store",
+    ),
+    (
+        14,
+        "compute_size_of: uint64 array up to the store's end",
+        "compute_size_of: uint64 array a byte beyond the store",
+    ),
+    (
+        15,
+        "marshall: case 1, a uint32",
+        "marshall: tag at the case count",
+    ),
+    (16, "marshall: size 1,048,576", "marshall: size 1,048,577"),
+    (
+        17,
+        "marshall: example G, 14 bytes",
+        "marshall: example G, 13 bytes",
+    ),
+    (
+        17,
+        "pack_u32: the last 4 bytes",
+        "pack_u32: 3 bytes of room",
+    ),
+    (
+        18,
+        "locate_array: example A, the byte array",
+        "locate_array: row number n",
+    ),
+    (
+        18,
+        "locate_array: example A, the byte array",
+        "locate_array: example A, the uint32",
+    ),
+];
+
+#[test]
+fn both_sides_of_each_border() {
+    let calls = calls();
+    let number_of = |name: &str| {
+        let line = calls.iter().find(|line| line.name == name);
+        line.expect(name).outcome.answer.number()
+    };
+    for (number, passes, is_refused) in BORDERS {
+        assert_ne!(number_of(passes), number, "{passes}");
+        assert_eq!(number_of(is_refused), number, "{is_refused}");
+    }
+    let numbers: BTreeSet<u64> = BORDERS.iter().map(|border| border.0).collect();
+    assert!(numbers.into_iter().eq(1..=18));
+}
+
+/// The borders of refusal 19, which the show program alone gives.
+#[test]
+fn both_sides_of_refusal_19() {
+    let shows = shows();
+    let is_19 = |name: &str| {
+        let show = shows.iter().find(|show| show.name == name);
+        show.expect(name).printed.starts_with("refused 19 byte ")
+    };
+    for name in ["show: example A", "show: 65,536 bytes", "show: 1,794 words"] {
+        assert!(!is_19(name), "{name}");
+    }
+    for name in [
+        "show: example A and a byte more",
+        "show: example A, the input cut by a byte",
+        "show: 65,537 bytes",
+        "show: 1,795 words",
+    ] {
+        assert!(is_19(name), "{name}");
+    }
+}
+
+/// What a check of this text counts, and the numbers of the lines that fail.
+fn checked(text: &str) -> (Counts, Vec<usize>) {
+    let (mut counts, mut failed) = (Counts::default(), Vec::new());
+    check(text, &mut counts, |at, _| failed.push(at));
+    (counts, failed)
+}
+
+#[test]
+fn a_check_sees_a_wrong_line() {
+    let text = FILES[0].text();
+    let lines: Vec<&str> = text.lines().take(3).collect();
+    let sound = lines.join("\n");
+    let (passed, failed) = (3, 0);
+    assert_eq!(checked(&sound), (Counts { passed, failed }, vec![]));
+    let wrong = lines[1].replace(
+        "\"accepted\": {\"number\": \"7",
+        "\"accepted\": {\"number\": \"8",
+    );
+    assert_ne!(wrong, lines[1]);
+    let text = [lines[0], &wrong, lines[2], "{}"].join("\n");
+    let (passed, failed) = (2, 2);
+    assert_eq!(checked(&text), (Counts { passed, failed }, vec![2, 4]));
+}
+
+/// An accepted line says what the whole lent buffer holds, and a changed byte of it is seen.
+#[test]
+fn a_check_sees_a_wrong_buffer() {
+    let calls = calls();
+    let lends = |line: &&Line| {
+        let is_accepted = matches!(line.outcome.answer, Answer::Accepted(_));
+        is_accepted && line.name == "pack_u32: least byte first, between other bytes"
+    };
+    let line = calls.iter().find(lends).expect("the line");
+    let text = line.to_json().to_string();
+    assert_eq!(checked(&text).0.failed, 0);
+    let wrong = text.replace("[\"EE02010000EE\"]", "[\"EE02010000EF\"]");
+    assert_ne!(wrong, text);
+    assert_eq!(checked(&wrong).0.failed, 1);
+}
