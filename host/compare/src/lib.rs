@@ -6,33 +6,40 @@
 #![deny(missing_docs)]
 
 mod case;
+mod difference;
 mod grammar;
 pub mod json;
 mod line;
 pub mod list;
 mod packed;
 mod random;
+mod random_case;
 mod reading;
 mod record;
 mod row_table;
 mod rows;
+mod run;
 mod same_route;
 mod show;
+mod shrink;
 mod table;
 mod tally;
 mod writing;
 
 pub use case::{Answer, Case, Field, Outcome};
+pub use difference::Difference;
 pub use grammar::check_grammar;
 pub use line::{Line, BYTES};
 pub use packed::{narrow, Calls, Number, U32, U64};
 pub use random::Random;
 pub use reading::{check_val, check_whole, demarshall, parse_val};
 pub use record::{for_each_record, for_some_records, Record, RECORDS};
-pub use row_table::{element_width, RowTable};
+pub use row_table::{element_width, RowInput, RowTable};
 pub use rows::{compute_size_of, locate_array};
+pub use run::{run, Answers};
 pub use same_route::same_route;
 pub use show::{show, show_by_model, show_by_program, show_from, show_in_pieces, show_input};
+pub use shrink::shrink;
 pub use table::{chain, leaf, table, Table};
 pub use tally::Tally;
 pub use writing::Value;

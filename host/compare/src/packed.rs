@@ -11,10 +11,10 @@ impl Number for u64 {}
 
 /// The cases of one width.
 pub struct Calls<N> {
-    unpack: fn(Vec<u8>, usize) -> Case,
-    pack: fn(N, Vec<u8>, usize) -> Case,
-    unpack_seq: fn(Vec<u8>, usize, Vec<N>) -> Case,
-    pack_seq: fn(Vec<N>, Vec<u8>, usize) -> Case,
+    pub(crate) unpack: fn(Vec<u8>, usize) -> Case,
+    pub(crate) pack: fn(N, Vec<u8>, usize) -> Case,
+    pub(crate) unpack_seq: fn(Vec<u8>, usize, Vec<N>) -> Case,
+    pub(crate) pack_seq: fn(Vec<N>, Vec<u8>, usize) -> Case,
 }
 
 /// The cases for numbers of 4 bytes.

@@ -1,4 +1,4 @@
-//! Random records of a grammar, written by the byte rule.
+//! Random records of a grammar, written by the byte rule, and faults in them.
 
 use crate::{Random, Table};
 
@@ -54,6 +54,25 @@ impl Record {
         };
         writer.value(0);
         Some(writer.record)
+    }
+
+    /// Changes one byte, or one count or tag to a limit or to a number next to one. The record is
+    /// not empty.
+    pub fn damage(&mut self, random: &mut Random) {
+        let end = self.bytes.len();
+        if self.counts.is_empty() || random.below(3) == 0 {
+            self.bytes[random.below(end)] ^= 1 << random.below(8);
+            return;
+        }
+        let at = random.pick(&self.counts);
+        let count = &mut self.bytes[at..at + 8];
+        let old = u64::from_le_bytes((&*count).try_into().expect("8 bytes"));
+        let left = (end - at - 8) as u64;
+        let limits = [old, left, left / 4, left / 8, 4_096, 1 << 61, 1 << 62, 0];
+        let new = random
+            .pick(&limits)
+            .wrapping_add(random.pick(&[0, 1, u64::MAX]));
+        count.copy_from_slice(&new.to_le_bytes());
     }
 }
 

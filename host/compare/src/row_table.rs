@@ -1,4 +1,4 @@
-//! Random row tables: sound ones, and a fault in one word.
+//! Random row tables: sound ones, and faults in their words, in the row count and in the store.
 
 use crate::Random;
 
@@ -118,5 +118,58 @@ impl RowTable {
                 .pick(&limits)
                 .wrapping_add(random.pick(&[0, 1, u64::MAX]));
         }
+    }
+}
+
+/// What a call on value rows is given: the words, the row count and the store.
+#[derive(Clone)]
+pub struct RowInput {
+    /// The words of the rows.
+    pub words: Vec<u64>,
+    /// How many rows are the value's.
+    pub n: usize,
+    /// The store.
+    pub store: Vec<u8>,
+}
+
+impl RowInput {
+    /// A table as it is.
+    pub fn of(table: &RowTable) -> RowInput {
+        RowInput {
+            words: table.words(),
+            n: table.rows.len(),
+            store: table.record.clone(),
+        }
+    }
+
+    /// Puts the row of a constant behind the others, and makes the row count another one.
+    pub fn damage_n(&mut self, random: &mut Random) {
+        let n = self.n;
+        self.words.extend([0, 1, 0, 0]);
+        let other = [
+            n.wrapping_sub(1),
+            n.wrapping_add(1),
+            n.wrapping_add(1 << 62),
+        ];
+        self.n = random.pick(&[&other[..], &[0, 4_096, 4_097, usize::MAX]].concat());
+    }
+
+    /// Leaves out the last words, or puts a few behind the others.
+    pub fn damage_words(&mut self, random: &mut Random) {
+        let length = self.words.len();
+        let most = random.pick(&[length.saturating_sub(1), length + 9]);
+        self.words.resize(random.within(0..=most), 9);
+    }
+
+    /// Leaves out the store's last bytes, or makes it as long as it may be, or too long.
+    pub fn damage_store(&mut self, random: &mut Random) {
+        let length = self.store.len();
+        let other = match random.below(80) {
+            0 => 1_048_576,
+            1 => 1_048_577,
+            2..40 => length.saturating_sub(1),
+            _ => random.within(0..=length),
+        };
+        self.store.resize(other, 0);
     }
 }

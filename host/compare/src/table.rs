@@ -1,4 +1,4 @@
-//! Random grammar tables: sound ones, and a fault in one word.
+//! Random grammar tables: sound ones, and faults in their words or in their number.
 
 use crate::Random;
 
@@ -83,6 +83,20 @@ impl Table {
             let limits = [0, 8, 256, 1_024, 1 << 31, k as u32, n as u32, m as u32, old];
             words[at] = random.pick(&limits);
             words[at] = words[at].wrapping_add(random.pick(&[0, 1, u32::MAX]));
+        }
+    }
+
+    /// Leaves out the last words, often all behind the end of a section.
+    pub fn truncate(&self, random: &mut Random, words: &mut Vec<u32>) {
+        let nodes_end = 1 + 3 * self.nodes.len();
+        let section_end = random.pick(&[1, nodes_end, nodes_end + 1, words.len()]);
+        words.truncate(random.within(0..=section_end).min(words.len() - 1));
+    }
+
+    /// Puts a few words behind the others.
+    pub fn extend(random: &mut Random, words: &mut Vec<u32>) {
+        for _ in 0..random.within(1..=4) {
+            words.push(random.number() as u32 % 3);
         }
     }
 }

@@ -35,21 +35,6 @@ fn tally_with(seed: u64, fault: impl Fn(&mut Random, &Table, &mut Vec<u32>)) -> 
     }))
 }
 
-/// Leaves out the last words, often all behind the end of a section. They stay in memory, where a
-/// call that reads past the end finds them.
-fn truncate(random: &mut Random, table: &Table, words: &mut Vec<u32>) {
-    let nodes_end = 1 + 3 * table.nodes.len();
-    let section_end = random.pick(&[1, nodes_end, nodes_end + 1, words.len()]);
-    words.truncate(random.within(0..=section_end).min(words.len() - 1));
-}
-
-/// Puts a few words behind the others.
-fn extend(random: &mut Random, _: &Table, words: &mut Vec<u32>) {
-    for _ in 0..random.within(1..=4) {
-        words.push(random.number() as u32 % 3);
-    }
-}
-
 /// No answer was rare.
 fn assert_each_answer(tally: Tally) {
     assert!(tally.iter().all(|&count| count >= 100), "{tally:?}");
@@ -70,14 +55,15 @@ fn damaged_in_one_word() {
 
 #[test]
 fn truncated() {
-    let [_, empty, short, ..] = tally_with(13, truncate);
+    let [_, empty, short, ..] =
+        tally_with(13, |random, table, words| table.truncate(random, words));
     assert!(empty > 0 && short > 0);
     assert_eq!(empty + short, TABLES);
 }
 
 #[test]
 fn extended() {
-    let tally = tally_with(14, extend);
+    let tally = tally_with(14, |random, _, words| Table::extend(random, words));
     assert_eq!(tally, [0, 0, TABLES, 0, 0, 0]);
 }
 
@@ -86,8 +72,8 @@ fn with_two_faults() {
     assert_each_answer(tally_with(15, |random, table, words| {
         table.damage(random, words);
         match random.below(4) {
-            0 => truncate(random, table, words),
-            1 => extend(random, table, words),
+            0 => table.truncate(random, words),
+            1 => Table::extend(random, words),
             _ => table.damage(random, words),
         }
     }));

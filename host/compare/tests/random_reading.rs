@@ -145,23 +145,6 @@ fn lengthened_records() {
     tally.assert_are(&[0, 11]);
 }
 
-/// Changes one byte, or one count or tag to a limit or to a number next to one.
-fn flip(random: &mut Random, record: &mut Record) {
-    let end = record.bytes.len();
-    if record.counts.is_empty() || random.below(3) == 0 {
-        record.bytes[random.below(end)] ^= 1 << random.below(8);
-        return;
-    }
-    let at = random.pick(&record.counts);
-    let old = u64::from_le_bytes(record.bytes[at..at + 8].try_into().expect("8 bytes"));
-    let left = (end - at - 8) as u64;
-    let limits = [old, left, left / 4, left / 8, 4_096, 1 << 61, 1 << 62, 0];
-    let new = random
-        .pick(&limits)
-        .wrapping_add(random.pick(&[0, 1, u64::MAX]));
-    record.bytes[at..at + 8].copy_from_slice(&new.to_le_bytes());
-}
-
 #[test]
 fn flipped_records() {
     let mut tally = Tally::default();
@@ -169,7 +152,7 @@ fn flipped_records() {
         let words = enough(random, &record);
         for _ in 0..random.within(1..=10) {
             if !record.bytes.is_empty() {
-                flip(random, &mut record);
+                record.damage(random);
                 compare_all(&mut tally, grammar, &record.bytes, 0, words);
             }
         }

@@ -2,50 +2,7 @@
 
 use std::collections::BTreeMap;
 
-use compare::{compute_size_of, element_width, locate_array, Random, RowTable};
-
-/// What a call is given: the words, the row count and the store.
-struct Input {
-    words: Vec<u64>,
-    n: usize,
-    store: Vec<u8>,
-}
-
-impl Input {
-    fn of(table: &RowTable) -> Input {
-        Input {
-            words: table.words(),
-            n: table.rows.len(),
-            store: table.record.clone(),
-        }
-    }
-
-    /// Puts the row of a constant behind the others, and makes the row count another one.
-    fn damage_n(&mut self, random: &mut Random) {
-        let n = self.n;
-        self.words.extend([0, 1, 0, 0]);
-        self.n = random.pick(&[0, n - 1, n + 1, 4_096, 4_097, n + (1 << 62), usize::MAX]);
-    }
-
-    /// Leaves out the last words, or puts a few behind the others.
-    fn damage_words(&mut self, random: &mut Random) {
-        let length = self.words.len();
-        let most = random.pick(&[length - 1, length + 9]);
-        self.words.resize(random.within(0..=most), 9);
-    }
-
-    /// Leaves out the store's last bytes, or makes it as long as it may be, or too long.
-    fn damage_store(&mut self, random: &mut Random) {
-        let length = self.store.len();
-        let other = match random.below(80) {
-            0 => 1_048_576,
-            1 => 1_048_577,
-            2..40 => length.saturating_sub(1),
-            _ => random.within(0..=length),
-        };
-        self.store.resize(other, 0);
-    }
-}
+use compare::{compute_size_of, element_width, locate_array, Random, RowInput, RowTable};
 
 /// How often each answer was given: 0 for an accepted call, else the refusal's number.
 #[derive(Default)]
@@ -53,8 +10,8 @@ struct Tally(BTreeMap<u64, usize>);
 
 impl Tally {
     /// Compares all calls on the input, the locator for a few rows of each sort.
-    fn add(&mut self, random: &mut Random, table: &RowTable, input: &Input) {
-        let Input { words, n, store } = input;
+    fn add(&mut self, random: &mut Random, table: &RowTable, input: &RowInput) {
+        let RowInput { words, n, store } = input;
         let size = compute_size_of(words, *n, store).map(drop);
         let mut rows = vec![0, *n, n.wrapping_sub(1), usize::MAX];
         rows.push(random.below(table.rows.len()));
@@ -86,7 +43,7 @@ const TABLES: usize = 10_000;
 
 /// The answers on the inputs that `fault` makes of sound tables of up to 60 rows. In half of them
 /// the arrays lie anywhere in the store.
-fn tally_with(seed: u64, fault: impl Fn(&mut Random, &mut RowTable) -> Input) -> Tally {
+fn tally_with(seed: u64, fault: impl Fn(&mut Random, &mut RowTable) -> RowInput) -> Tally {
     let mut random = Random::new(seed);
     let mut tally = Tally::default();
     for _ in 0..TABLES {
@@ -122,7 +79,7 @@ fn assert_sound(table: &RowTable) {
 fn sound() {
     let tally = tally_with(21, |_, table| {
         assert_sound(table);
-        Input::of(table)
+        RowInput::of(table)
     });
     tally.assert_are(&[0, 18]);
 }
@@ -142,7 +99,7 @@ fn sound_and_large() {
 fn damaged_in_one_word() {
     let tally = tally_with(23, |random, table| {
         table.damage(random);
-        Input::of(table)
+        RowInput::of(table)
     });
     tally.assert_are(&[0, 13, 14, 18]);
 }
@@ -155,7 +112,7 @@ fn damaged_and_large() {
         let n = random.within(1_000..=4_096);
         let mut table = RowTable::sound(&mut random, n);
         table.damage(&mut random);
-        tally.add(&mut random, &table, &Input::of(&table));
+        tally.add(&mut random, &table, &RowInput::of(&table));
     }
     assert_eq!(tally.answers(), [0, 13, 14, 18]);
 }
@@ -163,7 +120,7 @@ fn damaged_and_large() {
 #[test]
 fn with_another_row_count() {
     let tally = tally_with(24, |random, table| {
-        let mut input = Input::of(table);
+        let mut input = RowInput::of(table);
         input.damage_n(random);
         input
     });
@@ -173,7 +130,7 @@ fn with_another_row_count() {
 #[test]
 fn with_other_words() {
     let tally = tally_with(25, |random, table| {
-        let mut input = Input::of(table);
+        let mut input = RowInput::of(table);
         input.damage_words(random);
         input
     });
@@ -183,7 +140,7 @@ fn with_other_words() {
 #[test]
 fn with_another_store() {
     let tally = tally_with(26, |random, table| {
-        let mut input = Input::of(table);
+        let mut input = RowInput::of(table);
         input.damage_store(random);
         input
     });
@@ -198,7 +155,7 @@ fn with_two_faults() {
         if second == 0 {
             table.damage(random);
         }
-        let mut input = Input::of(table);
+        let mut input = RowInput::of(table);
         match second {
             1 => input.damage_n(random),
             2 => input.damage_words(random),

@@ -3,6 +3,7 @@
 
 use std::collections::{BTreeMap, BTreeSet, HashSet};
 use std::fs;
+use std::process::Command;
 
 use compare::{Answer, Case, Line};
 use vectors::{check, Counts, Show, Vector, FILES};
@@ -449,4 +450,25 @@ fn a_check_sees_a_wrong_buffer() {
     let wrong = text.replace("[\"EE02010000EE\"]", "[\"EE02010000EF\"]");
     assert_ne!(wrong, text);
     assert_eq!(checked(&wrong).0.failed, 1);
+}
+
+/// Whether the program's check of these paths succeeds, and its last line.
+fn program_checks(paths: &[&str]) -> (bool, String) {
+    let mut command = Command::new(env!("CARGO_BIN_EXE_vectors"));
+    let output = command.arg("check").args(paths).output();
+    let output = output.expect("the program runs");
+    let text = String::from_utf8(output.stdout).expect("text");
+    let last = text.lines().last().expect("a line").to_string();
+    (output.status.success(), last)
+}
+
+#[test]
+fn the_program_checks_files() {
+    let path = FILES[0].path();
+    let path = path.to_str().expect("text");
+    let lines = committed(&FILES[0]).lines().count();
+    let passed = format!("{lines} passed, 0 failed");
+    assert_eq!(program_checks(&[path]), (true, passed));
+    let failed = format!("{lines} passed, 1 failed");
+    assert_eq!(program_checks(&[path, "no such file"]), (false, failed));
 }

@@ -11,6 +11,8 @@ pub use outcome::{Answer, Outcome};
 
 use field::Given;
 
+use crate::Difference;
+
 /// Defines the cases: a variant for each call, with the call's name, what it is given, the buffer
 /// that is lent to it and the numbers that it gives when it is accepted.
 macro_rules! cases {
@@ -165,10 +167,15 @@ impl Case {
     /// What comes of the case, by both. Panics with the case where they differ.
     pub fn compare(&self) -> Outcome {
         let (model, library) = (self.of_model(), self.of_library());
-        assert!(
-            library == model,
-            "{self:?}\nby the library {library:?}\nby the model {model:?}"
-        );
+        if library != model {
+            let case = self.clone();
+            let difference = Difference {
+                case,
+                model,
+                library,
+            };
+            panic!("the model and the library differ:\n{difference}");
+        }
         library
     }
 }

@@ -1,0 +1,38 @@
+//! A case on which the library and the model differ.
+
+use std::fmt;
+
+use crate::{Case, Line, Outcome};
+
+/// A case on which the library and the model differ.
+#[derive(Debug)]
+pub struct Difference {
+    /// The case.
+    pub case: Case,
+    /// What comes of it by the model.
+    pub model: Outcome,
+    /// What comes of it by the library.
+    pub library: Outcome,
+}
+
+impl fmt::Display for Difference {
+    fn fmt(&self, f: &mut fmt::Formatter) -> fmt::Result {
+        let line = |name: &str, outcome: &Outcome| {
+            let (name, case) = (name.to_string(), self.case.clone());
+            let outcome = outcome.clone();
+            let line = Line {
+                name,
+                case,
+                outcome,
+            };
+            line.to_json()
+        };
+        let (model, library) = (&self.model, &self.library);
+        writeln!(f, "{}", line("by the model", model))?;
+        write!(f, "{}", line("by the library", library))?;
+        if model.answer == library.answer && model.after() == library.after() {
+            write!(f, "\nthe lent buffers differ around the part lent")?;
+        }
+        Ok(())
+    }
+}

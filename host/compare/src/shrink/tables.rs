@@ -1,0 +1,192 @@
+//! Leaving out rows, nodes and child words, so that a sound table stays sound where it can. Any
+//! content of the tables is possible.
+
+use std::ops::Range;
+
+use crate::{Case, Field};
+
+/// The words of the grammar that a call is given.
+fn grammar_of(case: &mut Case) -> Option<&mut Vec<u32>> {
+    case.fields().into_iter().find_map(|field| match field {
+        ("grammar", Field::Uint32s(words)) => Some(words),
+        _ => None,
+    })
+}
+
+/// The words of the rows that a call reads, and their count.
+fn rows_of(case: &mut Case) -> Option<(&mut Vec<u64>, &mut usize)> {
+    let (mut rows, mut count) = (None, None);
+    for field in case.fields() {
+        match field {
+            ("rows", Field::Uint64s(words)) => rows = Some(words),
+            ("n", Field::Size(n)) => count = Some(n),
+            _ => (),
+        }
+    }
+    Some((rows?, count?))
+}
+
+/// N and M of a table whose length is that of its counts.
+fn sections(words: &[u32]) -> Option<(usize, usize)> {
+    let n = *words.first()? as usize;
+    let m = *words.get(1 + n.checked_mul(3)?)? as usize;
+    (words.len() == 2 + 3 * n + m).then_some((n, m))
+}
+
+/// How many parts of a case's tables can be left out one by one.
+pub(super) struct Counts {
+    /// Rows of the row table.
+    pub(super) rows: usize,
+    /// Values directly in the root of the row table.
+    pub(super) in_root: usize,
+    /// Nodes of the grammar.
+    pub(super) nodes: usize,
+    /// Child words of the grammar.
+    pub(super) child_words: usize,
+}
+
+/// The counts of a case.
+pub(super) fn counts(case: &mut Case) -> Counts {
+    let grammar = grammar_of(case).and_then(|words| sections(words));
+    let (nodes, child_words) = grammar.unwrap_or((0, 0));
+    let (rows, in_root) = match rows_of(case) {
+        Some((rows, n)) if (1..=rows.len() / 4).contains(n) => (*n, children(rows, *n).len()),
+        _ => (0, 0),
+    };
+    Counts {
+        rows,
+        in_root,
+        nodes,
+        child_words,
+    }
+}
+
+/// The rows of a row's value, as far as there are so many.
+fn value(rows: &[u64], n: usize, row: usize) -> Range<usize> {
+    let most = n.min(rows.len() / 4);
+    let end = (row as u64).saturating_add(rows[4 * row + 1]);
+    row..(end.min(most as u64) as usize).max(row + 1)
+}
+
+/// The rows of the values directly in the root.
+fn children(rows: &[u64], n: usize) -> Vec<Range<usize>> {
+    let (root, mut children) = (value(rows, n, 0), Vec::new());
+    let mut next = 1;
+    while next < root.end {
+        let child = value(rows, n, next);
+        next = child.end;
+        children.push(child);
+    }
+    children
+}
+
+/// Keeps these rows alone.
+fn keep(rows: &mut Vec<u64>, n: &mut usize, kept: Range<usize>) {
+    *n = kept.len();
+    *rows = rows[4 * kept.start..4 * kept.end].to_vec();
+}
+
+/// Keeps the rows of a row's value alone.
+pub(super) fn keep_value(case: &mut Case, row: usize) {
+    if let Some((rows, n)) = rows_of(case) {
+        let kept = value(rows, *n, row);
+        keep(rows, n, kept);
+    }
+}
+
+/// Keeps a child of the root alone, and makes its node the root of the grammar.
+pub(super) fn keep_child(case: &mut Case, child: usize) {
+    let Some((rows, n)) = rows_of(case) else {
+        return;
+    };
+    let (kind, tag) = (rows[0], rows[2]);
+    let kept = children(rows, *n)[child].clone();
+    keep(rows, n, kept);
+    let field = match kind {
+        4 => child,
+        8 => tag as usize,
+        _ => 0,
+    };
+    let is_sound = |words: &&mut Vec<u32>| sections(words).is_some_and(|(n, _)| n > 0);
+    if let Some(words) = grammar_of(case).filter(is_sound) {
+        let child_words = 2 + 3 * words[0] as usize;
+        let place = (words[2] as usize).saturating_add(field);
+        let node = words[child_words..].get(place).copied().unwrap_or(0);
+        (0..node.min(words[0] - 1)).for_each(|_| remove_node(words, 0));
+    }
+}
+
+/// Leaves out rows of values that follow each other, so many, in the same value. The spans that
+/// reach over them become less, and so does the count of their parent, if that is an array or a
+/// tuple.
+fn remove_values(rows: &mut Vec<u64>, n: &mut usize, removed: Range<usize>, values: usize) {
+    let mut parent = None;
+    for other in 0..removed.start {
+        if value(rows, *n, other).end >= removed.end {
+            parent = Some(other);
+            let span = &mut rows[4 * other + 1];
+            *span = span.saturating_sub(removed.len() as u64);
+        }
+    }
+    if let Some(parent) = parent.filter(|&parent| matches!(rows[4 * parent], 3 | 4)) {
+        let count = &mut rows[4 * parent + 2];
+        *count = count.saturating_sub(values as u64);
+    }
+    *n -= removed.len();
+    rows.drain(4 * removed.start..4 * removed.end);
+}
+
+/// Leaves out the rows of a row's value.
+pub(super) fn drop_value(case: &mut Case, row: usize) {
+    if let Some((rows, n)) = rows_of(case) {
+        let removed = value(rows, *n, row);
+        remove_values(rows, n, removed, 1);
+    }
+}
+
+/// Leaves out the rows of children of the root.
+pub(super) fn drop_children(case: &mut Case, range: &Range<usize>) {
+    if let Some((rows, n)) = rows_of(case) {
+        let removed = &children(rows, *n)[range.clone()];
+        let (first, last) = (&removed[0], &removed[range.len() - 1]);
+        remove_values(rows, n, first.start..last.end, range.len());
+    }
+}
+
+/// Leaves out a node. Child words above its number become one less.
+fn remove_node(words: &mut Vec<u32>, node: usize) {
+    words[0] -= 1;
+    words.drain(1 + 3 * node..4 + 3 * node);
+    let children = 2 + 3 * words[0] as usize;
+    for child in &mut words[children..] {
+        if *child as usize > node {
+            *child -= 1;
+        }
+    }
+}
+
+/// Leaves out a node of the grammar.
+pub(super) fn drop_node(case: &mut Case, node: usize) {
+    if let Some(words) = grammar_of(case) {
+        remove_node(words, node);
+    }
+}
+
+/// Leaves out a child word. Nodes that have it get a count that is one less, and those whose child
+/// words stand behind it a first that is one less.
+pub(super) fn drop_child(case: &mut Case, child: usize) {
+    let Some(words) = grammar_of(case) else {
+        return;
+    };
+    let children = 2 + 3 * words[0] as usize;
+    words.remove(children + child);
+    words[children - 1] -= 1;
+    for node in words[1..children - 1].chunks_mut(3) {
+        let (first, count) = (node[1] as usize, node[2] as usize);
+        if first > child {
+            node[1] -= 1;
+        } else if child - first < count {
+            node[2] -= 1;
+        }
+    }
+}

@@ -1,0 +1,81 @@
+//! A short run over random cases of all calls. The long one is the program of this crate.
+
+use std::process::{Command, Output};
+
+use compare::{run, Answer, Answers, Case, Outcome};
+
+/// The answers of a run of so many cases.
+fn run_cases(seed: u64, cases: u64) -> Answers {
+    let (mut answers, mut left) = (Answers::default(), cases);
+    let goes_on = || {
+        left = left.saturating_sub(1);
+        left > 0
+    };
+    let result = run(seed, Case::of_library, goes_on, &mut answers);
+    if let Err(difference) = result {
+        panic!("{difference}");
+    }
+    answers
+}
+
+/// Every call gives every answer that it can give, and no other.
+#[test]
+fn each_call_gives_each_of_its_answers() {
+    let answers = run_cases(1, 8_000);
+    let mut total = 0;
+    for blank in Case::blanks() {
+        for &number in blank.answer_numbers() {
+            let count = answers.count(blank.call(), number);
+            assert!(count > 0, "{} never gave {number}", blank.call());
+            total += count;
+        }
+    }
+    assert_eq!(total, answers.total());
+}
+
+#[test]
+fn a_seed_gives_the_same_cases_again() {
+    let answers = run_cases(4, 1_000);
+    assert_eq!(answers.total(), 999);
+    assert_eq!(answers, run_cases(4, 1_000));
+    assert_ne!(answers, run_cases(5, 1_000));
+}
+
+/// A library that accepts every grammar is found out, by the smallest table that is refused.
+#[test]
+fn a_false_library_is_found_out() {
+    let library = |case: &Case| match case {
+        Case::CheckGrammar { .. } => Outcome::with(Answer::Accepted(vec![]), case),
+        _ => case.of_library(),
+    };
+    let mut answers = Answers::default();
+    let difference = run(6, library, || true, &mut answers).expect_err("a difference");
+    let grammar = vec![];
+    assert_eq!(difference.case, Case::CheckGrammar { grammar });
+    assert_eq!(
+        difference.to_string(),
+        r#"{"name": "by the model", "call": "check_grammar", "grammar": [], "refused": {"number": 1, "place": "word", "at": "0"}}
+{"name": "by the library", "call": "check_grammar", "grammar": [], "accepted": {}}"#
+    );
+    assert!(answers.total() < 1_000);
+}
+
+/// What the program does with these arguments.
+fn program(arguments: &[&str]) -> Output {
+    let mut command = Command::new(env!("CARGO_BIN_EXE_compare"));
+    command.args(arguments).output().expect("the program runs")
+}
+
+#[test]
+fn the_program_runs_so_many_cases() {
+    let output = program(&["--cases", "300", "--seed", "2"]);
+    assert!(output.status.success());
+    let text = String::from_utf8(output.stdout).expect("text");
+    let last = text.lines().last().expect("a line");
+    assert!(last.starts_with("300 cases, seed 2, "), "{last}");
+    assert!(last.ends_with(" s, no difference"), "{last}");
+    assert_eq!(text.lines().count(), 1 + Case::blanks().len());
+    for arguments in [&[][..], &["--seed", "2"], &["--cases"], &["--case", "3"]] {
+        assert!(!program(arguments).status.success(), "{arguments:?}");
+    }
+}

@@ -1,0 +1,220 @@
+//! Large cases on which a false library errs become small ones.
+
+use std::hash::{DefaultHasher, Hash, Hasher};
+
+use compare::{shrink, Answer, Case, Field, Outcome, Random, Record, RowTable, Table, Value};
+
+/// A library that answers as the model does, but for an error.
+type Library = fn(&Case) -> Outcome;
+
+/// The smallest case on which the library errs that is found from a case on which it does.
+fn smallest(library: Library, case: &Case) -> Case {
+    let errs = |case: &Case| library(case) != case.of_model();
+    assert!(errs(case), "the library errs on the large case");
+    let smallest = shrink(case, errs);
+    assert!(errs(&smallest));
+    smallest
+}
+
+/// A random table of 50 nodes and a record of at least 200 rows.
+fn large_record(random: &mut Random) -> (Vec<u32>, Vec<u8>) {
+    loop {
+        let table = Table::sound(random, 50, 80);
+        match Record::of(&table, random, 400) {
+            Some(record) if record.rows >= 200 => return (table.words(), record.bytes),
+            _ => (),
+        }
+    }
+}
+
+/// The error of accepting bytes behind the value.
+fn accepts_bytes_left_over(case: &Case) -> Outcome {
+    match case.of_model() {
+        outcome if outcome.answer.number() == 11 => {
+            Outcome::with(Answer::Accepted(vec![1, 0]), case)
+        }
+        outcome => outcome,
+    }
+}
+
+#[test]
+fn records_and_grammars() {
+    for seed in 0..5 {
+        let (grammar, mut record) = large_record(&mut Random::new(seed));
+        record.extend([7; 100]);
+        let rows = vec![99; 4 * 4_096];
+        let large = Case::Demarshall {
+            grammar,
+            record,
+            rows,
+        };
+        let expected = Case::Demarshall {
+            grammar: vec![1, 0, 0, 0, 0],
+            record: vec![0],
+            rows: vec![0; 4],
+        };
+        assert_eq!(smallest(accepts_bytes_left_over, &large), expected);
+    }
+}
+
+/// The error of not looking at the place of an array without elements.
+fn skips_empty_arrays(case: &Case) -> Outcome {
+    let outcome = case.of_model();
+    match (case, outcome.answer.number()) {
+        (Case::ComputeSizeOf { rows, n, store }, 14) => {
+            let mut rows = rows.clone();
+            for row in rows.chunks_mut(4).filter(|row| row[2] == 0) {
+                row[3] = 0;
+            }
+            let (n, store) = (*n, store.clone());
+            let answer = Case::ComputeSizeOf { rows, n, store }.of_model().answer;
+            Outcome::with(answer, case)
+        }
+        _ => outcome,
+    }
+}
+
+#[test]
+fn rows_and_stores() {
+    for seed in 0..5 {
+        let random = &mut Random::new(seed);
+        let mut table = RowTable::sound(random, 300);
+        let place = table.record.len() as u64 + 1_000;
+        let row = *table.arrays().last().expect("an array");
+        table.rows[row][2..].copy_from_slice(&[0, place]);
+        let large = Case::ComputeSizeOf {
+            rows: table.words(),
+            n: 300,
+            store: table.record,
+        };
+        let expected = Case::ComputeSizeOf {
+            rows: vec![5, 1, 0, 1],
+            n: 1,
+            store: vec![],
+        };
+        assert_eq!(smallest(skips_empty_arrays, &large), expected);
+    }
+}
+
+/// The error of leaving the last byte of a value out.
+fn leaves_out_the_last_byte(case: &Case) -> Outcome {
+    let outcome = case.of_model();
+    let (index, size) = match (case, &outcome.answer) {
+        (Case::MarshallVal { index, .. }, Answer::Accepted(given)) => (*index, given[0] as usize),
+        _ => return outcome,
+    };
+    let mut after = outcome.after();
+    if let (Some(Field::Bytes(out)), true) = (after.lent(), size > 0) {
+        out[index + size - 1] ^= 1;
+    }
+    Outcome::with(outcome.answer, &after)
+}
+
+#[test]
+fn values_and_outputs() {
+    for seed in 0..3 {
+        let (grammar, record) = large_record(&mut Random::new(seed));
+        let length = record.len() + 100;
+        let value = Value::read(&grammar, &record);
+        let large = value.marshall_val_case(vec![0xee; length], 50);
+        let Case::MarshallVal {
+            grammar,
+            rows,
+            n,
+            store,
+            out,
+            index,
+        } = smallest(leaves_out_the_last_byte, &large)
+        else {
+            panic!("a writing");
+        };
+        assert_eq!((rows.len(), n, index), (4, 1, 0));
+        assert!(grammar.len() <= 9 && out.len() <= 8 && store.is_empty());
+    }
+}
+
+/// An error at an index of 5 or more when 3 numbers or more are packed.
+fn errs_behind_index_5(case: &Case) -> Outcome {
+    match case {
+        Case::PackU32Seq { numbers, index, .. } if *index >= 5 && numbers.len() >= 3 => {
+            Outcome::with(Answer::Accepted(vec![]), case)
+        }
+        _ => case.of_model(),
+    }
+}
+
+#[test]
+fn numbers() {
+    let large = Case::PackU32Seq {
+        numbers: (1_000..1_100).collect(),
+        out: vec![0xee; 1_000],
+        index: 300,
+    };
+    let expected = Case::PackU32Seq {
+        numbers: vec![0; 3],
+        out: vec![],
+        index: 5,
+    };
+    assert_eq!(smallest(errs_behind_index_5, &large), expected);
+}
+
+/// An error on records of 1,000,000 bytes and more.
+fn refuses_long_records(case: &Case) -> Outcome {
+    match case {
+        Case::CheckWhole { record, .. } if record.len() >= 1_000_000 => {
+            Outcome::with(Answer::Accepted(vec![]), case)
+        }
+        _ => case.of_model(),
+    }
+}
+
+/// What must stay long stays, and the rest becomes small.
+#[test]
+fn long_records() {
+    let large = Case::CheckWhole {
+        grammar: Table::sound(&mut Random::new(1), 100, 100).words(),
+        record: vec![9; 1_048_576],
+    };
+    let Case::CheckWhole { grammar, record } = smallest(refuses_long_records, &large) else {
+        panic!("a check");
+    };
+    assert!(grammar.is_empty());
+    assert!((1_000_000..1_010_000).contains(&record.len()));
+    assert!(record.iter().all(|&byte| byte == 0));
+}
+
+/// What always holds holds of the blank case too.
+#[test]
+fn nothing_is_left_without_need() {
+    let mut random = Random::new(8);
+    for _ in 0..200 {
+        let case = Case::random(&mut random);
+        let smallest = shrink(&case, |_| true);
+        assert!(Case::blanks().contains(&smallest), "{smallest:?}");
+    }
+}
+
+/// Cases of any content on the way are edited without a panic, and the result holds.
+#[test]
+fn any_cases_on_the_way() {
+    let holds = |case: &Case| {
+        let mut hasher = DefaultHasher::new();
+        case.hash(&mut hasher);
+        hasher.finish() & 3 > 0
+    };
+    let mut random = Random::new(9);
+    let mut shrunk = 0;
+    while shrunk < 200 {
+        let mut case = Case::random(&mut random);
+        let is_short = |field: &(&str, Field)| match &field.1 {
+            Field::Bytes(bytes) => bytes.len() < 500,
+            Field::Uint32s(words) => words.len() < 500,
+            Field::Uint64s(words) => words.len() < 500,
+            _ => true,
+        };
+        if case.fields().iter().all(is_short) && holds(&case) {
+            assert!(holds(&shrink(&case, holds)));
+            shrunk += 1;
+        }
+    }
+}
