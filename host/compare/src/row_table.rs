@@ -28,6 +28,15 @@ pub struct RowTable {
 }
 
 impl RowTable {
+    /// The rows of these words, with their store.
+    pub fn of(words: &[u64], record: Vec<u8>) -> RowTable {
+        let rows = words.chunks_exact(4);
+        RowTable {
+            rows: rows.map(|row| [row[0], row[1], row[2], row[3]]).collect(),
+            record,
+        }
+    }
+
     /// The rows and the record of a random value of `n` rows, `n` above 0.
     pub fn sound(random: &mut Random, n: usize) -> RowTable {
         let mut table = RowTable::default();
@@ -94,6 +103,21 @@ impl RowTable {
                 *place = random.within(0..=last) as u64;
             }
         }
+    }
+
+    /// Makes a row one of any kind with as many children; a sound row stays sound.
+    pub fn change_kind(&mut self, random: &mut Random, row: usize) {
+        let [kind, span, word2, _] = self.rows[row];
+        let children = match kind {
+            3 | 4 => word2,
+            8 => 1,
+            _ => 0,
+        };
+        self.rows[row] = match children {
+            0 => [random.pick(&LEAVES), 1, 0, 0],
+            1 if random.below(3) == 0 => [8, span, random.pick(&[0, 1, u64::MAX]), 0],
+            _ => [random.pick(&[3, 4]), span, children, 0],
+        };
     }
 
     /// Changes one of the table's words to a limit or to a number next to one.

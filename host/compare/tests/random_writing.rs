@@ -8,11 +8,7 @@ type Row = [u64; 4];
 
 /// The rows and the store of a value.
 fn table_of(value: &Value) -> RowTable {
-    let rows = value.rows.chunks(4);
-    RowTable {
-        rows: rows.map(|row| [row[0], row[1], row[2], row[3]]).collect(),
-        record: value.store.clone(),
-    }
+    RowTable::of(&value.rows, value.store.clone())
 }
 
 /// A length of output with room for a value, at an index of up to 20, whatever one word of its
@@ -158,20 +154,6 @@ fn damaged_rows() {
     tally.assert_are(&[0, 13, 14, 15]);
 }
 
-/// A sound row of any kind with as many children as a sound row has.
-fn any_kind(random: &mut Random, [kind, span, word2, _]: Row) -> Row {
-    let children = match kind {
-        3 | 4 => word2,
-        8 => 1,
-        _ => 0,
-    };
-    match children {
-        0 => [random.pick(&[0, 1, 2, 3, 4, 5, 6, 7]), 1, 0, 0],
-        1 if random.below(3) == 0 => [8, span, random.pick(&[0, 1, u64::MAX]), 0],
-        _ => [random.pick(&[3, 4]), span, children, 0],
-    }
-}
-
 /// Values of another grammar by one row or more.
 #[test]
 fn rows_of_another_kind() {
@@ -179,10 +161,10 @@ fn rows_of_another_kind() {
     for_each_value(45, |random, mut value| {
         let length = room(&value);
         for _ in 0..random.within(1..=3) {
-            let mut rows = table_of(&value).rows;
+            let mut table = table_of(&value);
             let row = random.within(0..=value.n - 1);
-            rows[row] = any_kind(random, rows[row]);
-            value.rows = rows.concat();
+            table.change_kind(random, row);
+            value.rows = table.words();
             compare_both(&mut tally, &value, length, random.below(20));
         }
     });

@@ -13,15 +13,6 @@ struct Input {
     size: usize,
 }
 
-/// The rows of a record's words, with the record as store.
-fn rows_of(words: &[u64], record: Vec<u8>) -> RowTable {
-    let rows = words.chunks(4);
-    RowTable {
-        rows: rows.map(|row| [row[0], row[1], row[2], row[3]]).collect(),
-        record,
-    }
-}
-
 /// A value of a random grammar, as the model reads it from its record; where the grammar has none,
 /// any rows.
 fn any_value(random: &mut Random) -> Input {
@@ -33,7 +24,7 @@ fn any_value(random: &mut Random) -> Input {
     };
     let reading = record.map(|record| {
         let reading = model::check_whole(&words, &record.bytes);
-        rows_of(&reading.expect("a sound record").rows, record.bytes)
+        RowTable::of(&reading.expect("a sound record").rows, record.bytes)
     });
     let mut rows = reading.unwrap_or_else(|| row_table(random));
     let size = rows.record.len();
@@ -76,27 +67,13 @@ fn large_value(random: &mut Random) -> Input {
     }
 }
 
-/// A sound row of another kind with as many children.
-fn another_kind(random: &mut Random, [kind, span, word2, _]: [u64; 4]) -> [u64; 4] {
-    let children = match kind {
-        3 | 4 => word2,
-        8 => 1,
-        _ => 0,
-    };
-    match children {
-        0 => [random.below(8) as u64, 1, 0, 0],
-        1 if random.below(3) == 0 => [8, span, random.pick(&[0, 1, u64::MAX]), 0],
-        _ => [random.pick(&[3, 4]), span, children, 0],
-    }
-}
-
 /// Makes a fault in a row, or in the grammar, or takes another grammar.
 fn spoil(random: &mut Random, input: &mut Input) {
     match random.below(6) {
         0..2 => input.rows.damage(random),
         2..4 => {
             let row = random.below(input.rows.rows.len());
-            input.rows.rows[row] = another_kind(random, input.rows.rows[row]);
+            input.rows.change_kind(random, row);
         }
         4 => input.grammar = Table::any(random).words(),
         _ => spoil_grammar(random, &input.table, &mut input.grammar),
