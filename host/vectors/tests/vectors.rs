@@ -426,10 +426,9 @@ fn a_check_sees_a_wrong_line() {
     let sound = lines.join("\n");
     let (passed, failed) = (3, 0);
     assert_eq!(checked(&sound), (Counts { passed, failed }, vec![]));
-    let wrong = lines[1].replace(
-        "\"accepted\": {\"number\": \"7",
-        "\"accepted\": {\"number\": \"8",
-    );
+    // another number, by a digit before the others
+    let given = "\"accepted\": {\"number\": \"";
+    let wrong = lines[1].replace(given, &format!("{given}1"));
     assert_ne!(wrong, lines[1]);
     let text = [lines[0], &wrong, lines[2], "{}"].join("\n");
     let (passed, failed) = (2, 2);

@@ -62,6 +62,8 @@ fn pack_u64_seq(numbers: &[u64], length: usize, index: usize) -> Case {
 const NINE: &str = "FF 0102030405060708";
 
 fn unpack_one(list: &mut List) {
+    let case = unpack_u32("0100000000000000 78563412", 8);
+    list.add("the element of example E", case);
     list.add("least byte first", unpack_u32("78563412", 0));
     list.add("least byte first", unpack_u64("0807060504030201", 0));
     list.add("the largest number", unpack_u32("FFFFFFFF", 0));

@@ -255,6 +255,9 @@ fn located(list: &mut List) {
     ] {
         list.add(name, locate(&a, 3, &record, row));
     }
+    let e = numbers::<u64>("6 1 1 8");
+    let record = hex("0100000000000000 78563412");
+    list.add("example E", locate(&e, 1, &record, 0));
     let kinds = numbers::<u64>("4 7 5 0, 6 1 3 1, 7 1 2 1, 5 1 0 17, 3 1 0 0, 8 2 1 0, 0 1 0 0");
     for (name, row) in [
         ("uint32 array", 1),
