@@ -411,6 +411,12 @@ fn before_the_values(list: &mut List) {
     list.add("6 before 8", demarshall(&b, &long, 0));
     list.add("6 before 11", check_whole(&b, &long));
     list.add("11 at rest_index", check_whole(&b, &[0]));
+    let (union, array) = (numbers::<u32>(D), numbers::<u32>(BYT));
+    list.add(
+        "6 before 9",
+        demarshall(&array, &vec![0xff; MOST_BYTES + 1], 4),
+    );
+    list.add("6 before 10", demarshall(&union, &long, 4));
     list.add("7 before 8", parse_val(&b, &[], 1, 0));
     list.add("7 before 9", parse_val(&numbers::<u32>(U32), &[], 1, 4));
 }

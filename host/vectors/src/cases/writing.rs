@@ -291,8 +291,17 @@ fn stores(list: &mut List) {
     long.store.push(0);
     list.add("a store of 1,048,577 bytes", marshall(&long, 0));
     list.add("6 before 17", marshall_val(&long, 0, 1));
-    long.rows[0] = 9;
-    list.add("6 before 13", marshall(&long, 0));
+    for (name, rows) in [
+        ("6 before 13", "9 1 0 0"),
+        ("6 before 14", "5 1 0 1048578"),
+        ("6 before 15", "2 1 7 0"),
+    ] {
+        long.rows = numbers(rows);
+        list.add(name, marshall(&long, 0));
+    }
+    let mut large = bytes_of_size(MOST_BYTES + 1);
+    large.store = long.store.clone();
+    list.add("6 before 16", marshall(&large, 0));
     long.n = 0;
     list.add("6 before 12", marshall(&long, 0));
     long.grammar = numbers(KIND_9);
