@@ -5,9 +5,8 @@ use std::hint::black_box;
 use crate::measure::Contender;
 use crate::records::Input;
 
-/// The most rows, and their words.
-const ROWS: usize = 4_096;
-const WORDS: usize = 4 * ROWS;
+/// The words of the most rows.
+const WORDS: usize = 4 * 4_096;
 
 /// What is measured of a record that is accepted whole.
 #[derive(Clone, Copy, Debug, PartialEq, Eq)]
@@ -116,14 +115,10 @@ impl Program for Rust {
     }
 }
 
-/// The model's calls with the library's parameters. Its check is a reading.
+/// The model's calls with the library's parameters.
 mod of_model {
-    pub use model::{check_grammar, compute_size_of, marshall, same_route};
+    pub use model::{check_grammar, check_whole, compute_size_of, marshall, same_route};
     use model::{Reading, Refusal};
-
-    pub fn check_whole(grammar: &[u32], record: &[u8]) -> Result<Reading, Refusal> {
-        model::demarshall(grammar, record, super::ROWS)
-    }
 
     pub fn demarshall(grammar: &[u32], record: &[u8], rows: &[u64]) -> Result<Reading, Refusal> {
         model::demarshall(grammar, record, model::capacity(rows.len()))
