@@ -1,6 +1,6 @@
 use mathlib.Core.Path.{ap, _∙_}
 use Rattle.refusal.specs.Outcome.{Outcome, map, Reason}
-use Rattle.route_c.specs.Answer.{answerOf, noValue}
+use Rattle.answer_c.specs.Answer.{answerOf, noValue}
 use borrow.Author.Needs.{needs}
 use Rattle.route_c.proofs.route_check_grammar.Statement.{statement}
 use Rattle.route_c.proofs.route_check_grammar.Tie as tie

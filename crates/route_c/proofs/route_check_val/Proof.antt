@@ -1,7 +1,7 @@
 use mathlib.Core.Path.{ap, _∙_}
 use Rattle.refusal.specs.Outcome.{Outcome, map, Reason}
 use Rattle.reading.specs.Meaning.{Counts}
-use Rattle.route_c.specs.Answer.{answerOf, countValues}
+use Rattle.answer_c.specs.Answer.{answerOf, countValues}
 use borrow.Author.Needs.{needs}
 use Rattle.route_c.proofs.route_check_val.Statement.{statement}
 use Rattle.route_c.proofs.route_check_val.Tie as tie

@@ -1,7 +1,7 @@
 use mathlib.Core.Path.{ap, _∙_}
 use Rattle.refusal.specs.Outcome.{Outcome, map, Reason}
 use Rattle.rows.specs.Locate.{Part}
-use Rattle.route_c.specs.Answer.{answerOf, partValues}
+use Rattle.answer_c.specs.Answer.{answerOf, partValues}
 use borrow.Author.Needs.{needs}
 use Rattle.route_c.proofs.route_locate_array.Statement.{statement}
 use Rattle.route_c.proofs.route_locate_array.Tie as tie

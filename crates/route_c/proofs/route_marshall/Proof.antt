@@ -1,4 +1,4 @@
-use Rattle.route_c.proofs.Answer.{answers-marshalls}
+use Rattle.answer_c.proofs.Answer.{answers-marshalls}
 use borrow.Author.Needs.{needs}
 use Rattle.route_c.proofs.route_marshall.Statement.{statement}
 use Rattle.route_c.proofs.route_marshall.Tie as tie

@@ -1,4 +1,4 @@
-use Rattle.route_c.proofs.Answer.{answers-fills}
+use Rattle.answer_c.proofs.Answer.{answers-fills}
 use borrow.Author.Needs.{needs}
 use Rattle.route_c.proofs.route_pack_u64.Statement.{statement}
 use Rattle.route_c.proofs.route_pack_u64.Tie as tie

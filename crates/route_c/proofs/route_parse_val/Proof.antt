@@ -1,4 +1,4 @@
-use Rattle.route_c.proofs.Answer.{answers-parses}
+use Rattle.answer_c.proofs.Answer.{answers-parses}
 use borrow.Author.Needs.{needs}
 use Rattle.route_c.proofs.route_parse_val.Statement.{statement}
 use Rattle.route_c.proofs.route_parse_val.Tie as tie

@@ -1,7 +1,7 @@
 use mathlib.Core.Path.{ap, _∙_}
 use Prim.Native.Nat.{ℕ}
 use Rattle.refusal.specs.Outcome.{Outcome, map, Reason}
-use Rattle.route_c.specs.Answer.{answerOf, oneValue}
+use Rattle.answer_c.specs.Answer.{answerOf, oneValue}
 use borrow.Author.Needs.{needs}
 use Rattle.route_c.proofs.route_unpack_u64.Statement.{statement}
 use Rattle.route_c.proofs.route_unpack_u64.Tie as tie

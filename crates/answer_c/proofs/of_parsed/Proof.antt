@@ -2,10 +2,10 @@ use mathlib.Core.Path.{ap, sym, _∙_}
 use Rattle.refusal.specs.Outcome.{map}
 use Rattle.reading.specs.declared.Parsed.{Parsed}
 use Rattle.reading.specs.Meaning.{parsedOf}
-use Rattle.route_c.specs.Answer.{answerOf, countValues}
+use Rattle.answer_c.specs.Answer.{answerOf, countValues}
 use borrow.Author.Needs.{needs}
-use Rattle.route_c.proofs.of_parsed.Statement.{statement}
-use Rattle.route_c.proofs.of_parsed.Tie as tie
+use Rattle.answer_c.proofs.of_parsed.Statement.{statement}
+use Rattle.answer_c.proofs.of_parsed.Tie as tie
 
 enum-known-answer : tie.Need-enum-known-answer
 enum-known-answer c = search needs

@@ -2,10 +2,10 @@ use mathlib.Core.Path.{ap, sym, _∙_}
 use Rattle.refusal.specs.Outcome.{map}
 use Rattle.refusal.specs.declared.Answer.{Answer}
 use Rattle.refusal.specs.Meaning.{outcomeOf}
-use Rattle.route_c.specs.Answer.{answerOf, noValue}
+use Rattle.answer_c.specs.Answer.{answerOf, noValue}
 use borrow.Author.Needs.{needs}
-use Rattle.route_c.proofs.of_answer.Statement.{statement}
-use Rattle.route_c.proofs.of_answer.Tie as tie
+use Rattle.answer_c.proofs.of_answer.Statement.{statement}
+use Rattle.answer_c.proofs.of_answer.Tie as tie
 
 enum-told : tie.Need-enum-told
 enum-told c = search needs

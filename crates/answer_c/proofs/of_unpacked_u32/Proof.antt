@@ -2,10 +2,10 @@ use mathlib.Core.Path.{ap, sym, _∙_}
 use Rattle.refusal.specs.Outcome.{map}
 use Rattle.packed.specs.declared.UnpackedU32.{UnpackedU32}
 use Rattle.packed.specs.Meaning.{unpackedU32}
-use Rattle.route_c.specs.Answer.{answerOf, oneValue}
+use Rattle.answer_c.specs.Answer.{answerOf, oneValue}
 use borrow.Author.Needs.{needs}
-use Rattle.route_c.proofs.of_unpacked_u32.Statement.{statement}
-use Rattle.route_c.proofs.of_unpacked_u32.Tie as tie
+use Rattle.answer_c.proofs.of_unpacked_u32.Statement.{statement}
+use Rattle.answer_c.proofs.of_unpacked_u32.Tie as tie
 
 enum-known-answer : tie.Need-enum-known-answer
 enum-known-answer c = search needs

@@ -2,10 +2,10 @@ use mathlib.Core.Path.{ap, sym, _∙_}
 use Rattle.refusal.specs.declared.Place.{Place}
 use Rattle.refusal.specs.Outcome.{refused, reason}
 use Rattle.refusal.specs.Meaning.{locationOf}
-use Rattle.route_c.specs.Answer.{answerOf}
+use Rattle.answer_c.specs.Answer.{answerOf}
 use borrow.Author.Needs.{needs}
-use Rattle.route_c.proofs.refuse.Statement.{statement}
-use Rattle.route_c.proofs.refuse.Tie as tie
+use Rattle.answer_c.proofs.refuse.Statement.{statement}
+use Rattle.answer_c.proofs.refuse.Tie as tie
 
 enum-known-place : tie.Need-enum-known-place
 enum-known-place c = search needs

@@ -1,11 +1,11 @@
 use mathlib.Core.Path.{ap, sym, _∙_}
 use Rattle.refusal.specs.Outcome.{map}
-use Rattle.rows.specs.declared.SizeOf.{SizeOf}
-use Rattle.rows.specs.Meaning.{sizeOf}
-use Rattle.route_c.specs.Answer.{answerOf, oneValue}
+use Rattle.rows.specs.declared.Located.{Located}
+use Rattle.rows.specs.Meaning.{located}
+use Rattle.answer_c.specs.Answer.{answerOf, partValues}
 use borrow.Author.Needs.{needs}
-use Rattle.route_c.proofs.of_size.Statement.{statement}
-use Rattle.route_c.proofs.of_size.Tie as tie
+use Rattle.answer_c.proofs.of_located.Statement.{statement}
+use Rattle.answer_c.proofs.of_located.Tie as tie
 
 enum-known-answer : tie.Need-enum-known-answer
 enum-known-answer c = search needs
@@ -20,13 +20,13 @@ refuse-requires : tie.Need-refuse-requires
 refuse-requires c κs = search needs
 
 returns : tie.Need-returns
-returns c = c .accept .ensures ∙ ap (λ (u : SizeOf). answerOf (map oneValue (sizeOf u))) (sym (c .before .before .answer .given .1))
+returns c = c .accept .ensures ∙ ap (λ (u : Located). answerOf (map partValues (located u))) (sym (c .before .before .answer .given .1))
 
 returns-2 : tie.Need-returns-2
-returns-2 c = c .refuse .ensures ∙ ap (λ (u : SizeOf). answerOf (map oneValue (sizeOf u))) (sym (c .before .before .answer2 .given .1))
+returns-2 c = c .refuse .ensures ∙ ap (λ (u : Located). answerOf (map partValues (located u))) (sym (c .before .before .answer2 .given .1))
 
-pub of-size-spec : {M : Type 1} → statement M
-of-size-spec =
+pub of-located-spec : {M : Type 1} → statement M
+of-located-spec =
     tie.close
     (tie.spec
     enum-known-answer

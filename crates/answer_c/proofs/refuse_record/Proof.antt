@@ -1,9 +1,9 @@
 use mathlib.Core.Path.{ap}
 use Prim.Native.Nat.{ℕ}
-use Rattle.route_c.specs.declared.RouteAnswer.{RouteAnswer}
+use Rattle.answer_c.specs.declared.RouteAnswer.{RouteAnswer}
 use borrow.Author.Needs.{needs}
-use Rattle.route_c.proofs.refuse_record.Statement.{statement}
-use Rattle.route_c.proofs.refuse_record.Tie as tie
+use Rattle.answer_c.proofs.refuse_record.Statement.{statement}
+use Rattle.answer_c.proofs.refuse_record.Tie as tie
 
 refuse-requires : tie.Need-refuse-requires
 refuse-requires c κs = search needs

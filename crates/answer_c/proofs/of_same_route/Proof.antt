@@ -1,10 +1,10 @@
 use mathlib.Core.Path.{ap, sym, _∙_}
 use Rattle.route.specs.declared.SameRoute.{SameRoute}
 use Rattle.route.specs.SameRoute.{sameRouteOf}
-use Rattle.route_c.specs.Answer.{sameAnswerOf}
+use Rattle.answer_c.specs.Answer.{sameAnswerOf}
 use borrow.Author.Needs.{needs}
-use Rattle.route_c.proofs.of_same_route.Statement.{statement}
-use Rattle.route_c.proofs.of_same_route.Tie as tie
+use Rattle.answer_c.proofs.of_same_route.Statement.{statement}
+use Rattle.answer_c.proofs.of_same_route.Tie as tie
 
 enum-told : tie.Need-enum-told
 enum-told c = search needs

@@ -13,8 +13,8 @@ use Rattle.reading.specs.Meaning.{Counts, parsedOf}
 use Rattle.reading.specs.Calls.{Parses}
 use Rattle.reading.specs.declared.Parsed.{Parsed}
 use Rattle.writing.specs.Marshall.{Marshalls}
-use Rattle.route_c.specs.declared.RouteAnswer.{RouteAnswer}
-use Rattle.route_c.specs.Answer.{answerOf, noValue, oneValue, countValues, Answers, AnswersRows, AnswersBytes}
+use Rattle.answer_c.specs.declared.RouteAnswer.{RouteAnswer}
+use Rattle.answer_c.specs.Answer.{answerOf, noValue, oneValue, countValues, Answers, AnswersRows, AnswersBytes}
 
 pub answers-fills : {o : Outcome Reason (List ℕ)} {a : Outcome Reason (Unit {0})} {r : RouteAnswer} {entry exit : List ℕ} → r ≡ answerOf (map noValue a) → Fills o a entry exit → Answers o r entry exit
 answers-fills {o} e f = record {

@@ -14,7 +14,7 @@ use Rattle.rows.specs.Layout.{rowsOf}
 use Rattle.reading.specs.Meaning.{Counts}
 use Rattle.reading.specs.Calls.{countsOf}
 use Rattle.route.specs.SameRoute.{NamedReason, ofGrammar, ofFirst, ofSecond, Compares}
-use Rattle.route_c.specs.declared.RouteAnswer.{RouteAnswer}
+use Rattle.answer_c.specs.declared.RouteAnswer.{RouteAnswer}
 
 -- the values of an accepted call; 0 where it gives fewer than two
 pub data Values : Type 0 where
