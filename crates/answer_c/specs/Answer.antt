@@ -13,7 +13,7 @@ use Rattle.rows.specs.Locate.{Part}
 use Rattle.rows.specs.Layout.{rowsOf}
 use Rattle.reading.specs.Meaning.{Counts}
 use Rattle.reading.specs.Calls.{countsOf}
-use Rattle.route.specs.SameRoute.{NamedReason, ofGrammar, ofFirst, ofSecond, Compares}
+use Rattle.comparing.specs.SameRoute.{NamedReason, ofGrammar, ofFirst, ofSecond, Compares}
 use Rattle.answer_c.specs.declared.RouteAnswer.{RouteAnswer}
 
 -- the values of an accepted call; 0 where it gives fewer than two

@@ -5,15 +5,15 @@ ghost use Rattle.refusal.specs.Meaning.{reasonOf, outcomeOf};
 ghost use Rattle.packed.specs.Meaning.{unpackedU32, unpackedU64};
 ghost use Rattle.rows.specs.Meaning.{sizeOf, located};
 ghost use Rattle.reading.specs.Meaning.{parsedOf};
-ghost use Rattle.route.specs.SameRoute.{sameRouteOf};
+ghost use Rattle.comparing.specs.SameRoute.{sameRouteOf};
 ghost use Rattle.answer_c.specs.Answer.{answerOf, refusalOf, noValue, oneValue, partValues, countValues, sameAnswerOf};
+use comparing::SameRoute;
 use packed::UnpackedU32;
 use packed::UnpackedU64;
 use reading::Parsed;
 use refusal::Answer;
 use refusal::Place;
 use refusal::Refusal;
-use route::SameRoute;
 use rows::Located;
 use rows::SizeOf;
 

@@ -19,9 +19,9 @@ use Rattle.reading.specs.Calls.{capacityOf, countsOf}
 use Rattle.reading.proofs.Meaning.{parsedOf-injective}
 use Rattle.route.specs.Demands.{Demand1}
 use Rattle.route.specs.Rewriting.{rewriteOf}
-use Rattle.route.specs.SameRoute.{sameRouteOf}
-use Rattle.route.proofs.Answers.{sameRoute-injective}
-use Rattle.route.proofs.Comparing.{compares-one}
+use Rattle.comparing.specs.SameRoute.{sameRouteOf}
+use Rattle.comparing.proofs.Meaning.{sameRoute-injective}
+use Rattle.comparing.proofs.Comparing.{compares-one}
 use Rattle.route.proofs.Reading.{rows-kept}
 use Rattle.route.proofs.Refusals.{map-refuses, room-refuses, present-refuses, walk-refuses, locate-refuses, parse-refuses, demarshall-refuses, marshall-refuses, rewrite-refuses, both-refuses}
 

@@ -1,12 +1,9 @@
-pub mod Answers
 pub mod Refusals
 pub mod Put
 pub mod Reading
 pub mod Writing
-pub mod Comparing
 pub mod Bench
 pub mod Examples
 pub mod Demand1
 pub mod Demand2
 pub mod Demand3
-pub mod Rewriting

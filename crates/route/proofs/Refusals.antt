@@ -39,7 +39,7 @@ use Rattle.writing.specs.InGrammar.{checkInGrammar}
 use Rattle.writing.specs.Marshall.{valueOf, marshallValOf}
 use Rattle.writing.proofs.InGrammar.{in-grammar-exactly, in-grammar-refused}
 use Rattle.route.specs.Rewriting.{rewriteOf}
-use Rattle.route.specs.SameRoute.{NamedReason, ofGrammar, ofFirst, ofSecond, naming, readBoth}
+use Rattle.comparing.specs.SameRoute.{NamedReason, ofGrammar, ofFirst, ofSecond, naming, readBoth}
 use Rattle.route.specs.Refusals.{Refuses, NoRoom, outputShort, NotThere, above, missing, RowRefused, broken, outside, RowsRefused, storeAbove, rowTable, atRow, LocatorRefused, ofRows, notAnArray, ValueRefused, noRow, bytesMissing, tagAbove, ReadingRefused, grammarFirst, recordAbove, indexAbove, atValue, WholeRefused, ofReading, recordEnd, WritingRefused, grammarBefore, rowsBefore, notInGrammar, sizeAbove, noRoom, RewritingRefused, roomFirst, readingThen, RouteRefused, byGrammar, byFirst, bySecond}
 
 -- ---- outcomes whose every error has Q

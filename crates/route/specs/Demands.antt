@@ -31,9 +31,9 @@ use Rattle.reading.specs.Calls.{capacityOf, parseValOf, demarshallOf, countsOf,
 use Rattle.reading.specs.declared.Parsed.{Parsed}
 use Rattle.writing.specs.Marshall.{marshallValOf, Writes, Marshalls}
 use Rattle.route.specs.Rewriting.{rewriteOf, Rewrites}
-use Rattle.route.specs.SameRoute.{sameRouteOf, readBoth, Compares}
+use Rattle.comparing.specs.SameRoute.{sameRouteOf, readBoth, Compares}
 use Rattle.route.specs.Refusals.{Refuses, NoRoom, NotThere, RowsRefused, LocatorRefused, ReadingRefused, WholeRefused, WritingRefused, RewritingRefused, RouteRefused}
-use Rattle.route.specs.declared.SameRoute.{SameRoute}
+use Rattle.comparing.specs.declared.SameRoute.{SameRoute}
 
 -- ==== Demand 1. "Every call is defined on every input: no grammar, record, row table or index is assumed sound, each call comes to an end"
 

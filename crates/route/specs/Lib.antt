@@ -1,5 +1,4 @@
 pub mod Rewriting
-pub mod SameRoute
 pub mod Refusals
 pub mod Demands
 pub mod Bench

@@ -20,7 +20,7 @@ use Rattle.rows.specs.Row.{rowWidth, rowAt}
 use Rattle.rows.specs.Walk.{walk}
 use Rattle.reading.specs.Calls.{parseValOf, demarshallOf}
 use Rattle.writing.specs.InGrammar.{checkInGrammar}
-use Rattle.route.specs.SameRoute.{NamedReason, ofGrammar, ofFirst, ofSecond}
+use Rattle.comparing.specs.SameRoute.{NamedReason, ofGrammar, ofFirst, ofSecond}
 
 -- the errors of an outcome are exactly those with Q
 abbrev pub Refuses : {E A : Type 0} → (E → Type 0) → Outcome E A → Type 0

@@ -172,5 +172,5 @@ pub extern "C" fn route_marshall(
 pub extern "C" fn route_same_route(grammar: &[u32], first: &[u8], second: &[u8]) -> RouteAnswer
     ensures { λ r. ⌜ AnswersSame (now (grammar .entry)) (now (first .entry)) (now (second .entry)) r ⌝ }
 {
-    of_same_route(route::same_route(grammar, first, second))
+    of_same_route(comparing::same_route(grammar, first, second))
 }

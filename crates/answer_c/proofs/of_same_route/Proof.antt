@@ -1,6 +1,6 @@
 use mathlib.Core.Path.{ap, sym, _∙_}
-use Rattle.route.specs.declared.SameRoute.{SameRoute}
-use Rattle.route.specs.SameRoute.{sameRouteOf}
+use Rattle.comparing.specs.declared.SameRoute.{SameRoute}
+use Rattle.comparing.specs.SameRoute.{sameRouteOf}
 use Rattle.answer_c.specs.Answer.{sameAnswerOf}
 use borrow.Author.Needs.{needs}
 use Rattle.answer_c.proofs.of_same_route.Statement.{statement}

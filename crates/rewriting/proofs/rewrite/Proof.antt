@@ -1,10 +1,10 @@
 use mathlib.Core.Path.{ap}
 use Rattle.refusal.proofs.Meaning.{done, stopped}
 use Rattle.reading.specs.Meaning.{parsedOf}
-use Rattle.route.proofs.Rewriting.{no-room, not-read, rewritten}
+use Rattle.rewriting.proofs.Rewriting.{no-room, not-read, rewritten}
 use borrow.Author.Needs.{needs}
-use Rattle.route.proofs.rewrite.Statement.{statement}
-use Rattle.route.proofs.rewrite.Tie as tie
+use Rattle.rewriting.proofs.rewrite.Statement.{statement}
+use Rattle.rewriting.proofs.rewrite.Tie as tie
 
 room-requires : tie.Need-room-requires
 room-requires c κs = search needs

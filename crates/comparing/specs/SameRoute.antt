@@ -9,8 +9,8 @@ use Rattle.refusal.specs.Meaning.{reasonOf}
 use Rattle.value.specs.Tree.{Val}
 use Rattle.grammar.specs.Check.{checkGrammar}
 use Rattle.reading.specs.Calls.{demarshallOf}
-use Rattle.route.specs.declared.SameRoute.{SameRoute}
-use Rattle.route.specs.declared.SameRoute.the-variants as S
+use Rattle.comparing.specs.declared.SameRoute.{SameRoute}
+use Rattle.comparing.specs.declared.SameRoute.the-variants as S
 
 -- a refusal and the record that it names: neither, where it is the grammar's, the first or the second
 pub data NamedReason : Type 0 where

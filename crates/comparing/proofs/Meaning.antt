@@ -3,10 +3,9 @@ use mathlib.Core.Path.{_≡_, refl, sym, ap, _∙_}
 use mathlib.Core.Bool.{Bool, true, false}
 use Rattle.refusal.specs.Outcome.{Outcome, accepted, refused}
 use Rattle.refusal.proofs.Meaning.{refusalOf, refusal-of}
-use Rattle.route.specs.declared.SameRoute.{SameRoute}
-use Rattle.route.specs.declared.SameRoute.the-variants as SameRoute
-use Rattle.route.specs.SameRoute.{NamedReason, ofGrammar, ofFirst, ofSecond, sameRouteOf}
-use Rattle.route.specs.Demands.{AtMostOneAnswer}
+use Rattle.comparing.specs.declared.SameRoute.{SameRoute}
+use Rattle.comparing.specs.declared.SameRoute.the-variants as SameRoute
+use Rattle.comparing.specs.SameRoute.{NamedReason, ofGrammar, ofFirst, ofSecond, sameRouteOf}
 
 -- the answer that means o
 routeOf : Outcome NamedReason Bool → SameRoute
@@ -24,5 +23,5 @@ meant (SameRoute.Grammar f) = ap SameRoute.Grammar (sym (refusal-of f))
 meant (SameRoute.First f) = ap SameRoute.First (sym (refusal-of f))
 meant (SameRoute.Second f) = ap SameRoute.Second (sym (refusal-of f))
 
-pub sameRoute-injective : AtMostOneAnswer sameRouteOf
+pub sameRoute-injective : (q r : SameRoute) → sameRouteOf q ≡ sameRouteOf r → q ≡ r
 sameRoute-injective q r h = meant q ∙ ap routeOf h ∙ sym (meant r)

@@ -9,8 +9,8 @@ use lib.ListN.{length, getD}
 use lib.Seq.{ext-getD}
 use borrow.Author.Count.{below-more}
 use borrow.Author.Needs.{needs}
-use Rattle.route.proofs.same_bytes.Statement.{statement}
-use Rattle.route.proofs.same_bytes.Tie as tie
+use Rattle.comparing.proofs.same_bytes.Statement.{statement}
+use Rattle.comparing.proofs.same_bytes.Tie as tie
 
 abbrev Inv-loop : tie.InvT-loop
 Inv-loop a b i₀ i = (length a ≡ length b) × (i ≤ length a) × ((k : ℕ) → k < i → getD a k 0 ≡ getD b k 0)

@@ -1,16 +1,16 @@
 use Rattle.refusal.specs.Outcome.{accepted}
 use Rattle.refusal.proofs.Meaning.{done, stopped}
 use Rattle.reading.proofs.Calls.{parsed-matched}
-use Rattle.route.specs.SameRoute.{Compares}
-use Rattle.route.proofs.Comparing.{grammar-refused, first-refused, second-refused, compared, with-answer}
+use Rattle.comparing.specs.SameRoute.{Compares}
+use Rattle.comparing.proofs.Comparing.{grammar-refused, first-refused, second-refused, compared, with-answer}
 use borrow.Author.Needs.{needs}
-use Rattle.route.proofs.same_route.Statement.{statement}
-use Rattle.route.proofs.same_route.Tie as tie
-use Rattle.route.proofs.same_route.Reads as reads
-use Rattle.route.proofs.same_route.Lts as lts
+use Rattle.comparing.proofs.same_route.Statement.{statement}
+use Rattle.comparing.proofs.same_route.Tie as tie
+use Rattle.comparing.proofs.same_route.Reads as reads
+use Rattle.comparing.proofs.same_route.Lts as lts
 use Rattle.grammar.proofs.check_grammar.Reads as check-grammar-reads
 use Rattle.reading.proofs.check_whole.Reads as check-whole-reads
-use Rattle.route.proofs.same_bytes.Reads as same-bytes-reads
+use Rattle.comparing.proofs.same_bytes.Reads as same-bytes-reads
 
 check-grammar-requires : tie.Need-check-grammar-requires
 check-grammar-requires c κs = search needs

@@ -18,7 +18,7 @@ use Rattle.grammar.specs.Check.{checkGrammar}
 use Rattle.reading.specs.Meaning.{Counts}
 use Rattle.reading.specs.Calls.{demarshallOf, countsOf}
 use Rattle.reading.proofs.Bridge.{demarshall-accepted}
-use Rattle.route.specs.SameRoute.{NamedReason, ofGrammar, ofFirst, ofSecond, Both, readBoth, Same, Compares}
+use Rattle.comparing.specs.SameRoute.{NamedReason, ofGrammar, ofFirst, ofSecond, Both, readBoth, Same, Compares}
 
 -- an accepted record is the bytes of its value
 pub record-bytes : (g d : List ℕ) (capacity : ℕ) → Below (2 ^ 32) g → Bytes d → (t : Step State Val) → demarshallOf g d capacity ≡ accepted t → d ≡ bytesOf (t .value)
