@@ -25,7 +25,8 @@ use Rattle.reading.specs.Meaning.{Counts, parsedOf}
 use Rattle.reading.specs.Calls.{capacityOf, demarshallOf, countsOf, Parses}
 use Rattle.reading.specs.declared.Parsed.{Parsed}
 use Rattle.reading.proofs.Calls.{admitted, parse-accepted, whole-accepted}
-use Rattle.writing.specs.Marshall.{marshallValOf, Marshalls}
+use Rattle.sizing.specs.Writes.{marshallValOf}
+use Rattle.writing.specs.Marshall.{Marshalls}
 use Rattle.route.specs.Demands.{PutThere}
 use Rattle.route.specs.Rewriting.{rewriteOf, Rewrites}
 use Rattle.route.proofs.Reading.{rows-laid, rows-kept}

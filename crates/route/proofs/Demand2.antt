@@ -31,8 +31,8 @@ use Rattle.reading.specs.Calls.{capacityOf, withoutState, parseValOf, demarshal
 use Rattle.reading.proofs.Calls.{admit-index, admitted, parse-read, parse-accepted}
 use Rattle.reading.proofs.Meaning.{parsedOf-injective}
 use Rattle.reading.proofs.Bridge.{parse-parses, parse-stands, parse-none, demarshall-accepted, demarshall-refused}
-use Rattle.writing.specs.Marshall.{marshallValOf}
-use Rattle.writing.proofs.Writing.{accepted-writes}
+use Rattle.sizing.specs.Writes.{marshallValOf}
+use Rattle.sizing.proofs.Writes.{accepted-writes}
 use Rattle.route.specs.Demands.{PutThere, ParseValAgrees, DemarshallAgrees, ChecksAgree, SizesAgree, ByteRule, RuleStands, WritesTheRule, NumbersAgree, Demand2}
 use Rattle.route.proofs.Put.{put-at}
 use Rattle.route.proofs.Refusals.{room-there}

@@ -23,7 +23,7 @@ use Rattle.grammar.specs.Tree.{nodeTree, childTrees, treeTo, treeOf}
 use Rattle.grammar.proofs.Rule.{accepted-exactly}
 use Rattle.rows.specs.Layout.{ownRow, rowsOf}
 use Rattle.rows.specs.Walk.{rowValue, checkRow, walkChildren, walkTo, walk}
-use Rattle.writing.specs.Marshall.{Writes}
+use Rattle.sizing.specs.Writes.{Writes}
 use Rattle.reading.specs.Calls.{capacityOf, withoutState, demarshallOf, countsOf}
 use Rattle.reading.specs.declared.Parsed.the-variants as P
 use Rattle.route.specs.Demands.{Grammar, ValueOfGrammar, RecordOf, WholeReading}

@@ -35,9 +35,9 @@ use Rattle.rows.proofs.Rule.{wordOf, kind-word}
 use Rattle.reading.specs.Calls.{withoutState, parseValOf, demarshallOf, admitOf}
 use Rattle.reading.proofs.Calls.{admit-grammar, admit-long, admit-index, parse-admitted, parse-refused, whole-parse}
 use Rattle.reading.proofs.Bridge.{parse-inside}
-use Rattle.writing.specs.InGrammar.{checkInGrammar}
-use Rattle.writing.specs.Marshall.{valueOf, marshallValOf}
-use Rattle.writing.proofs.InGrammar.{in-grammar-exactly, in-grammar-refused}
+use Rattle.sizing.specs.InGrammar.{checkInGrammar}
+use Rattle.sizing.specs.Writes.{valueOf, marshallValOf}
+use Rattle.sizing.proofs.InGrammar.{in-grammar-exactly, in-grammar-refused}
 use Rattle.route.specs.Rewriting.{rewriteOf}
 use Rattle.comparing.specs.SameRoute.{NamedReason, ofGrammar, ofFirst, ofSecond, naming, readBoth}
 use Rattle.route.specs.Refusals.{Refuses, NoRoom, outputShort, NotThere, above, missing, RowRefused, broken, outside, RowsRefused, storeAbove, rowTable, atRow, LocatorRefused, ofRows, notAnArray, ValueRefused, noRow, bytesMissing, tagAbove, ReadingRefused, grammarFirst, recordAbove, indexAbove, atValue, WholeRefused, ofReading, recordEnd, WritingRefused, grammarBefore, rowsBefore, notInGrammar, sizeAbove, noRoom, RewritingRefused, roomFirst, readingThen, RouteRefused, byGrammar, byFirst, bySecond}

@@ -10,9 +10,10 @@ use Rattle.value.specs.Bytes.{bytesOf}
 use Rattle.value.proofs.Laws.{length-bytesOf}
 use Rattle.rows.specs.Meaning.{sizeOf}
 use Rattle.rows.specs.declared.SizeOf.{SizeOf}
-use Rattle.writing.proofs.Writing.{write-accepted}
+use Rattle.sizing.proofs.Writes.{write-accepted}
 use Rattle.writing.proofs.Laws.{marshall-size, marshall-output}
-use Rattle.writing.specs.Marshall.{marshallValOf, Writes, Marshalls}
+use Rattle.sizing.specs.Writes.{marshallValOf, Writes}
+use Rattle.writing.specs.Marshall.{Marshalls}
 use Rattle.route.specs.Demands.{PutThere}
 use Rattle.route.proofs.Put.{put-at}
 

@@ -29,7 +29,8 @@ use Rattle.rows.specs.declared.SizeOf.{SizeOf}
 use Rattle.reading.specs.Meaning.{Counts, parsedOf}
 use Rattle.reading.specs.Calls.{capacityOf, parseValOf, demarshallOf, countsOf, Parses}
 use Rattle.reading.specs.declared.Parsed.{Parsed}
-use Rattle.writing.specs.Marshall.{marshallValOf, Writes, Marshalls}
+use Rattle.sizing.specs.Writes.{marshallValOf, Writes}
+use Rattle.writing.specs.Marshall.{Marshalls}
 use Rattle.route.specs.Rewriting.{rewriteOf, Rewrites}
 use Rattle.comparing.specs.SameRoute.{sameRouteOf, readBoth, Compares}
 use Rattle.route.specs.Refusals.{Refuses, NoRoom, NotThere, RowsRefused, LocatorRefused, ReadingRefused, WholeRefused, WritingRefused, RewritingRefused, RouteRefused}

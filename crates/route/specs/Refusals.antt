@@ -19,7 +19,7 @@ use Rattle.grammar.specs.Tree.{treeOf}
 use Rattle.rows.specs.Row.{rowWidth, rowAt}
 use Rattle.rows.specs.Walk.{walk}
 use Rattle.reading.specs.Calls.{parseValOf, demarshallOf}
-use Rattle.writing.specs.InGrammar.{checkInGrammar}
+use Rattle.sizing.specs.InGrammar.{checkInGrammar}
 use Rattle.comparing.specs.SameRoute.{NamedReason, ofGrammar, ofFirst, ofSecond}
 
 -- the errors of an outcome are exactly those with Q

@@ -7,7 +7,7 @@ ghost use Rattle.grammar.specs.Check.{checkGrammar};
 ghost use Rattle.rows.specs.Size.{computeSizeOf};
 ghost use Rattle.rows.specs.Locate.{locateArray};
 ghost use Rattle.reading.specs.Calls.{capacityOf, parseValOf, demarshallOf, countsOf};
-ghost use Rattle.writing.specs.Marshall.{marshallValOf};
+ghost use Rattle.sizing.specs.Writes.{marshallValOf};
 ghost use Rattle.answer_c.specs.Answer.{answerOf, noValue, oneValue, partValues, countValues, Answers, AnswersRows, AnswersBytes, AnswersSame};
 use answer_c::RouteAnswer;
 use answer_c::of_answer;

@@ -18,8 +18,9 @@ use Rattle.grammar.proofs.Tree.{tree-valid}
 use Rattle.rows.specs.Meaning.{sizeOf}
 use Rattle.rows.specs.declared.SizeOf.{SizeOf}
 use Rattle.rows.proofs.Rule.{accepted-exactly}
-use Rattle.writing.specs.Marshall.{marshallValOf, Marshalls}
-use Rattle.writing.proofs.Writing.{accepted-writes}
+use Rattle.sizing.specs.Writes.{marshallValOf}
+use Rattle.sizing.proofs.Writes.{accepted-writes}
+use Rattle.writing.specs.Marshall.{Marshalls}
 
 module _ (g t : List ℕ) (n : ℕ) (s : List ℕ) (entry exit : List ℕ) (index : ℕ) (r : SizeOf) (m : Marshalls (marshallValOf g t n s (length entry) index) index r entry exit) where
   pub marshall-refused : (e : Reason) → marshallValOf g t n s (length entry) index ≡ refused e → (sizeOf r ≡ refused e) × (exit ≡ entry)

@@ -1,4 +1,2 @@
-pub mod InGrammar
-pub mod Checks
 pub mod Put
 pub mod Marshall

@@ -2,171 +2,17 @@
 ghost use mathlib.Core.Path.{_≡_};
 ghost use mathlib.Core.List.{_++_};
 ghost use Prim.Native.Nat.{ℕ, _+_, _*_, _≤_, _<_};
-ghost use lib.ListN.{length, getD, take, drop};
-ghost use lib.Dec.{leb};
-ghost use Rattle.refusal.specs.Outcome.{accepted, refused, test, map, reason, row as atRow};
-ghost use Rattle.refusal.specs.Meaning.{outcomeOf};
+ghost use lib.ListN.{length, take, drop};
 ghost use Rattle.packed.specs.Packed.{packLittleEndian, put};
-ghost use Rattle.value.specs.Tree.{SizeOfV};
-ghost use Rattle.grammar.specs.Table.{nodeCount, firstWord, countWord, childWord};
-ghost use Rattle.grammar.specs.Rule.{Passes};
-ghost use Rattle.grammar.specs.Tree.{treeOf, childTrees};
-ghost use Rattle.rows.specs.Row.{rowWidth, rowAt};
+ghost use Rattle.rows.specs.Row.{rowWidth};
 ghost use Rattle.rows.specs.Size.{sizeAt, bytesFrom, sizeFrom};
-ghost use Rattle.rows.specs.Meaning.{sizeOf};
-ghost use Rattle.writing.specs.InGrammar.{checkAllInGrammar, checkEachInGrammar};
-ghost use Rattle.writing.specs.Checks.{Standing, StandingAll, Checks, ChecksAll, ChildInside};
+ghost use Rattle.sizing.specs.Writes.{marshallValOf};
 ghost use Rattle.writing.specs.Put.{RowHolds, ownBytesAt};
-ghost use Rattle.writing.specs.Marshall.{valueOf, marshallValOf, Marshalls};
-use refusal::Answer;
+ghost use Rattle.writing.specs.Marshall.{Marshalls};
 use rows::SizeOf;
 
 // The words of a row.
 const ROW_WIDTH: usize = 4;
-
-// The bytes of the largest value that is written.
-const MOST_BYTES: u64 = 1048576;
-
-fn kind_at(rows: &[u64], row: usize) -> u64
-    requires { ⌜ rowWidth * row + rowWidth ≤ length (now rows) ⌝ }
-    ensures { λ r. ⌜ r ≡ rowAt (now (rows .entry)) row .kind ⌝ }
-{
-    rows[ROW_WIDTH * row]
-}
-
-fn span_at(rows: &[u64], row: usize) -> u64
-    requires { ⌜ rowWidth * row + rowWidth ≤ length (now rows) ⌝ }
-    ensures { λ r. ⌜ r ≡ rowAt (now (rows .entry)) row .span ⌝ }
-{
-    rows[ROW_WIDTH * row + 1]
-}
-
-fn word2_at(rows: &[u64], row: usize) -> u64
-    requires { ⌜ rowWidth * row + rowWidth ≤ length (now rows) ⌝ }
-    ensures { λ r. ⌜ r ≡ rowAt (now (rows .entry)) row .word2 ⌝ }
-{
-    rows[ROW_WIDTH * row + 2]
-}
-
-fn word3_at(rows: &[u64], row: usize) -> u64
-    requires { ⌜ rowWidth * row + rowWidth ≤ length (now rows) ⌝ }
-    ensures { λ r. ⌜ r ≡ rowAt (now (rows .entry)) row .word3 ⌝ }
-{
-    rows[ROW_WIDTH * row + 3]
-}
-
-// A grammar word as an index or a count.
-fn wide(x: u32) -> usize
-    ensures { λ r. ⌜ r ≡ x ⌝ }
-{
-    x as usize
-}
-
-fn word(words: &[u32], at: usize) -> usize
-    requires { ⌜ at < length (now words) ⌝ }
-    ensures { λ r. ⌜ r ≡ getD (now (words .entry)) at 0 ⌝ }
-{
-    wide(words[at])
-}
-
-// Child i of a node.
-fn child_at(grammar: &[u32], node: usize, i: usize) -> usize
-    requires { ⌜ ChildInside (now grammar) node i ⌝ }
-    ensures { λ r. ⌜ r ≡ childWord (now (grammar .entry)) (firstWord (now (grammar .entry)) node + i) ⌝ }
-{
-    let nodes = word(grammar, 0);
-    let first = word(grammar, 2 + 3 * node);
-    word(grammar, 2 + 3 * nodes + (first + i))
-}
-
-fn not_in_grammar(row: usize) -> Answer
-    ensures { λ r. ⌜ outcomeOf r ≡ refused (reason 15 (atRow row)) ⌝ }
-{
-    Answer::Refused(refusal::at_row(refusal::NOT_IN_GRAMMAR, row))
-}
-
-// GM's `ValInGrammar`, of the value whose own row this is and the tree of a node: 15 at the first row of another kind, count or
-// tag. Its calls nest once for each level of the tree, of which 256 nodes have 256 at most.
-fn check_in_grammar(rows: &[u64], grammar: &[u32], row: usize, node: usize) -> Answer
-    requires { ⌜ Passes (now grammar) × (node < nodeCount (now grammar)) × Standing (now rows) row ⌝ }
-    ensures { λ r. ⌜ Checks (now (rows .entry)) row (treeOf (now (grammar .entry)) node) r ⌝ }
-{
-    let kind = kind_at(rows, row);
-    let word2 = word2_at(rows, row);
-    let count = word(grammar, 3 + 3 * node) as u64;
-    if kind != word(grammar, 1 + 3 * node) as u64 {
-        return not_in_grammar(row);
-    }
-    match kind {
-        0 => Answer::Accepted,
-        1 => Answer::Accepted,
-        2 => Answer::Accepted,
-        3 => check_all_in_grammar(rows, grammar, row + 1, word2, child_at(grammar, node, 0)),
-        4 => {
-            if word2 != count {
-                return not_in_grammar(row);
-            }
-            check_each_in_grammar(rows, grammar, row + 1, node)
-        }
-        5 => Answer::Accepted,
-        6 => Answer::Accepted,
-        7 => Answer::Accepted,
-        8 => {
-            if count <= word2 {
-                return not_in_grammar(row);
-            }
-            check_in_grammar(
-                rows,
-                grammar,
-                row + 1,
-                child_at(grammar, node, word2 as usize),
-            )
-        }
-        9.. => not_in_grammar(row),
-    }
-}
-
-// The elements of an array, each against the one node.
-fn check_all_in_grammar(
-    rows: &[u64],
-    grammar: &[u32],
-    row: usize,
-    count: u64,
-    node: usize,
-) -> Answer
-    requires { ⌜ Passes (now grammar) × (node < nodeCount (now grammar)) × StandingAll (now rows) count row ⌝ }
-    ensures { λ r. ⌜ ChecksAll (now (rows .entry)) count row (λ vs. checkAllInGrammar vs (treeOf (now (grammar .entry)) node) row) r ⌝ }
-{
-    let mut i = row;
-    let mut left = count;
-    while 0 < left {
-        if let Answer::Refused(r) = check_in_grammar(rows, grammar, i, node) {
-            return Answer::Refused(r);
-        }
-        i += span_at(rows, i) as usize;
-        left -= 1;
-    }
-    Answer::Accepted
-}
-
-// The fields of a tuple, each against its own node.
-fn check_each_in_grammar(rows: &[u64], grammar: &[u32], row: usize, node: usize) -> Answer
-    requires { ⌜ Passes (now grammar) × (node < nodeCount (now grammar)) × StandingAll (now rows) (countWord (now grammar) node) row ⌝ }
-    ensures { λ r. ⌜ ChecksAll (now (rows .entry)) (countWord (now (grammar .entry)) node) row (λ vs. checkEachInGrammar vs (childTrees (now (grammar .entry)) (treeOf (now (grammar .entry))) (firstWord (now (grammar .entry)) node) (countWord (now (grammar .entry)) node)) row) r ⌝ }
-{
-    let count = word(grammar, 3 + 3 * node);
-    let mut i = row;
-    let mut k: usize = 0;
-    while k < count {
-        let child = child_at(grammar, node, k);
-        if let Answer::Refused(r) = check_in_grammar(rows, grammar, i, child) {
-            return Answer::Refused(r);
-        }
-        i += span_at(rows, i) as usize;
-        k += 1;
-    }
-    Answer::Accepted
-}
 
 // GM's `MarshallUint32`: puts a 4-byte number, which has room, and gives the index behind it.
 fn marshall_uint32(n: u32, out: &mut [u8], index: usize) -> usize
@@ -211,9 +57,10 @@ fn marshall_row(rows: &[u64], row: usize, store: &[u8], out: &mut [u8], index: u
     requires { ⌜ (rowWidth * row + rowWidth ≤ length (now rows)) × RowHolds (now rows) (now store) row × (index + sizeAt (now rows) row ≤ length (now out)) ⌝ }
     ensures { λ r. ⌜ (r ≡ index + sizeAt (now (rows .entry)) row) × (now (out .exit) ≡ put (now (out .entry)) index (ownBytesAt (now (rows .entry)) (now (store .entry)) row)) ⌝ }
 {
-    let kind = kind_at(rows, row);
-    let word2 = word2_at(rows, row);
-    let place = word3_at(rows, row);
+    let first = ROW_WIDTH * row;
+    let kind = rows[first];
+    let word2 = rows[first + 2];
+    let place = rows[first + 3];
     match kind {
         0 => index,
         1 => marshall_uint32(word2 as u32, out, index),
@@ -241,53 +88,6 @@ fn marshall_rows(rows: &[u64], n: usize, store: &[u8], out: &mut [u8], index: us
     }
 }
 
-// Refusal 16.
-fn check_size(size: u64) -> SizeOf
-    ensures { λ r. ⌜ sizeOf r ≡ test (leb size 1048576) (reason 16 (atRow 0)) (λ _. accepted size) ⌝ }
-{
-    if MOST_BYTES < size {
-        SizeOf::Refused(refusal::at_row(refusal::SIZE_TOO_LARGE, 0))
-    } else {
-        SizeOf::Size(size)
-    }
-}
-
-// GM's `ComputeSizeOf` of a value that may be written: 1 to 6, 12 to 14, 15, then 16.
-fn size_of_value(grammar: &[u32], rows: &[u64], n: usize, store: &[u8]) -> SizeOf
-    ensures { λ r. ⌜ sizeOf r ≡ map SizeOfV (valueOf (now (grammar .entry)) (now (rows .entry)) n (now (store .entry))) ⌝ }
-{
-    match grammar::check_grammar(grammar) {
-        Answer::Refused(r) => SizeOf::Refused(r),
-        Answer::Accepted => match rows::compute_size_of(rows, n, store) {
-            SizeOf::Refused(r) => SizeOf::Refused(r),
-            SizeOf::Size(size) => match check_in_grammar(rows, grammar, 0, 0) {
-                Answer::Refused(r) => SizeOf::Refused(r),
-                Answer::Accepted => check_size(size),
-            },
-        },
-    }
-}
-
-// What the writers answer, without writing: the size, or the first refusal, 17 last.
-fn size_to_write(
-    grammar: &[u32],
-    rows: &[u64],
-    n: usize,
-    store: &[u8],
-    len: usize,
-    index: usize,
-) -> SizeOf
-    ensures { λ r. ⌜ sizeOf r ≡ map SizeOfV (marshallValOf (now (grammar .entry)) (now (rows .entry)) n (now (store .entry)) len index) ⌝ }
-{
-    match size_of_value(grammar, rows, n, store) {
-        SizeOf::Refused(r) => SizeOf::Refused(r),
-        SizeOf::Size(size) => match packed::room(len, index, size as usize, 1) {
-            Answer::Refused(r) => SizeOf::Refused(r),
-            Answer::Accepted => SizeOf::Size(size),
-        },
-    }
-}
-
 // GM's `MarshallVal`. What it answers is decided first, so that a refusal leaves every byte as it was.
 pub fn marshall_val(
     grammar: &[u32],
@@ -299,7 +99,7 @@ pub fn marshall_val(
 ) -> SizeOf
     ensures { λ r. ⌜ Marshalls (marshallValOf (now (grammar .entry)) (now (rows .entry)) n (now (store .entry)) (length (now (out .entry))) index) index r (now (out .entry)) (now (out .exit)) ⌝ }
 {
-    match size_to_write(grammar, rows, n, store, out.len(), index) {
+    match sizing::size_to_write(grammar, rows, n, store, out.len(), index) {
         SizeOf::Refused(r) => SizeOf::Refused(r),
         SizeOf::Size(size) => {
             marshall_rows(rows, n, store, out, index);

@@ -20,49 +20,67 @@ use Rattle.writing.proofs.marshall_row.Statement.{statement}
 use Rattle.writing.proofs.marshall_row.Tie as tie
 
 -- behind the reads: the row, and the output before it
-abbrev this : tie.After-word3-at → Row
+abbrev this : tie.After-shared-slice-known5 → Row
 this c = rowAt (c .before .before .before .before .before .before .args .rows .now) (c .before .before .before .before .before .before .args .row)
 
 -- what is to be put where the row is of class k
-abbrev Put : tie.After-word3-at → Kind → ℕ → List ℕ → Type 0
+abbrev Put : tie.After-shared-slice-known5 → Kind → ℕ → List ℕ → Type 0
 Put c k r exit =
     let a = c .before .before .before .before .before .before .args in
     (r ≡ a .index + ownSize k (this c)) × (exit ≡ put (a .out .now) (a .index) (ownBytes k (this c) (a .store .now)))
 
-class : (c : tie.After-word3-at) {m : ℕ} → c .before .before .kind-at .result ≡ m → kindOf (this c .kind) ≡ kindOf m
-class c e = ap kindOf (sym (c .before .before .kind-at .ensures) ∙ e)
+class : (c : tie.After-shared-slice-known5) {m : ℕ} → this c .kind ≡ m → kindOf (this c .kind) ≡ kindOf m
+class c e = ap kindOf e
 
-arm : (c : tie.After-word3-at) {k : Kind} → kindOf (this c .kind) ≡ k → {r : ℕ} {exit : List ℕ} → Put c k r exit → Put c (kindOf (this c .kind)) r exit
+arm : (c : tie.After-shared-slice-known5) {k : Kind} → kindOf (this c .kind) ≡ k → {r : ℕ} {exit : List ℕ} → Put c k r exit → Put c (kindOf (this c .kind)) r exit
 arm c e {r} {exit} h = subst (λ (k : Kind). Put c k r exit) (sym e) h
 
 -- a row without bytes of its own
-nothing : (c : tie.After-word3-at) → let a = c .before .before .before .before .before .before .args in (a .index ≡ a .index + 0) × (a .out .now ≡ put (a .out .now) (a .index) [])
+nothing : (c : tie.After-shared-slice-known5) → let a = c .before .before .before .before .before .before .args in (a .index ≡ a .index + 0) × (a .out .now ≡ put (a .out .now) (a .index) [])
 nothing c = let a = c .before .before .before .before .before .before .args in (sym (add-zero (a .index)), sym (put-nothing (a .out .now) (a .index)))
 
-room : (c : tie.After-word3-at) {k : Kind} → kindOf (this c .kind) ≡ k → let a = c .before .before .before .before .before .before .args in a .index + ownSize k (this c) ≤ length (a .out .now)
+room : (c : tie.After-shared-slice-known5) {k : Kind} → kindOf (this c .kind) ≡ k → let a = c .before .before .before .before .before .before .args in a .index + ownSize k (this c) ≤ length (a .out .now)
 room c e = let s = c .before .before .before .before .before .before in subst (λ (k : Kind). s .args .index + ownSize k (this c) ≤ length (s .args .out .now)) e (s .pre .2)
 
-number-fits : (c : tie.After-word3-at) → kindOf (this c .kind) ≡ number uint32 → c .before .word2-at .result < 256 ^ 4
+number-fits : (c : tie.After-shared-slice-known5) → kindOf (this c .kind) ≡ number uint32 → this c .word2 < 256 ^ 4
 number-fits c e =
     let r = this c in
     let h : keepsRule (number uint32) r ≡ true = sym (ap (λ (k : Kind). keepsRule k r) e) ∙ c .before .before .before .before .before .before .pre .1 .rule in
-    rw (c .before .word2-at .ensures) (reflects-and (reflects-eqb (r .span) 1) (reflects-and (reflects-ltb (r .word2) (256 ^ 4)) (reflects-eqb (r .word3) 0)) .1 h .1 .0)
+    reflects-and (reflects-eqb (r .span) 1) (reflects-and (reflects-ltb (r .word2) (256 ^ 4)) (reflects-eqb (r .word3) 0)) .1 h .1 .0
 
-elements-fit : (c : tie.After-word3-at) (k : Elements) → kindOf (this c .kind) ≡ elements k → let a = c .before .before .before .before .before .before .args in (c .word3-at .result + elementWidth k * c .before .word2-at .result ≤ length (a .store .now)) × (a .index + (8 + elementWidth k * c .before .word2-at .result) ≤ length (a .out .now))
+elements-fit : (c : tie.After-shared-slice-known5) (k : Elements) → kindOf (this c .kind) ≡ elements k → let a = c .before .before .before .before .before .before .args in (this c .word3 + elementWidth k * this c .word2 ≤ length (a .store .now)) × (a .index + (8 + elementWidth k * this c .word2) ≤ length (a .out .now))
 elements-fit c k e =
     let r = this c in
     let len = length (c .before .before .before .before .before .before .args .store .now) in
     let h : withinStore (elements k) r len ≡ true = sym (ap (λ (x : Kind). withinStore x r len) e) ∙ c .before .before .before .before .before .before .pre .1 .within in
-    rw (c .word3-at .ensures, c .before .word2-at .ensures) (leb-true (r .word3 + elementWidth k * r .word2) len h, room c e)
+    (leb-true (r .word3 + elementWidth k * r .word2) len h, room c e)
 
-kind-at-requires : tie.Need-kind-at-requires
-kind-at-requires c κs = search needs
+mul-first : tie.Need-mul-first
+mul-first c = search needs
 
-word2-at-requires : tie.Need-word2-at-requires
-word2-at-requires c κs = search needs
+mul-kind : tie.Need-mul-kind
+mul-kind c = search needs
 
-word3-at-requires : tie.Need-word3-at-requires
-word3-at-requires c κs = search needs
+shared-slice-read-kind : tie.Need-shared-slice-read-kind
+shared-slice-read-kind c = search needs
+
+add-word2 : tie.Need-add-word2
+add-word2 c = search needs
+
+mul-word2 : tie.Need-mul-word2
+mul-word2 c = search needs
+
+shared-slice-read-word2 : tie.Need-shared-slice-read-word2
+shared-slice-read-word2 c = search needs
+
+add-place : tie.Need-add-place
+add-place c = search needs
+
+mul-place : tie.Need-mul-place
+mul-place c = search needs
+
+shared-slice-read-place : tie.Need-shared-slice-read-place
+shared-slice-read-place c = search needs
 
 cast-marshall-uint32 : tie.Need-cast-marshall-uint32
 unfolding kindOf kinds ownBytes
@@ -105,21 +123,21 @@ same-length c = search needs
 
 returns-2 : tie.Need-returns-2
 unfolding kindOf kinds ownBytes
-returns-2 c = arm (c .before .before .before .before .before) (class (c .before .before .before .before .before) (c .before .before .before .before .match .keys2)) (rw (c .before .before .before .before .before .before .word2-at .ensures) at (c .before .before .marshall-uint32 .ensures))
+returns-2 c = arm (c .before .before .before .before .before) (class (c .before .before .before .before .before) (c .before .before .before .before .match .keys2)) (c .before .before .marshall-uint32 .ensures)
 
 same-length-2 : tie.Need-same-length-2
 same-length-2 c = search needs
 
 returns-3 : tie.Need-returns-3
 unfolding kindOf kinds ownBytes
-returns-3 c = arm (c .before .before .before .before .before) (class (c .before .before .before .before .before) (c .before .before .before .before .match .keys3)) (rw (c .before .before .before .before .before .before .word2-at .ensures) at (c .before .before .marshall-uint64 .ensures))
+returns-3 c = arm (c .before .before .before .before .before) (class (c .before .before .before .before .before) (c .before .before .before .before .match .keys3)) (c .before .before .marshall-uint64 .ensures)
 
 same-length-3 : tie.Need-same-length-3
 same-length-3 c = search needs
 
 returns-4 : tie.Need-returns-4
 unfolding kindOf kinds ownBytes
-returns-4 c = arm (c .before .before .before .before .before) (class (c .before .before .before .before .before) (c .before .before .before .before .match .keys4)) (rw (c .before .before .before .before .before .before .word2-at .ensures) at (c .before .before .marshall-uint642 .ensures))
+returns-4 c = arm (c .before .before .before .before .before) (class (c .before .before .before .before .before) (c .before .before .before .before .match .keys4)) (c .before .before .marshall-uint642 .ensures)
 
 returns-5 : tie.Need-returns-5
 unfolding kindOf kinds ownBytes
@@ -130,40 +148,46 @@ same-length-4 c = search needs
 
 returns-6 : tie.Need-returns-6
 unfolding kindOf kinds ownBytes
-returns-6 c = arm (c .before .before .before .before .before) (class (c .before .before .before .before .before) (c .before .before .before .before .match .keys6)) (rw (c .before .before .before .before .before .word3-at .ensures, c .before .before .before .before .before .before .word2-at .ensures) at (c .before .before .marshall-elements .ensures))
+returns-6 c = arm (c .before .before .before .before .before) (class (c .before .before .before .before .before) (c .before .before .before .before .match .keys6)) (c .before .before .marshall-elements .ensures)
 
 same-length-5 : tie.Need-same-length-5
 same-length-5 c = search needs
 
 returns-7 : tie.Need-returns-7
 unfolding kindOf kinds ownBytes
-returns-7 c = arm (c .before .before .before .before .before) (class (c .before .before .before .before .before) (c .before .before .before .before .match .keys7)) (rw (c .before .before .before .before .before .word3-at .ensures, c .before .before .before .before .before .before .word2-at .ensures) at (c .before .before .marshall-elements2 .ensures))
+returns-7 c = arm (c .before .before .before .before .before) (class (c .before .before .before .before .before) (c .before .before .before .before .match .keys7)) (c .before .before .marshall-elements2 .ensures)
 
 same-length-6 : tie.Need-same-length-6
 same-length-6 c = search needs
 
 returns-8 : tie.Need-returns-8
 unfolding kindOf kinds ownBytes
-returns-8 c = arm (c .before .before .before .before .before) (class (c .before .before .before .before .before) (c .before .before .before .before .match .keys8)) (rw (c .before .before .before .before .before .word3-at .ensures, c .before .before .before .before .before .before .word2-at .ensures) at (c .before .before .marshall-elements3 .ensures))
+returns-8 c = arm (c .before .before .before .before .before) (class (c .before .before .before .before .before) (c .before .before .before .before .match .keys8)) (c .before .before .marshall-elements3 .ensures)
 
 same-length-7 : tie.Need-same-length-7
 same-length-7 c = search needs
 
 returns-9 : tie.Need-returns-9
 unfolding kindOf kinds ownBytes
-returns-9 c = arm (c .before .before .before .before .before) (class (c .before .before .before .before .before) (c .before .before .before .before .match .keys9)) (rw (c .before .before .before .before .before .before .word2-at .ensures) at (c .before .before .marshall-uint643 .ensures))
+returns-9 c = arm (c .before .before .before .before .before) (class (c .before .before .before .before .before) (c .before .before .before .before .match .keys9)) (c .before .before .marshall-uint643 .ensures)
 
 returns-10 : tie.Need-returns-10
 unfolding kindOf kinds ownBytes
-returns-10 c = arm (c .before) (ap kindOf (sym (c .before .before .before .kind-at .ensures)) ∙ none-of (c .before .before .before .kind-at .result) (c .match .rest)) (nothing (c .before))
+returns-10 c = arm (c .before) (none-of (this (c .before) .kind) (c .match .rest)) (nothing (c .before))
 
 pub marshall-row-spec : {M : Type 1} → statement M
 marshall-row-spec =
     tie.close
     (tie.spec
-    kind-at-requires
-    word2-at-requires
-    word3-at-requires
+    mul-first
+    mul-kind
+    shared-slice-read-kind
+    add-word2
+    mul-word2
+    shared-slice-read-word2
+    add-place
+    mul-place
+    shared-slice-read-place
     cast-marshall-uint32
     marshall-uint32-requires
     marshall-uint64-requires

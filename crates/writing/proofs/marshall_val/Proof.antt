@@ -3,8 +3,9 @@ use mathlib.Core.Path.{ap, _∙_}
 use lib.ListN.{length}
 use Rattle.packed.specs.Packed.{put}
 use Rattle.rows.proofs.Size.{table-bytes}
-use Rattle.writing.specs.Marshall.{marshallValOf}
-use Rattle.writing.proofs.Writing.{sized, size-refused, Written, written, put-ready, marshalls-refused, marshalls-put}
+use Rattle.sizing.specs.Writes.{marshallValOf}
+use Rattle.sizing.proofs.Writes.{sized, size-refused}
+use Rattle.writing.proofs.Writing.{Written, written, put-ready, marshalls-refused, marshalls-put}
 use borrow.Author.Needs.{needs}
 use Rattle.writing.proofs.marshall_val.Statement.{statement}
 use Rattle.writing.proofs.marshall_val.Tie as tie

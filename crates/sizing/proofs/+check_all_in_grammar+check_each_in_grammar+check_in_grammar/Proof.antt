@@ -12,32 +12,32 @@ use Rattle.grammar.specs.Table.{kindWord, firstWord, countWord, childWord}
 use Rattle.grammar.specs.Tree.{treeOf, childTrees}
 use Rattle.grammar.proofs.Rule.{node-inside}
 use Rattle.rows.specs.Row.{rowAt}
-use Rattle.writing.specs.InGrammar.{kindNumber, checkAllInGrammar, checkEachInGrammar}
-use Rattle.writing.specs.Checks.{StandingAll, Checks}
-use Rattle.writing.proofs.Walk.{tree-kind, tree-element, tuple-parts, union-parts, tree-parts, part-count, tree-case, one-child, child-fits, child-above, not-named, isParent, arm-other, arm-leaf, arm-array, arm-count, arm-tuple, arm-tag, arm-case, row-inside, elements-stand, fields-stand, case-stands, first-stands, others-stand, next-inside, Left, left-all, left-none, left-stopped, left-next, all-step, each-step, none-step, none-each}
+use Rattle.sizing.specs.InGrammar.{kindNumber, checkAllInGrammar, checkEachInGrammar}
+use Rattle.sizing.specs.Checks.{StandingAll, Checks}
+use Rattle.sizing.proofs.Walk.{tree-kind, tree-element, tuple-parts, union-parts, tree-parts, part-count, tree-case, one-child, child-fits, child-above, not-named, isParent, arm-other, arm-leaf, arm-array, arm-count, arm-tuple, arm-tag, arm-case, row-inside, elements-stand, fields-stand, case-stands, first-stands, others-stand, next-inside, Left, left-all, left-none, left-stopped, left-next, all-step, each-step, none-step, none-each}
 use borrow.Author.Needs.{needs}
 use Prim.Native.Nat.{ℕ, _<_}
 use borrow.Fn.Kinds.{In}
 use borrow.Fn.PlainCycle.{Measures, is, falls, and}
-use Rattle.writing.proofs.check_all_in_grammar.Reads as check-all-in-grammar
-use Rattle.writing.proofs.check_all_in_grammar.Kinds as check-all-in-grammar-kinds
-use Rattle.writing.proofs.+check_all_in_grammar+check_each_in_grammar+check_in_grammar.Lts-check_all_in_grammar as check-all-in-grammar-lts
-use Rattle.writing.proofs.check_each_in_grammar.Reads as check-each-in-grammar
-use Rattle.writing.proofs.check_each_in_grammar.Kinds as check-each-in-grammar-kinds
-use Rattle.writing.proofs.+check_all_in_grammar+check_each_in_grammar+check_in_grammar.Lts-check_each_in_grammar as check-each-in-grammar-lts
-use Rattle.writing.proofs.check_in_grammar.Reads as check-in-grammar
-use Rattle.writing.proofs.check_in_grammar.Kinds as check-in-grammar-kinds
-use Rattle.writing.proofs.+check_all_in_grammar+check_each_in_grammar+check_in_grammar.Lts-check_in_grammar as check-in-grammar-lts
-use Rattle.writing.proofs.child_at.Reads as child-at-reads
-use Rattle.writing.proofs.kind_at.Reads as kind-at-reads
-use Rattle.writing.proofs.not_in_grammar.Reads as not-in-grammar-reads
-use Rattle.writing.proofs.span_at.Reads as span-at-reads
-use Rattle.writing.proofs.word.Reads as word-reads
-use Rattle.writing.proofs.word2_at.Reads as word2-at-reads
-use Rattle.writing.proofs.+check_all_in_grammar+check_each_in_grammar+check_in_grammar.{
+use Rattle.sizing.proofs.check_all_in_grammar.Reads as check-all-in-grammar
+use Rattle.sizing.proofs.check_all_in_grammar.Kinds as check-all-in-grammar-kinds
+use Rattle.sizing.proofs.+check_all_in_grammar+check_each_in_grammar+check_in_grammar.Lts-check_all_in_grammar as check-all-in-grammar-lts
+use Rattle.sizing.proofs.check_each_in_grammar.Reads as check-each-in-grammar
+use Rattle.sizing.proofs.check_each_in_grammar.Kinds as check-each-in-grammar-kinds
+use Rattle.sizing.proofs.+check_all_in_grammar+check_each_in_grammar+check_in_grammar.Lts-check_each_in_grammar as check-each-in-grammar-lts
+use Rattle.sizing.proofs.check_in_grammar.Reads as check-in-grammar
+use Rattle.sizing.proofs.check_in_grammar.Kinds as check-in-grammar-kinds
+use Rattle.sizing.proofs.+check_all_in_grammar+check_each_in_grammar+check_in_grammar.Lts-check_in_grammar as check-in-grammar-lts
+use Rattle.sizing.proofs.child_at.Reads as child-at-reads
+use Rattle.sizing.proofs.kind_at.Reads as kind-at-reads
+use Rattle.sizing.proofs.not_in_grammar.Reads as not-in-grammar-reads
+use Rattle.sizing.proofs.span_at.Reads as span-at-reads
+use Rattle.sizing.proofs.word.Reads as word-reads
+use Rattle.sizing.proofs.word2_at.Reads as word2-at-reads
+use Rattle.sizing.proofs.+check_all_in_grammar+check_each_in_grammar+check_in_grammar.{
   statement,
 }
-use Rattle.writing.proofs.+check_all_in_grammar+check_each_in_grammar+check_in_grammar.Tie.{
+use Rattle.sizing.proofs.+check_all_in_grammar+check_each_in_grammar+check_in_grammar.Tie.{
   close,
 }
 

@@ -5,10 +5,10 @@ use Rattle.grammar.specs.Check.{checkGrammar}
 use Rattle.grammar.proofs.Rule.{accepted-exactly}
 use Rattle.rows.proofs.Calls.{Table}
 use Rattle.value.specs.Tree.{SizeOfV}
-use Rattle.writing.proofs.Writing.{sized, size-refused, table-sized, table-stands, value-grammar, value-rows, value-refused, value-size}
+use Rattle.sizing.proofs.Writes.{sized, size-refused, table-sized, table-stands, value-grammar, value-rows, value-refused, value-size}
 use borrow.Author.Needs.{needs}
-use Rattle.writing.proofs.size_of_value.Statement.{statement}
-use Rattle.writing.proofs.size_of_value.Tie as tie
+use Rattle.sizing.proofs.size_of_value.Statement.{statement}
+use Rattle.sizing.proofs.size_of_value.Tie as tie
 
 -- behind the match on the size: the grammar passed, and the rows are a table of that size
 grammar : (c : tie.After-known-told3) → accepted tt ≡ checkGrammar (c .before .before .before .before .before .before .before .before .before .before .args .grammar .now)

@@ -3,8 +3,8 @@ use borrow.Author.Tests.{le-leb, lt-leb}
 use Rattle.refusal.specs.Outcome.{refused}
 use Rattle.refusal.proofs.Outcome.{test-true, test-false}
 use borrow.Author.Needs.{needs}
-use Rattle.writing.proofs.check_size.Statement.{statement}
-use Rattle.writing.proofs.check_size.Tie as tie
+use Rattle.sizing.proofs.check_size.Statement.{statement}
+use Rattle.sizing.proofs.check_size.Tie as tie
 
 at-row-requires : tie.Need-at-row-requires
 at-row-requires c κs = search needs

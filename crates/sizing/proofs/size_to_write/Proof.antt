@@ -1,9 +1,9 @@
 use Rattle.refusal.specs.Outcome.{accepted, refused}
 use Rattle.refusal.proofs.Meaning.{done, stopped}
-use Rattle.writing.proofs.Writing.{sized, size-refused, write-refused, write-room}
+use Rattle.sizing.proofs.Writes.{sized, size-refused, write-refused, write-room}
 use borrow.Author.Needs.{needs}
-use Rattle.writing.proofs.size_to_write.Statement.{statement}
-use Rattle.writing.proofs.size_to_write.Tie as tie
+use Rattle.sizing.proofs.size_to_write.Statement.{statement}
+use Rattle.sizing.proofs.size_to_write.Tie as tie
 
 size-of-value-requires : tie.Need-size-of-value-requires
 size-of-value-requires c κs = search needs

@@ -32,8 +32,8 @@ use Rattle.rows.specs.Layout.{ownRow}
 use Rattle.rows.specs.Rule.{StandFor, StandForAll}
 use Rattle.rows.proofs.Laws.{NoneOf, none-of}
 use Rattle.rows.proofs.Rule.{own-row, row-span}
-use Rattle.writing.specs.InGrammar.{kindNumber, elementGrammar, partGrammars, at15, checkInGrammar, checkAllInGrammar, checkEachInGrammar}
-use Rattle.writing.specs.Checks.{Standing, StandingAll, Checks, ChecksAll, ChildInside}
+use Rattle.sizing.specs.InGrammar.{kindNumber, elementGrammar, partGrammars, at15, checkInGrammar, checkAllInGrammar, checkEachInGrammar}
+use Rattle.sizing.specs.Checks.{Standing, StandingAll, Checks, ChecksAll, ChildInside}
 
 -- ---- the tree of a node by its words
 

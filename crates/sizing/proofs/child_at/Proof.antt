@@ -1,7 +1,7 @@
 use mathlib.Core.Path.{_∙_}
 use borrow.Author.Needs.{needs}
-use Rattle.writing.proofs.child_at.Statement.{statement}
-use Rattle.writing.proofs.child_at.Tie as tie
+use Rattle.sizing.proofs.child_at.Statement.{statement}
+use Rattle.sizing.proofs.child_at.Tie as tie
 
 word-requires : tie.Need-word-requires
 word-requires c κs = search needs

@@ -12,7 +12,7 @@ use Rattle.value.specs.Kinds.{numberKind, elementsKind, Kind, kinds, kindOf, co
 use Rattle.value.specs.Tree.{G, Gs, GConstant, GNumber, GArray, GTuple, GNumberArray, GTaggedUnion, gnil, gcons, Val, Vals, VConstant, VNumber, VArray, VTuple, VNumberArray, VCase, vnil, vcons, seqG, seqV, caseAt, ValInGrammar, AllInGrammar, EachInGrammar, inConstant, inNumber, inArray, inTuple, inNumberArray, inCase, allNil, allCons, eachNil, eachCons, rowCount, rowCounts}
 use Rattle.value.proofs.KindLaws.{number-kind, elements-kind}
 use Rattle.value.proofs.Laws.{each-length}
-use Rattle.writing.specs.InGrammar.{kindNumber, elementGrammar, partGrammars, checkInGrammar, checkAllInGrammar, checkEachInGrammar}
+use Rattle.sizing.specs.InGrammar.{kindNumber, elementGrammar, partGrammars, checkInGrammar, checkAllInGrammar, checkEachInGrammar}
 
 -- ---- from the grammar to the check
 

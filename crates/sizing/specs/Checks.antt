@@ -10,7 +10,7 @@ use Rattle.value.specs.Tree.{G, Val, Vals, seqV, rowCount, rowCounts}
 use Rattle.grammar.specs.Table.{nodeCount, firstWord}
 use Rattle.rows.specs.Row.{rowWidth}
 use Rattle.rows.specs.Rule.{StandFor, StandForAll}
-use Rattle.writing.specs.InGrammar.{checkInGrammar}
+use Rattle.sizing.specs.InGrammar.{checkInGrammar}
 
 -- the rows from row i on, all in the table, stand for a value, with some store
 pub record Standing (t : List ℕ) (i : ℕ) : Type 0 where

@@ -1,0 +1,3 @@
+pub mod InGrammar
+pub mod Walk
+pub mod Writes

@@ -1,0 +1,3 @@
+pub mod InGrammar
+pub mod Checks
+pub mod Writes
