@@ -4,7 +4,7 @@ use libc::STDIN_FILENO;
 use libc::STDOUT_FILENO;
 
 fn main() {
-    let mut input = [0u8; text::MOST_INPUT + 1];
+    let mut input = [0u8; input::MOST_INPUT + 1];
     let mut out = [0u8; text::MOST_TEXT];
     let len = io::read_full(STDIN_FILENO, &mut input);
     let size = text::show(&input[..len], &mut out);

@@ -14,7 +14,7 @@ use Rattle.rows.specs.Layout.{ownRow, rowsOf}
 use Rattle.reading.specs.Calls.{demarshallOf}
 use Rattle.text.specs.Digits.{digitsWithin, digits}
 use Rattle.text.specs.Text.{numeral, line, linesOf, rowsText, placeText, refusalText}
-use Rattle.text.specs.Input.{countAt, recordAfter, layoutOf}
+use Rattle.input.specs.Input.{countAt, recordAfter, layoutOf}
 use Rattle.text.specs.Show.{readInput, shown}
 
 abbrev grammarA : List ℕ

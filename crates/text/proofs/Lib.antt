@@ -1,7 +1,6 @@
 pub mod Digits
 pub mod Puts
 pub mod Lines
-pub mod Input
 pub mod Read
 pub mod Made
 pub mod Examples

@@ -9,9 +9,9 @@ use Rattle.refusal.specs.Outcome.{Outcome, accepted, bind, Reason}
 use Rattle.packed.specs.Packed.{Below, unpackLittleEndian, unpackLittleEndianSeq, packLittleEndian, packLittleEndianSeq}
 use Rattle.packed.proofs.Laws.{length-pack, unpack-packed, length-packSeq, unpackSeq-packSeq}
 use Rattle.reading.specs.Calls.{demarshallOf}
-use Rattle.text.specs.Input.{Parts, mostInput, mostWords, layoutOf, grammarOf, recordOf}
+use Rattle.input.specs.Input.{Parts, mostInput, mostWords, layoutOf, grammarOf, recordOf}
 use Rattle.text.specs.Show.{mostRows, readInput}
-use Rattle.text.proofs.Input.{layout-exactly}
+use Rattle.input.proofs.Input.{layout-exactly}
 
 -- the input that holds grammar words and a record, and its parts
 abbrev pub inputOf : List ℕ → List ℕ → List ℕ

@@ -25,9 +25,9 @@ use Rattle.reading.specs.Meaning.{Counts}
 use Rattle.reading.specs.Calls.{capacityOf, demarshallOf, countsOf, Parses}
 use Rattle.reading.proofs.Calls.{parses-refused, parse-accepted, whole-accepted}
 use Rattle.text.specs.Text.{linesOf, rowsText, refusalText}
-use Rattle.text.specs.Input.{Parts, layoutOf, wordsAt, grammarOf, recordOf}
+use Rattle.input.specs.Input.{Parts, layoutOf, wordsAt, grammarOf, recordOf}
 use Rattle.text.specs.Show.{mostRows, readInput, shown, textOf, FewRows}
-use Rattle.text.proofs.Input.{bind-inverse}
+use Rattle.input.proofs.Input.{bind-inverse}
 
 -- the words that were unpacked
 pub words-read : (input words : List ℕ) {answer : Outcome Reason (Unit {0})} {exit : List ℕ} → 4 + 4 * length words ≤ length input → Fills (unpackSeqAt 4 input 4 (length words)) answer words exit → exit ≡ wordsAt input (length words)

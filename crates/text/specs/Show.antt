@@ -13,7 +13,7 @@ use Rattle.reading.specs.declared.Parsed.{Parsed}
 use Rattle.reading.specs.declared.Parsed.the-variants as P
 use Rattle.reading.specs.Calls.{demarshallOf}
 use Rattle.text.specs.Text.{rowsText, refusalText}
-use Rattle.text.specs.Input.{layoutOf, grammarOf, recordOf}
+use Rattle.input.specs.Input.{layoutOf, grammarOf, recordOf}
 
 -- the rows with which a record is read
 abbrev pub mostRows : ℕ

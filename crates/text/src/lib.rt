@@ -1,102 +1,27 @@
-// The text of the program `show`: the layout of its input, and the lines that it prints.
+// The text of the program `show`: the record of its input, and the lines that it prints.
 ghost use mathlib.Core.Path.{_≡_};
 ghost use mathlib.Core.List.{_∷_, [], _++_};
-ghost use Prim.Native.Nat.{_+_, _*_, _≤_, min};
+ghost use Prim.Native.Nat.{_+_, _*_, _≤_};
 ghost use lib.ListN.{length};
 ghost use Rattle.refusal.specs.Meaning.{locationOf, reasonOf};
-ghost use Rattle.refusal.specs.Outcome.{reason, byte};
-ghost use Rattle.packed.specs.Meaning.{unpackedU32};
 ghost use Rattle.rows.specs.Row.{rowWidth, rowAt};
 ghost use Rattle.reading.specs.Calls.{demarshallOf, Parses};
+ghost use Rattle.input.specs.Input.{mostWords, wordsAt};
 ghost use Rattle.text.specs.Digits.{digits};
 ghost use Rattle.text.specs.Text.{newline, numeral, line, linesOf, rowsText, placeText, refusalText, RoomFor, Puts, mostNumeral, mostLine, mostPlace, mostRefusal, mostRowsText, mostText};
-ghost use Rattle.text.specs.Input.{mostInput, mostWords, partsOf, countAt, recordAfter, layoutOf, wordsAt};
 ghost use Rattle.text.specs.Show.{mostRows, readInput, shown, FewRows, textOf};
-use packed::UnpackedU32;
+use input::Layout;
 use reading::Parsed;
 use refusal::Place;
 use refusal::Refusal;
 
-// How the input is laid out: so many words from byte 4 on, and the record, where it starts and how long it is.
-pub enum Layout {
-    Parts {
-        words: usize,
-        start: usize,
-        size: usize,
-    },
-    Refused(Refusal),
-}
-
-// The bytes of the longest input.
-pub const MOST_INPUT: usize = 65536;
-
 // No text has more bytes.
 pub const MOST_TEXT: usize = 86042;
-
-// The most grammar words.
-const MOST_WORDS: usize = 1794;
 
 // The words of a row, and of the rows with which a record is read.
 const ROW_WIDTH: usize = 4;
 
 const ROW_WORDS: usize = 4096;
-
-fn not_laid_out(len: usize) -> Refusal
-    ensures { λ r. ⌜ reasonOf r ≡ reason 19 (byte (min len mostInput)) ⌝ }
-{
-    if MOST_INPUT < len {
-        return refusal::at_byte(refusal::INPUT_LAYOUT, MOST_INPUT);
-    }
-    refusal::at_byte(refusal::INPUT_LAYOUT, len)
-}
-
-// The 4-byte number at an index; 19 where it is not there.
-fn count_at(input: &[u8], index: usize) -> UnpackedU32
-    ensures { λ r. ⌜ unpackedU32 r ≡ countAt (now (input .entry)) index ⌝ }
-{
-    match packed::unpack_little_endian_uint32(input, index) {
-        UnpackedU32::Number(n) => UnpackedU32::Number(n),
-        UnpackedU32::Refused(_) => UnpackedU32::Refused(not_laid_out(input.len())),
-    }
-}
-
-// Behind so many words: the record length, then the record, with which the input ends.
-fn record_after(input: &[u8], words: usize) -> Layout
-    requires { ⌜ words ≤ mostWords ⌝ }
-    ensures { λ r. ⌜ partsOf r ≡ recordAfter (now (input .entry)) words ⌝ }
-{
-    let start = 8 + 4 * words;
-    match count_at(input, 4 + 4 * words) {
-        UnpackedU32::Refused(r) => Layout::Refused(r),
-        UnpackedU32::Number(n) => {
-            let size = n as usize;
-            if start + size == input.len() {
-                Layout::Parts { words, start, size }
-            } else {
-                Layout::Refused(not_laid_out(input.len()))
-            }
-        }
-    }
-}
-
-// The layout of the input. The word count is tested before it is multiplied.
-pub fn lay_out(input: &[u8]) -> Layout
-    ensures { λ r. ⌜ partsOf r ≡ layoutOf (now (input .entry)) ⌝ }
-{
-    if MOST_INPUT < input.len() {
-        return Layout::Refused(not_laid_out(input.len()));
-    }
-    match count_at(input, 0) {
-        UnpackedU32::Refused(r) => Layout::Refused(r),
-        UnpackedU32::Number(n) => {
-            let words = n as usize;
-            if MOST_WORDS < words {
-                return Layout::Refused(not_laid_out(input.len()));
-            }
-            record_after(input, words)
-        }
-    }
-}
 
 // Puts a byte, which has room, and gives the index behind it.
 fn put_byte(b: u8, out: &mut [u8], index: usize) -> usize
@@ -230,7 +155,7 @@ fn read_input(input: &[u8], words: &mut [u32], rows: &mut [u64]) -> Parsed
     requires { ⌜ (length (now words) ≡ mostWords) × (length (now rows) ≡ 4096) ⌝ }
     ensures { λ r. ⌜ Parses (readInput (now (input .entry))) 0 r (now (rows .entry)) (now (rows .exit)) ⌝ }
 {
-    match lay_out(input) {
+    match input::lay_out(input) {
         Layout::Refused(r) => Parsed::Refused(r),
         Layout::Parts {
             words: count,
@@ -247,7 +172,7 @@ fn read_input(input: &[u8], words: &mut [u32], rows: &mut [u64]) -> Parsed
 pub fn show(input: &[u8], out: &mut [u8; MOST_TEXT]) -> usize
     ensures { λ r. ⌜ Puts (shown (readInput (now (input .entry)))) mostText 0 r (now (out .entry)) (now (out .exit)) ⌝ }
 {
-    let mut words = [0u32; MOST_WORDS];
+    let mut words = [0u32; input::MOST_WORDS];
     let mut rows = [0u64; ROW_WORDS];
     let parsed = read_input(input, &mut words, &mut rows);
     put_text(parsed, &rows, out)

@@ -2,8 +2,8 @@ use mathlib.Core.Path.{_≡_, ap, sym, _∙_}
 use Prim.Native.Nat.{_+_, _-_}
 use native.Mathlib.Omega.{arith}
 use lib.Seq.{length-take-le}
-use Rattle.text.specs.Input.{partsOf}
-use Rattle.text.proofs.Input.{parts-matched, parts-laid}
+use Rattle.input.specs.Input.{partsOf}
+use Rattle.input.proofs.Input.{parts-matched, parts-laid}
 use Rattle.text.proofs.Read.{input-refused, input-read}
 use borrow.Author.Needs.{needs}
 use Rattle.text.proofs.read_input.Statement.{statement}

@@ -1,9 +1,9 @@
 use mathlib.Core.Path.{ap, _∙_}
 use Rattle.refusal.specs.Outcome.{refused}
-use Rattle.text.proofs.Input.{matched, count-there, count-missing}
+use Rattle.input.proofs.Input.{matched, count-there, count-missing}
 use borrow.Author.Needs.{needs}
-use Rattle.text.proofs.count_at.Statement.{statement}
-use Rattle.text.proofs.count_at.Tie as tie
+use Rattle.input.proofs.count_at.Statement.{statement}
+use Rattle.input.proofs.count_at.Tie as tie
 
 unpack-little-endian-uint32-requires : tie.Need-unpack-little-endian-uint32-requires
 unpack-little-endian-uint32-requires c κs = search needs

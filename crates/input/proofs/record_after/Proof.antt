@@ -1,9 +1,9 @@
 use mathlib.Core.Path.{ap, _∙_}
 use Rattle.refusal.specs.Outcome.{refused}
-use Rattle.text.proofs.Input.{matched, record-short, record-ends, record-not-ends}
+use Rattle.input.proofs.Input.{matched, record-short, record-ends, record-not-ends}
 use borrow.Author.Needs.{needs}
-use Rattle.text.proofs.record_after.Statement.{statement}
-use Rattle.text.proofs.record_after.Tie as tie
+use Rattle.input.proofs.record_after.Statement.{statement}
+use Rattle.input.proofs.record_after.Tie as tie
 
 mul-start : tie.Need-mul-start
 mul-start c = search needs

@@ -3,8 +3,8 @@ use Prim.Native.Nat.{ℕ, min}
 use native.Mathlib.Omega.{arith}
 use Rattle.refusal.specs.Outcome.{reason, byte}
 use borrow.Author.Needs.{needs}
-use Rattle.text.proofs.not_laid_out.Statement.{statement}
-use Rattle.text.proofs.not_laid_out.Tie as tie
+use Rattle.input.proofs.not_laid_out.Statement.{statement}
+use Rattle.input.proofs.not_laid_out.Tie as tie
 
 at-byte-requires : tie.Need-at-byte-requires
 at-byte-requires c κs = search needs

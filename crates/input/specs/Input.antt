@@ -7,8 +7,8 @@ use lib.Dec.{leb, eqb}
 use Rattle.refusal.specs.Outcome.{Outcome, accepted, refused, bind, test, Reason, reason, byte}
 use Rattle.refusal.specs.Meaning.{reasonOf}
 use Rattle.packed.specs.Packed.{unpackLittleEndian, unpackLittleEndianSeq}
-use Rattle.text.specs.declared.Layout.{Layout}
-use Rattle.text.specs.declared.Layout.the-variants as L
+use Rattle.input.specs.declared.Layout.{Layout}
+use Rattle.input.specs.declared.Layout.the-variants as L
 
 -- the bytes of the longest input
 abbrev pub mostInput : ℕ

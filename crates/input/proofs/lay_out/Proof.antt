@@ -1,9 +1,9 @@
 use mathlib.Core.Path.{ap, _∙_}
 use Rattle.refusal.specs.Outcome.{refused}
-use Rattle.text.proofs.Input.{matched, layout-long, layout-short, layout-many, layout-record}
+use Rattle.input.proofs.Input.{matched, layout-long, layout-short, layout-many, layout-record}
 use borrow.Author.Needs.{needs}
-use Rattle.text.proofs.lay_out.Statement.{statement}
-use Rattle.text.proofs.lay_out.Tie as tie
+use Rattle.input.proofs.lay_out.Statement.{statement}
+use Rattle.input.proofs.lay_out.Tie as tie
 
 not-laid-out-requires : tie.Need-not-laid-out-requires
 not-laid-out-requires c κs = search needs

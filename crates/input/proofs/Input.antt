@@ -14,9 +14,9 @@ use Rattle.refusal.proofs.Meaning.{reason-injective}
 use Rattle.packed.specs.declared.UnpackedU32.{UnpackedU32}
 use Rattle.packed.specs.Meaning.{unpackedU32}
 use Rattle.packed.specs.Packed.{unpackLittleEndian, present, unpackAt}
-use Rattle.text.specs.declared.Layout.{Layout}
-use Rattle.text.specs.declared.Layout.the-variants as L
-use Rattle.text.specs.Input.{Parts, mostInput, mostWords, notLaidOut, countAt, recordAfter, layoutOf, LaidOut, partsOf}
+use Rattle.input.specs.declared.Layout.{Layout}
+use Rattle.input.specs.declared.Layout.the-variants as L
+use Rattle.input.specs.Input.{Parts, mostInput, mostWords, notLaidOut, countAt, recordAfter, layoutOf, LaidOut, partsOf}
 
 -- an answer that was matched
 pub matched : {o : Outcome Reason ℕ} {p q : UnpackedU32} → p ≡ q → unpackedU32 p ≡ o → unpackedU32 q ≡ o
