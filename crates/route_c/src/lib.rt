@@ -36,14 +36,14 @@ pub extern "C" fn route_unpack_u64(packed: &[u8], index: usize) -> RouteAnswer
 pub extern "C" fn route_pack_u32(n: u32, out: &mut [u8], index: usize) -> RouteAnswer
     ensures { λ r. ⌜ Answers (putAt (now (out .entry)) index (packLittleEndian 4 n)) r (now (out .entry)) (now (out .exit)) ⌝ }
 {
-    of_answer(packed::pack_little_endian_uint32_into_array(n, out, index))
+    of_answer(packing::pack_little_endian_uint32_into_array(n, out, index))
 }
 
 #[no_mangle]
 pub extern "C" fn route_pack_u64(n: u64, out: &mut [u8], index: usize) -> RouteAnswer
     ensures { λ r. ⌜ Answers (putAt (now (out .entry)) index (packLittleEndian 8 n)) r (now (out .entry)) (now (out .exit)) ⌝ }
 {
-    of_answer(packed::pack_little_endian_uint64_into_array(n, out, index))
+    of_answer(packing::pack_little_endian_uint64_into_array(n, out, index))
 }
 
 #[no_mangle]
@@ -72,14 +72,14 @@ pub extern "C" fn route_unpack_u64_seq(
 pub extern "C" fn route_pack_u32_seq(numbers: &[u32], out: &mut [u8], index: usize) -> RouteAnswer
     ensures { λ r. ⌜ Answers (putAt (now (out .entry)) index (packLittleEndianSeq 4 (now (numbers .entry)))) r (now (out .entry)) (now (out .exit)) ⌝ }
 {
-    of_answer(packed::pack_little_endian_uint32_seq_into_array(numbers, out, index))
+    of_answer(packing::pack_little_endian_uint32_seq_into_array(numbers, out, index))
 }
 
 #[no_mangle]
 pub extern "C" fn route_pack_u64_seq(numbers: &[u64], out: &mut [u8], index: usize) -> RouteAnswer
     ensures { λ r. ⌜ Answers (putAt (now (out .entry)) index (packLittleEndianSeq 8 (now (numbers .entry)))) r (now (out .entry)) (now (out .exit)) ⌝ }
 {
-    of_answer(packed::pack_little_endian_uint64_seq_into_array(numbers, out, index))
+    of_answer(packing::pack_little_endian_uint64_seq_into_array(numbers, out, index))
 }
 
 #[no_mangle]

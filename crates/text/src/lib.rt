@@ -49,7 +49,7 @@ fn put_bytes(bytes: &[u8], out: &mut [u8], index: usize) -> usize
     requires { ⌜ RoomFor (length (now bytes)) index (now out) ⌝ }
     ensures { λ r. ⌜ Puts (now (bytes .entry)) (length (now (bytes .entry))) index r (now (out .entry)) (now (out .exit)) ⌝ }
 {
-    packed::copy_seq_into_array(bytes, out, index);
+    packing::copy_seq_into_array(bytes, out, index);
     index + bytes.len()
 }
 

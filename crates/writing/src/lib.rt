@@ -19,7 +19,7 @@ fn marshall_uint32(n: u32, out: &mut [u8], index: usize) -> usize
     requires { ⌜ index + 4 ≤ length (now out) ⌝ }
     ensures { λ r. ⌜ (r ≡ index + 4) × (now (out .exit) ≡ put (now (out .entry)) index (packLittleEndian 4 n)) ⌝ }
 {
-    packed::pack_little_endian_uint32_into_array(n, out, index);
+    packing::pack_little_endian_uint32_into_array(n, out, index);
     index + 4
 }
 
@@ -28,7 +28,7 @@ fn marshall_uint64(n: u64, out: &mut [u8], index: usize) -> usize
     requires { ⌜ index + 8 ≤ length (now out) ⌝ }
     ensures { λ r. ⌜ (r ≡ index + 8) × (now (out .exit) ≡ put (now (out .entry)) index (packLittleEndian 8 n)) ⌝ }
 {
-    packed::pack_little_endian_uint64_into_array(n, out, index);
+    packing::pack_little_endian_uint64_into_array(n, out, index);
     index + 8
 }
 
@@ -48,7 +48,7 @@ fn marshall_elements(
     let start = place as usize;
     let size = (width * count) as usize;
     let end = start + size;
-    packed::copy_seq_into_array(&store[start..end], out, at);
+    packing::copy_seq_into_array(&store[start..end], out, at);
     at + size
 }
 

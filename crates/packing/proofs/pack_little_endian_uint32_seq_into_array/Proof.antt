@@ -2,16 +2,16 @@ use mathlib.Core.Path.{refl, sym, _∙_}
 use Prim.Native.Nat.{_-_, _*_}
 use native.Mathlib.Omega.{arith}
 use lib.ListN.{length}
 use Rattle.packed.specs.Packed.{packLittleEndianSeq}
 use Rattle.packed.proofs.Put.{put-nothing, packSeq-next}
 use Rattle.refusal.proofs.Meaning.{done, stopped}
 use Rattle.packed.proofs.Calls.{PackedTo, room-fits, packSeq-refused, packSeq-accepted}
 use borrow.Author.Needs.{needs}
-use Rattle.packed.proofs.pack_little_endian_uint64_seq_into_array.Statement.{statement}
-use Rattle.packed.proofs.pack_little_endian_uint64_seq_into_array.Tie as tie
+use Rattle.packing.proofs.pack_little_endian_uint32_seq_into_array.Statement.{statement}
+use Rattle.packing.proofs.pack_little_endian_uint32_seq_into_array.Tie as tie
 
 abbrev Inv-loop : tie.InvT-loop
-Inv-loop numbers out₀ index i₀ out i = PackedTo 8 numbers out₀ index out i
+Inv-loop numbers out₀ index i₀ out i = PackedTo 4 numbers out₀ index out i
 
 abbrev μ-loop : tie.MeasureT-loop
 μ-loop numbers out₀ index i₀ out i = length numbers - i
@@ -29,13 +29,16 @@ loop-holds : tie.Need-loop-holds Inv-loop μ-loop
 unfolding packLittleEndianSeq
 loop-holds c =
     let a = c .before .before .before .before .before .args in
-    (omega arith, refl, room-fits (length (a .out .now)) (a .index) (8 * length (a .numbers .now)) (done (c .enum-told .given .1) (c .before .before .room .ensures)), sym (put-nothing (a .out .now) (a .index)))
+    (omega arith, refl, room-fits (length (a .out .now)) (a .index) (4 * length (a .numbers .now)) (done (c .enum-told .given .1) (c .before .before .room .ensures)), sym (put-nothing (a .out .now) (a .index)))
 
 mul-pack : tie.Need-mul-pack Inv-loop μ-loop
 mul-pack c = search needs
 
 shared-slice-read-pack : tie.Need-shared-slice-read-pack Inv-loop μ-loop
 shared-slice-read-pack c = search needs
+
+cast-pack : tie.Need-cast-pack Inv-loop μ-loop
+cast-pack c = omega (arith, c .shared-slice-known2 .given (c .before .before .loop .i))
 
 mul-pack-2 : tie.Need-mul-pack-2 Inv-loop μ-loop
 mul-pack-2 c = search needs
@@ -57,12 +60,12 @@ loop-again c =
     let a = c .before .before .before .before .before .before .before .before .before .before .before .before .args in
     let l = c .before .before .before .before .before .before .loop in
     let p = c .before .before .pack in
-    (omega arith, p .kept .1 .0 ∙ l .inv .1, l .inv .2, packSeq-next 8 (a .out .now) (l .out) (p .last .1 .0) (a .index) (l .i) (a .numbers .now) (omega arith) (l .inv .2) (l .inv .3) (p .ensures))
+    (omega arith, p .kept .1 .0 ∙ l .inv .1, l .inv .2, packSeq-next 4 (a .out .now) (l .out) (p .last .1 .0) (a .index) (l .i) (a .numbers .now) (omega arith) (l .inv .2) (l .inv .3) (p .ensures))
 
 returns : tie.Need-returns Inv-loop μ-loop
 returns c =
     let a = c .before .before .before .before .before .before .args in
-    packSeq-refused 8 (a .numbers .now) (a .out .now) (a .index) (stopped (c .before .r .given .1) (c .before .before .before .room .ensures))
+    packSeq-refused 4 (a .numbers .now) (a .out .now) (a .index) (stopped (c .before .r .given .1) (c .before .before .before .room .ensures))
 
 same-length : tie.Need-same-length Inv-loop μ-loop
 same-length c = c .before .loop .inv .1
@@ -71,10 +74,10 @@ returns-2 : tie.Need-returns-2 Inv-loop μ-loop
 returns-2 c =
     let a = c .before .before .before .before .before .before .before .args in
     let l = c .before .loop in
-    packSeq-accepted 8 (a .numbers .now) (a .out .now) (a .index) (l .i) (omega arith) (l .inv .3) (done (c .before .before .enum-told .given .1) (c .before .before .before .before .room .ensures))
+    packSeq-accepted 4 (a .numbers .now) (a .out .now) (a .index) (l .i) (omega arith) (l .inv .3) (done (c .before .before .enum-told .given .1) (c .before .before .before .before .room .ensures))
 
-pub pack-little-endian-uint64-seq-into-array-spec : {M : Type 1} → statement M
-pack-little-endian-uint64-seq-into-array-spec =
+pub pack-little-endian-uint32-seq-into-array-spec : {M : Type 1} → statement M
+pack-little-endian-uint32-seq-into-array-spec =
     tie.close
     (tie.spec
     Inv-loop
@@ -85,6 +88,7 @@ pack-little-endian-uint64-seq-into-array-spec =
     loop-holds
     mul-pack
     shared-slice-read-pack
+    cast-pack
     mul-pack-2
     add-pack
     pack-requires

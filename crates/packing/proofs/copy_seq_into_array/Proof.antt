@@ -4,13 +4,13 @@ use Prim.Native.Nat.{_+_, _-_, _*_, _≤_}
 use native.Mathlib.Omega.{arith}
 use lib.ListN.{length, take, length-set}
 use lib.Seq.{take-all}
 use Rattle.packed.specs.Packed.{put}
 use Rattle.packed.proofs.Put.{put-nothing, copy-next}
 use Rattle.refusal.proofs.Meaning.{done, stopped}
 use Rattle.packed.proofs.Calls.{room-fits, put-refused, put-accepted}
 use borrow.Author.Needs.{needs}
-use Rattle.packed.proofs.copy_seq_into_array.Statement.{statement}
-use Rattle.packed.proofs.copy_seq_into_array.Tie as tie
+use Rattle.packing.proofs.copy_seq_into_array.Statement.{statement}
+use Rattle.packing.proofs.copy_seq_into_array.Tie as tie
 
 abbrev Inv-loop : tie.InvT-loop
 Inv-loop src out₀ index i₀ out i = (i ≤ length src) × (length out ≡ length out₀) × (index + length src ≤ length out₀) × (out ≡ put out₀ index (take i src))

@@ -4,12 +4,12 @@ use Prim.Native.Nat.{ℕ, _-_, _/_, _^_, _≤_}
 use native.Mathlib.Nat.{div-one}
 use native.Mathlib.Omega.{arith}
 use lib.ListN.{length, length-set}
 use Rattle.packed.specs.Packed.{packLittleEndian, put}
 use Rattle.packed.proofs.Laws.{rest-next}
 use Rattle.packed.proofs.Put.{put-nothing, pack-next}
 use borrow.Author.Needs.{needs}
-use Rattle.packed.proofs.pack.Statement.{statement}
-use Rattle.packed.proofs.pack.Tie as tie
+use Rattle.packing.proofs.pack.Statement.{statement}
+use Rattle.packing.proofs.pack.Tie as tie
 
 abbrev Inv-loop : tie.InvT-loop
 Inv-loop n out₀ index width rest₀ i₀ out rest i = (i ≤ width) × (length out ≡ length out₀) × (rest ≡ n / 256 ^ i) × (out ≡ put out₀ index (packLittleEndian i n))

@@ -1,0 +1,103 @@
+// The packers of PackedInts (PI): numbers as bytes, least byte first, at an index of a lent output, one by one and in runs; and bytes copied.
+ghost use mathlib.Core.Path.{_≡_};
+ghost use Prim.Native.Nat.{_+_, _≤_};
+ghost use lib.ListN.{length};
+ghost use Rattle.refusal.specs.Outcome.{Fills};
+ghost use Rattle.refusal.specs.Meaning.{outcomeOf};
+ghost use Rattle.packed.specs.Packed.{packLittleEndian, packLittleEndianSeq, put, putAt};
+use refusal::Answer;
+
+// Puts the width bytes of n from the index on: after i bytes exactly these i.
+fn pack(n: u64, out: &mut [u8], index: usize, width: usize)
+    requires { ⌜ index + width ≤ length (now out) ⌝ }
+    ensures { λ _. ⌜ now (out .exit) ≡ put (now (out .entry)) index (packLittleEndian width n) ⌝ }
+{
+    let mut rest = n;
+    let mut i: usize = 0;
+    while i < width {
+        out[index + i] = (rest % 256) as u8;
+        rest = rest / 256;
+        i += 1;
+    }
+}
+
+pub fn pack_little_endian_uint32_into_array(n: u32, out: &mut [u8], index: usize) -> Answer
+    ensures { λ r. ⌜ Fills (putAt (now (out .entry)) index (packLittleEndian 4 n)) (outcomeOf r) (now (out .entry)) (now (out .exit)) ⌝ }
+{
+    match packed::room(out.len(), index, 1, 4) {
+        Answer::Refused(r) => Answer::Refused(r),
+        Answer::Accepted => {
+            pack(n as u64, out, index, 4);
+            Answer::Accepted
+        }
+    }
+}
+
+pub fn pack_little_endian_uint64_into_array(n: u64, out: &mut [u8], index: usize) -> Answer
+    ensures { λ r. ⌜ Fills (putAt (now (out .entry)) index (packLittleEndian 8 n)) (outcomeOf r) (now (out .entry)) (now (out .exit)) ⌝ }
+{
+    match packed::room(out.len(), index, 1, 8) {
+        Answer::Refused(r) => Answer::Refused(r),
+        Answer::Accepted => {
+            pack(n, out, index, 8);
+            Answer::Accepted
+        }
+    }
+}
+
+pub fn pack_little_endian_uint32_seq_into_array(
+    numbers: &[u32],
+    out: &mut [u8],
+    index: usize,
+) -> Answer
+    ensures { λ r. ⌜ Fills (putAt (now (out .entry)) index (packLittleEndianSeq 4 (now (numbers .entry)))) (outcomeOf r) (now (out .entry)) (now (out .exit)) ⌝ }
+{
+    match packed::room(out.len(), index, numbers.len(), 4) {
+        Answer::Refused(r) => Answer::Refused(r),
+        Answer::Accepted => {
+            let mut i: usize = 0;
+            while i < numbers.len() {
+                pack(numbers[i] as u64, out, index + 4 * i, 4);
+                i += 1;
+            }
+            Answer::Accepted
+        }
+    }
+}
+
+pub fn pack_little_endian_uint64_seq_into_array(
+    numbers: &[u64],
+    out: &mut [u8],
+    index: usize,
+) -> Answer
+    ensures { λ r. ⌜ Fills (putAt (now (out .entry)) index (packLittleEndianSeq 8 (now (numbers .entry)))) (outcomeOf r) (now (out .entry)) (now (out .exit)) ⌝ }
+{
+    match packed::room(out.len(), index, numbers.len(), 8) {
+        Answer::Refused(r) => Answer::Refused(r),
+        Answer::Accepted => {
+            let mut i: usize = 0;
+            while i < numbers.len() {
+                pack(numbers[i], out, index + 8 * i, 8);
+                i += 1;
+            }
+            Answer::Accepted
+        }
+    }
+}
+
+// Puts the bytes of src at the index: GM's `NativeArrays.CopySeqIntoArray`.
+pub fn copy_seq_into_array(src: &[u8], out: &mut [u8], index: usize) -> Answer
+    ensures { λ r. ⌜ Fills (putAt (now (out .entry)) index (now (src .entry))) (outcomeOf r) (now (out .entry)) (now (out .exit)) ⌝ }
+{
+    match packed::room(out.len(), index, src.len(), 1) {
+        Answer::Refused(r) => Answer::Refused(r),
+        Answer::Accepted => {
+            let mut i: usize = 0;
+            while i < src.len() {
+                out[index + i] = src[i];
+                i += 1;
+            }
+            Answer::Accepted
+        }
+    }
+}
