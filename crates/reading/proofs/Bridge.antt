@@ -29,7 +29,8 @@ use Rattle.rows.specs.Layout.{rowsOf}
 use Rattle.rows.specs.Rule.{TableOf}
 use Rattle.rows.proofs.LayoutLaws.{layout-table}
 use Rattle.reading.specs.Calls.{withoutState, guarded, parseValOf, demarshallOf}
-use Rattle.reading.proofs.Calls.{withoutState-accepted, parse-accepted, admitted}
+use Rattle.admission.proofs.Admission.{admitted}
+use Rattle.reading.proofs.Calls.{withoutState-accepted, parse-accepted}
 
 grammar-number : (g : List ℕ) (n : ℕ) (place : Location) → checkGrammar g ≡ refused (reason n place) → n ≤ 5
 grammar-number g n place h = go (refused-exactly g (reason n place) .0 h) refl

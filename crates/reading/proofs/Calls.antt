@@ -1,14 +1,13 @@
 -- The public calls: 1 to 7 before the reading of the root, and the rows it fills.
 use mathlib.Core.Path.{_≡_, refl, ap, sym, _∙_}
 use mathlib.Core.Bool.{Bool, true, false}
-use mathlib.Core.List.{List, []}
-use Prim.Native.Nat.{ℕ, _-_, _*_, _^_, _≤_, _<_}
+use mathlib.Core.List.{List}
+use Prim.Native.Nat.{ℕ, _*_, _^_, _≤_, _<_}
 use native.Mathlib.Omega.{arith}
 use lib.ListN.{length}
 use lib.Dec.{leb, ltb, eqb}
-use borrow.Author.Tests.{le-leb, lt-leb, leb-true, ltb-true}
+use borrow.Author.Tests.{le-leb, ltb-true}
 use Rattle.refusal.specs.Outcome.{Outcome, accepted, refused, bind, test, map, Reason, reason, byte}
-use Rattle.refusal.proofs.Outcome.{test-true, test-false, test-passed}
 use Rattle.refusal.specs.declared.Refusal.{Refusal}
 use Rattle.refusal.specs.Meaning.{reasonOf}
 use Rattle.packed.specs.Packed.{Bytes, Below}
@@ -16,18 +15,18 @@ use Rattle.value.specs.Tree.{Val, G}
 use Rattle.value.specs.Step.{Step, yield, next}
 use Rattle.value.specs.Reading.{State, Stop, Reading, stop, start, begin, claim, atEnd, readAt, readWhole, readBody, readVal}
 use Rattle.grammar.specs.Check.{checkGrammar}
-use Rattle.grammar.specs.Rule.{Passes}
 use Rattle.grammar.specs.Tree.{treeOf}
-use Rattle.grammar.proofs.Rule.{accepted-exactly}
 use Rattle.rows.specs.Row.{rowWidth}
 use Rattle.rows.specs.Layout.{rowsOf}
+use Rattle.admission.specs.Admission.{admitOf}
+use Rattle.admission.proofs.Admission.{admitted}
 use Rattle.reading.specs.declared.Step.{Step as CodeStep}
 use Rattle.reading.specs.declared.Step.the-variants.{Next, Stopped}
 use Rattle.reading.specs.declared.Parsed.{Parsed}
 use Rattle.reading.specs.declared.Parsed.the-variants.{Refused}
 use Rattle.reading.specs.Meaning.{stepOf, Counts, parsedOf}
 use Rattle.reading.specs.Reads.{Room, Reads}
-use Rattle.reading.specs.Calls.{withoutState, parseValOf, demarshallOf, countsOf, admitOf, parsedStep, Admitted, Parses}
+use Rattle.reading.specs.Calls.{withoutState, parseValOf, demarshallOf, countsOf, parsedStep, Admitted, Parses}
 use Rattle.reading.proofs.Laws.{laid-lent}
 
 -- 11, where the value does not end with the record
@@ -57,40 +56,13 @@ read-claims capacity d g s t h = go (ltb (s .begun) capacity) refl h
     go false e q = let z : _≡_ {A = ℕ} 0 1 = cc in absurd (omega arith)
 
 module _ (g d : List ℕ) (index : ℕ) where
-  pub admit-grammar : {r : Reason} → refused r ≡ checkGrammar g → refused r ≡ admitOf g d index
-  unfolding admitOf
-  admit-grammar h = ap (λ (o : Outcome Reason (Unit {0})). bind o (λ _. test (leb (length d) 1048576) (reason 6 (byte 0)) (λ _. test (leb index (length d)) (reason 7 (byte index)) accepted))) h
-
-  module _ (h : accepted tt ≡ checkGrammar g) where
-    admit-sound : test (leb (length d) 1048576) (reason 6 (byte 0)) (λ _. test (leb index (length d)) (reason 7 (byte index)) accepted) ≡ admitOf g d index
-    unfolding admitOf
-    admit-sound = ap (λ (o : Outcome Reason (Unit {0})). bind o (λ _. test (leb (length d) 1048576) (reason 6 (byte 0)) (λ _. test (leb index (length d)) (reason 7 (byte index)) accepted))) h
-
-    pub admit-long : 1048576 < length d → refused (reason 6 (byte 0)) ≡ admitOf g d index
-    admit-long l = sym (test-false _ _ (lt-leb (length d) 1048576 l)) ∙ admit-sound
-
-    pub admit-index : length d ≤ 1048576 → test (leb index (length d)) (reason 7 (byte index)) accepted ≡ admitOf g d index
-    admit-index l = sym (test-true _ _ (le-leb (length d) 1048576 l)) ∙ admit-sound
-
-  -- what 1 to 7 not given says
-  pub admitted : accepted tt ≡ admitOf g d index → Passes g × (length d ≤ 1048576) × (index ≤ length d)
-  unfolding admitOf
-  admitted h = go (checkGrammar g) refl h
-    where
-      go : (x : Outcome Reason (Unit {0})) → checkGrammar g ≡ x → accepted tt ≡ bind x (λ _. test (leb (length d) 1048576) (reason 6 (byte 0)) (λ _. test (leb index (length d)) (reason 7 (byte index)) accepted)) → Passes g × (length d ≤ 1048576) × (index ≤ length d)
-      go (refused r) e q = let z : _≡_ {A = ℕ} 0 1 = cc in absurd (omega arith)
-      go (accepted u) e q =
-          let l : leb (length d) 1048576 ≡ true = test-passed (leb (length d) 1048576) _ _ tt (sym q) in
-          let i : leb index (length d) ≡ true = test-passed (leb index (length d)) (reason 7 (byte index)) accepted tt (sym (test-true _ _ l) ∙ sym q) in
-          (accepted-exactly g .0 e, leb-true (length d) 1048576 l, leb-true index (length d) i)
-
-  -- and what the reading of the root asks then
+  -- what the reading of the root asks once 1 to 7 are not given
   pub root-admitted : {rows : List ℕ} {capacity : ℕ} → accepted tt ≡ admitOf g d index → Below (2 ^ 32) g → Bytes d → capacity ≤ 4096 → Room capacity rows → Admitted g d rows index capacity
   root-admitted h w b m r = record {
-    passes = admitted h .0;
+    passes = admitted g d index h .0;
     words = w;
-    short = admitted h .1;
-    inside = admitted h .2;
+    short = admitted g d index h .1;
+    inside = admitted g d index h .2;
     byteValues = b;
     most = m;
     room = r;

@@ -1,7 +1,7 @@
 -- What the public calls answer: GM's `ParseVal` and `Demarshall` over a grammar table, a record and a capacity.
 use mathlib.Core.Path.{_≡_}
 use mathlib.Core.List.{List}
-use Prim.Native.Nat.{ℕ, _/_, _^_, _≤_, min}
+use Prim.Native.Nat.{ℕ, _^_, _≤_}
 use lib.ListN.{length}
 use lib.Dec.{leb}
 use Rattle.refusal.specs.Outcome.{Outcome, accepted, refused, bind, test, map, contents, Reason, reason, byte}
@@ -13,17 +13,12 @@ use Rattle.value.specs.Reading.{State, Reading, readAt, readWhole}
 use Rattle.grammar.specs.Check.{checkGrammar}
 use Rattle.grammar.specs.Rule.{Passes}
 use Rattle.grammar.specs.Tree.{treeOf}
-use Rattle.rows.specs.Row.{rowWidth}
 use Rattle.rows.specs.Layout.{rowsOf}
 use Rattle.reading.specs.Meaning.{Counts, parsedOf}
 use Rattle.reading.specs.Reads.{Room}
 use Rattle.reading.specs.declared.Parsed.{Parsed}
 use Rattle.reading.specs.declared.Step.{Step as CodeStep}
 use Rattle.reading.specs.declared.Step.the-variants as S
-
--- document 01's capacity of a slice of words: divided by 4, rounded down, at most 4,096
-abbrev pub capacityOf : ℕ → ℕ
-capacityOf words = min (words / rowWidth) 4096
 
 -- a reading, whose refusal is without its state
 abbrev pub withoutState : {A : Type 0} → Reading A → Outcome Reason (Step State A)
@@ -50,10 +45,6 @@ countsOf t = record { rows = t .state .begun; restIndex = t .state .at }
 pub record Parses (o : Outcome Reason (Step State Val)) (index : ℕ) (r : Parsed) (entry exit : List ℕ) : Type 0 where
   pub answers : parsedOf r ≡ map countsOf o
   pub rows : exit ≡ contents (map (λ t. put entry 0 (rowsOf (t .value) index)) o) entry
-
--- 1 to 7
-unfoldable pub admitOf : List ℕ → List ℕ → ℕ → Outcome Reason (Unit {0})
-admitOf g d index = bind (checkGrammar g) (λ _. test (leb (length d) 1048576) (reason 6 (byte 0)) (λ _. test (leb index (length d)) (reason 7 (byte index)) accepted))
 
 -- a step of the code as an answer
 abbrev pub parsedStep : CodeStep → Outcome Reason Counts

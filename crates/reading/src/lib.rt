@@ -5,7 +5,6 @@ ghost use Prim.Native.Nat.{ℕ, _+_, _-_, _*_, _/_, _≤_, _<_};
 ghost use lib.ListN.{length, getD};
 ghost use lib.Dec.{leb};
 ghost use Rattle.refusal.specs.Outcome.{accepted, test, reason, byte, map};
-ghost use Rattle.refusal.specs.Meaning.{outcomeOf};
 ghost use Rattle.value.specs.Kinds.{Number, numberKind, Elements, elementsKind, elementWidth};
 ghost use Rattle.value.specs.Tree.{VNumber, VNumberArray};
 ghost use Rattle.value.specs.Reading.{claim as claimOf, takeNumber, takeNumbers, move, start, readBody, readVal, readFields};
@@ -13,9 +12,11 @@ ghost use Rattle.value.specs.Step.{give, elements};
 ghost use Rattle.grammar.specs.Table.{nodeCount, firstWord, countWord, childWord};
 ghost use Rattle.grammar.specs.Tree.{treeOf, childTrees};
 ghost use Rattle.rows.specs.Layout.{rowsOf, rowsOfAll};
+ghost use Rattle.admission.specs.Admission.{capacityOf};
 ghost use Rattle.reading.specs.Meaning.{stateOf, stepOf, takenOf, bodyOf, StepKeeps, TakenKeeps, parsedOf};
-ghost use Rattle.reading.specs.Calls.{capacityOf, parseValOf, demarshallOf, countsOf, Parses, admitOf, Admitted, parsedStep};
+ghost use Rattle.reading.specs.Calls.{parseValOf, demarshallOf, countsOf, Parses, Admitted, parsedStep};
 ghost use Rattle.reading.specs.Reads.{laid, RowRoom, Ready, Node, Parent, Reads, closed, Counted, takeBelow};
+use admission::MOST_ROWS;
 use packed::UnpackedU32;
 use packed::UnpackedU64;
 use refusal::Answer;
@@ -51,12 +52,6 @@ pub enum Parsed {
     Value { rows: usize, rest_index: usize },
     Refused(Refusal),
 }
-
-// The bytes of the longest record.
-const MOST_BYTES: usize = 1048576;
-
-// The rows of the largest capacity.
-const MOST_ROWS: usize = 4096;
 
 // The words of a row.
 const ROW_WIDTH: usize = 4;
@@ -396,35 +391,6 @@ fn read_tuple_contents(
     Step::Next(t)
 }
 
-// The rows that a slice of this many words has.
-fn capacity_of(words: usize) -> usize
-    ensures { λ r. ⌜ (r ≡ capacityOf words) × (r ≤ 4096) × (4 * r ≤ words) ⌝ }
-{
-    let rows = words / ROW_WIDTH;
-    if rows < MOST_ROWS {
-        return rows;
-    }
-    MOST_ROWS
-}
-
-// 1 to 5 of the grammar, 6 of the record, 7 of the index.
-fn admit(grammar: &[u32], bytes: &[u8], index: usize) -> Answer
-    ensures { λ r. ⌜ outcomeOf r ≡ admitOf (now (grammar .entry)) (now (bytes .entry)) index ⌝ }
-{
-    match grammar::check_grammar(grammar) {
-        Answer::Refused(r) => Answer::Refused(r),
-        Answer::Accepted => {
-            if MOST_BYTES < bytes.len() {
-                return Answer::Refused(refusal::at_byte(refusal::BYTES_TOO_LONG, 0));
-            }
-            refusal::accept_if(
-                index <= bytes.len(),
-                refusal::at_byte(refusal::INDEX_PAST_END, index),
-            )
-        }
-    }
-}
-
 // The root from the index on, over a table and a record that are admitted.
 fn read_root(grammar: &[u32], bytes: &[u8], rows: &mut [u64], index: usize, capacity: usize) -> Step
     requires { ⌜ Admitted (now grammar) (now bytes) (now rows) index capacity ⌝ }
@@ -455,7 +421,7 @@ fn check_at(grammar: &[u32], bytes: &[u8], index: usize, capacity: usize) -> Par
     requires { ⌜ capacity ≤ 4096 ⌝ }
     ensures { λ r. ⌜ parsedOf r ≡ map countsOf (parseValOf (now (grammar .entry)) (now (bytes .entry)) index capacity) ⌝ }
 {
-    match admit(grammar, bytes, index) {
+    match admission::admit(grammar, bytes, index) {
         Answer::Refused(r) => Parsed::Refused(r),
         Answer::Accepted => {
             let mut none = [0u64; 0];
@@ -498,7 +464,7 @@ pub fn check_whole(grammar: &[u32], record: &[u8]) -> Parsed
 pub fn parse_val(grammar: &[u32], record: &[u8], index: usize, rows: &mut [u64]) -> Parsed
     ensures { λ r. ⌜ Parses (parseValOf (now (grammar .entry)) (now («record» .entry)) index (capacityOf (length (now (rows .entry))))) index r (now (rows .entry)) (now (rows .exit)) ⌝ }
 {
-    let capacity = capacity_of(rows.len());
+    let capacity = admission::capacity_of(rows.len());
     match check_at(grammar, record, index, capacity) {
         Parsed::Refused(r) => Parsed::Refused(r),
         Parsed::Value { .. } => answer(read_root(grammar, record, rows, index, capacity)),
@@ -509,7 +475,7 @@ pub fn parse_val(grammar: &[u32], record: &[u8], index: usize, rows: &mut [u64])
 pub fn demarshall(grammar: &[u32], record: &[u8], rows: &mut [u64]) -> Parsed
     ensures { λ r. ⌜ Parses (demarshallOf (now (grammar .entry)) (now («record» .entry)) (capacityOf (length (now (rows .entry))))) 0 r (now (rows .entry)) (now (rows .exit)) ⌝ }
 {
-    let capacity = capacity_of(rows.len());
+    let capacity = admission::capacity_of(rows.len());
     match check_whole_at(grammar, record, capacity) {
         Parsed::Refused(r) => Parsed::Refused(r),
         Parsed::Value { .. } => answer(read_root(grammar, record, rows, 0, capacity)),

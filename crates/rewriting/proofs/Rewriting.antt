@@ -22,9 +22,11 @@ use Rattle.rows.specs.Meaning.{sizeOf}
 use Rattle.rows.specs.declared.SizeOf.{SizeOf}
 use Rattle.rows.specs.declared.SizeOf.the-variants.{Refused}
 use Rattle.reading.specs.Meaning.{Counts, parsedOf}
-use Rattle.reading.specs.Calls.{capacityOf, demarshallOf, countsOf, Parses}
+use Rattle.admission.specs.Admission.{capacityOf}
+use Rattle.reading.specs.Calls.{demarshallOf, countsOf, Parses}
 use Rattle.reading.specs.declared.Parsed.{Parsed}
-use Rattle.reading.proofs.Calls.{admitted, parse-accepted, whole-accepted}
+use Rattle.admission.proofs.Admission.{admitted}
+use Rattle.reading.proofs.Calls.{parse-accepted, whole-accepted}
 use Rattle.sizing.specs.Writes.{marshallValOf}
 use Rattle.writing.specs.Marshall.{Marshalls}
 use Rattle.route.specs.Demands.{PutThere}

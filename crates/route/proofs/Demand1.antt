@@ -15,7 +15,8 @@ use Rattle.value.specs.Reading.{State}
 use Rattle.grammar.proofs.Rule.{refused-exactly}
 use Rattle.rows.specs.Layout.{rowsOf}
 use Rattle.rows.proofs.Meaning.{sizeOf-injective, located-injective}
-use Rattle.reading.specs.Calls.{capacityOf, countsOf}
+use Rattle.admission.specs.Admission.{capacityOf}
+use Rattle.reading.specs.Calls.{countsOf}
 use Rattle.reading.proofs.Meaning.{parsedOf-injective}
 use Rattle.route.specs.Demands.{Demand1}
 use Rattle.route.specs.Rewriting.{rewriteOf}

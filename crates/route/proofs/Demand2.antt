@@ -27,8 +27,10 @@ use Rattle.grammar.proofs.Tree.{tree-valid}
 use Rattle.rows.specs.Walk.{walk}
 use Rattle.rows.proofs.Rule.{accepted-exactly as rows-exactly}
 use Rattle.reading.specs.Meaning.{Counts}
-use Rattle.reading.specs.Calls.{capacityOf, withoutState, parseValOf, demarshallOf, countsOf}
-use Rattle.reading.proofs.Calls.{admit-index, admitted, parse-read, parse-accepted}
+use Rattle.admission.specs.Admission.{capacityOf}
+use Rattle.reading.specs.Calls.{withoutState, parseValOf, demarshallOf, countsOf}
+use Rattle.admission.proofs.Admission.{admit-index, admitted}
+use Rattle.reading.proofs.Calls.{parse-read, parse-accepted}
 use Rattle.reading.proofs.Meaning.{parsedOf-injective}
 use Rattle.reading.proofs.Bridge.{parse-parses, parse-stands, parse-none, demarshall-accepted, demarshall-refused}
 use Rattle.sizing.specs.Writes.{marshallValOf}

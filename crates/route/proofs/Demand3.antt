@@ -10,7 +10,7 @@ use Rattle.value.specs.Tree.{SizeOfV, rowCount}
 use Rattle.value.proofs.Laws.{length-bytesOf, front-part, one-value}
 use Rattle.grammar.proofs.Rule.{accepted-exactly}
 use Rattle.rows.proofs.Rule.{table-accepted}
-use Rattle.reading.specs.Calls.{capacityOf}
+use Rattle.admission.specs.Admission.{capacityOf}
 use Rattle.route.specs.Demands.{PutThere, AcceptsExactly, HandsOut, NeedsMoreRows, NoneFits, WritesBack, WritesBackWhole, NoFrontPart, Demand3}
 use Rattle.route.proofs.Reading.{value-of, read-out, read-fits, read-short, exit-layout, exit-kept, exit-length, exit-table}
 use Rattle.route.proofs.Writing.{written}

@@ -24,7 +24,8 @@ use Rattle.grammar.proofs.Rule.{accepted-exactly}
 use Rattle.rows.specs.Layout.{ownRow, rowsOf}
 use Rattle.rows.specs.Walk.{rowValue, checkRow, walkChildren, walkTo, walk}
 use Rattle.sizing.specs.Writes.{Writes}
-use Rattle.reading.specs.Calls.{capacityOf, withoutState, demarshallOf, countsOf}
+use Rattle.admission.specs.Admission.{capacityOf}
+use Rattle.reading.specs.Calls.{withoutState, demarshallOf, countsOf}
 use Rattle.reading.specs.declared.Parsed.the-variants as P
 use Rattle.route.specs.Demands.{Grammar, ValueOfGrammar, RecordOf, WholeReading}
 use Rattle.route.specs.Bench.{grammarA, recordA, valueA, grammarC}

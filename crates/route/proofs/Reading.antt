@@ -25,7 +25,8 @@ use Rattle.rows.specs.Layout.{rowsOf}
 use Rattle.rows.specs.Rule.{TableOf}
 use Rattle.rows.proofs.LayoutLaws.{length-rowsOf, layout-table}
 use Rattle.reading.specs.Meaning.{Counts, parsedOf}
-use Rattle.reading.specs.Calls.{capacityOf, withoutState, demarshallOf, countsOf, Parses}
+use Rattle.admission.specs.Admission.{capacityOf}
+use Rattle.reading.specs.Calls.{withoutState, demarshallOf, countsOf, Parses}
 use Rattle.reading.specs.declared.Parsed.{Parsed}
 use Rattle.reading.proofs.Calls.{withoutState-accepted}
 use Rattle.route.specs.Demands.{Grammar, ValueOfGrammar, RecordOf, WholeReading}

@@ -32,8 +32,10 @@ use Rattle.rows.specs.Walk.{withinStore, checkRow, walkChildren, walkTo, walk}
 use Rattle.rows.specs.Locate.{lookUp, elementsPart, locateArray}
 use Rattle.rows.proofs.Laws.{reflects-rows}
 use Rattle.rows.proofs.Rule.{wordOf, kind-word}
-use Rattle.reading.specs.Calls.{withoutState, parseValOf, demarshallOf, admitOf}
-use Rattle.reading.proofs.Calls.{admit-grammar, admit-long, admit-index, parse-admitted, parse-refused, whole-parse}
+use Rattle.admission.specs.Admission.{admitOf}
+use Rattle.reading.specs.Calls.{withoutState, parseValOf, demarshallOf}
+use Rattle.admission.proofs.Admission.{admit-grammar, admit-long, admit-index}
+use Rattle.reading.proofs.Calls.{parse-admitted, parse-refused, whole-parse}
 use Rattle.reading.proofs.Bridge.{parse-inside}
 use Rattle.sizing.specs.InGrammar.{checkInGrammar}
 use Rattle.sizing.specs.Writes.{valueOf, marshallValOf}

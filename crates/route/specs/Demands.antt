@@ -27,7 +27,8 @@ use Rattle.rows.specs.Locate.{locateArray}
 use Rattle.rows.specs.Meaning.{sizeOf, located}
 use Rattle.rows.specs.declared.SizeOf.{SizeOf}
 use Rattle.reading.specs.Meaning.{Counts, parsedOf}
-use Rattle.reading.specs.Calls.{capacityOf, parseValOf, demarshallOf, countsOf, Parses}
+use Rattle.admission.specs.Admission.{capacityOf}
+use Rattle.reading.specs.Calls.{parseValOf, demarshallOf, countsOf, Parses}
 use Rattle.reading.specs.declared.Parsed.{Parsed}
 use Rattle.sizing.specs.Writes.{marshallValOf, Writes}
 use Rattle.writing.specs.Marshall.{Marshalls}

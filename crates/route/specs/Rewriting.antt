@@ -11,7 +11,8 @@ use Rattle.value.specs.Reading.{State}
 use Rattle.rows.specs.Layout.{rowsOf}
 use Rattle.rows.specs.Meaning.{sizeOf}
 use Rattle.rows.specs.declared.SizeOf.{SizeOf}
-use Rattle.reading.specs.Calls.{capacityOf, demarshallOf}
+use Rattle.admission.specs.Admission.{capacityOf}
+use Rattle.reading.specs.Calls.{demarshallOf}
 
 -- 17 first, where the record has no room, so that no refusal comes behind rows that were filled; then the whole reading
 unfoldable pub rewriteOf : List ℕ → List ℕ → ℕ → ℕ → ℕ → Outcome Reason (Step State Val)

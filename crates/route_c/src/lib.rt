@@ -6,7 +6,8 @@ ghost use Rattle.packed.specs.Packed.{unpackAt, unpackSeqAt, putAt, packLittleE
 ghost use Rattle.grammar.specs.Check.{checkGrammar};
 ghost use Rattle.rows.specs.Size.{computeSizeOf};
 ghost use Rattle.rows.specs.Locate.{locateArray};
-ghost use Rattle.reading.specs.Calls.{capacityOf, parseValOf, demarshallOf, countsOf};
+ghost use Rattle.admission.specs.Admission.{capacityOf};
+ghost use Rattle.reading.specs.Calls.{parseValOf, demarshallOf, countsOf};
 ghost use Rattle.sizing.specs.Writes.{marshallValOf};
 ghost use Rattle.answer_c.specs.Answer.{answerOf, noValue, oneValue, partValues, countValues, Answers, AnswersRows, AnswersBytes, AnswersSame};
 use answer_c::RouteAnswer;

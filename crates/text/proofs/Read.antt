@@ -22,7 +22,8 @@ use Rattle.rows.proofs.LayoutLaws.{length-rowsOf}
 use Rattle.reading.specs.declared.Parsed.{Parsed}
 use Rattle.reading.specs.declared.Parsed.the-variants as P
 use Rattle.reading.specs.Meaning.{Counts}
-use Rattle.reading.specs.Calls.{capacityOf, demarshallOf, countsOf, Parses}
+use Rattle.admission.specs.Admission.{capacityOf}
+use Rattle.reading.specs.Calls.{demarshallOf, countsOf, Parses}
 use Rattle.reading.proofs.Calls.{parses-refused, parse-accepted, whole-accepted}
 use Rattle.text.specs.Text.{linesOf, rowsText, refusalText}
 use Rattle.input.specs.Input.{Parts, layoutOf, wordsAt, grammarOf, recordOf}

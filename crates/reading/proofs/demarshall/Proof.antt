@@ -4,7 +4,8 @@ use Prim.Native.Nat.{ℕ}
 use lib.ListN.{length}
 use Rattle.refusal.specs.Outcome.{map}
 use Rattle.grammar.specs.Tree.{treeOf}
-use Rattle.reading.specs.Calls.{capacityOf, demarshallOf, countsOf}
+use Rattle.admission.specs.Admission.{capacityOf}
+use Rattle.reading.specs.Calls.{demarshallOf, countsOf}
 use Rattle.reading.proofs.Calls.{parsed-matched, with-accepted, root-admitted, parse-accepted, whole-accepted, parses-refused, parses-filled}
 use borrow.Author.Needs.{needs}
 use Rattle.reading.proofs.demarshall.Statement.{statement}

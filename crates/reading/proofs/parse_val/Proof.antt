@@ -4,7 +4,8 @@ use Prim.Native.Nat.{ℕ}
 use lib.ListN.{length}
 use Rattle.refusal.specs.Outcome.{map}
 use Rattle.grammar.specs.Tree.{treeOf}
-use Rattle.reading.specs.Calls.{capacityOf, parseValOf, countsOf}
+use Rattle.admission.specs.Admission.{capacityOf}
+use Rattle.reading.specs.Calls.{parseValOf, countsOf}
 use Rattle.reading.proofs.Calls.{parsed-matched, with-accepted, root-admitted, parse-accepted, parses-refused, parses-filled}
 use borrow.Author.Needs.{needs}
 use Rattle.reading.proofs.parse_val.Statement.{statement}

@@ -3,10 +3,10 @@ use lib.ListN.{length}
 use lib.Dec.{leb}
 use Rattle.refusal.specs.Outcome.{Reason, refused, accepted, test}
 use Rattle.refusal.proofs.Meaning.{done, stopped}
-use Rattle.reading.proofs.Calls.{admit-grammar, admit-long, admit-index}
+use Rattle.admission.proofs.Admission.{admit-grammar, admit-long, admit-index}
 use borrow.Author.Needs.{needs}
-use Rattle.reading.proofs.admit.Statement.{statement}
-use Rattle.reading.proofs.admit.Tie as tie
+use Rattle.admission.proofs.admit.Statement.{statement}
+use Rattle.admission.proofs.admit.Tie as tie
 
 check-grammar-requires : tie.Need-check-grammar-requires
 check-grammar-requires c κs = search needs

@@ -1,0 +1,16 @@
+-- What is decided before a record is read.
+use mathlib.Core.List.{List}
+use Prim.Native.Nat.{ℕ, _/_, min}
+use lib.ListN.{length}
+use lib.Dec.{leb}
+use Rattle.refusal.specs.Outcome.{Outcome, accepted, bind, test, Reason, reason, byte}
+use Rattle.grammar.specs.Check.{checkGrammar}
+use Rattle.rows.specs.Row.{rowWidth}
+
+-- document 01's capacity of a slice of words: divided by 4, rounded down, at most 4,096
+abbrev pub capacityOf : ℕ → ℕ
+capacityOf words = min (words / rowWidth) 4096
+
+-- refusals 1 to 5 of the grammar, 6 of the record, 7 of the index
+unfoldable pub admitOf : List ℕ → List ℕ → ℕ → Outcome Reason (Unit {0})
+admitOf g d index = bind (checkGrammar g) (λ _. test (leb (length d) 1048576) (reason 6 (byte 0)) (λ _. test (leb index (length d)) (reason 7 (byte index)) accepted))

@@ -1,0 +1,44 @@
+// What is decided before a record is read: refusals 1 to 7, and the capacity of the rows lent.
+ghost use mathlib.Core.Path.{_≡_};
+ghost use Prim.Native.Nat.{_*_, _≤_};
+ghost use Rattle.refusal.specs.Meaning.{outcomeOf};
+ghost use Rattle.admission.specs.Admission.{capacityOf, admitOf};
+use refusal::Answer;
+
+// The bytes of the longest record.
+const MOST_BYTES: usize = 1048576;
+
+// The rows of the largest capacity.
+pub const MOST_ROWS: usize = 4096;
+
+// The words of a row.
+const ROW_WIDTH: usize = 4;
+
+// The rows that a slice of this many words has.
+pub fn capacity_of(words: usize) -> usize
+    ensures { λ r. ⌜ (r ≡ capacityOf words) × (r ≤ 4096) × (4 * r ≤ words) ⌝ }
+{
+    let rows = words / ROW_WIDTH;
+    if rows < MOST_ROWS {
+        return rows;
+    }
+    MOST_ROWS
+}
+
+// 1 to 5 of the grammar, 6 of the record, 7 of the index.
+pub fn admit(grammar: &[u32], bytes: &[u8], index: usize) -> Answer
+    ensures { λ r. ⌜ outcomeOf r ≡ admitOf (now (grammar .entry)) (now (bytes .entry)) index ⌝ }
+{
+    match grammar::check_grammar(grammar) {
+        Answer::Refused(r) => Answer::Refused(r),
+        Answer::Accepted => {
+            if MOST_BYTES < bytes.len() {
+                return Answer::Refused(refusal::at_byte(refusal::BYTES_TOO_LONG, 0));
+            }
+            refusal::accept_if(
+                index <= bytes.len(),
+                refusal::at_byte(refusal::INDEX_PAST_END, index),
+            )
+        }
+    }
+}
