@@ -1,4 +1,5 @@
 pub mod Refusals
+pub mod Listed
 pub mod Put
 pub mod Reading
 pub mod Writing
@@ -7,3 +8,4 @@ pub mod Examples
 pub mod Demand1
 pub mod Demand2
 pub mod Demand3
+pub mod Accepted

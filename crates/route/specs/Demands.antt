@@ -33,8 +33,8 @@ use Rattle.reading.specs.declared.Parsed.{Parsed}
 use Rattle.sizing.specs.Writes.{marshallValOf, Writes}
 use Rattle.writing.specs.Marshall.{Marshalls}
 use Rattle.route.specs.Rewriting.{rewriteOf, Rewrites}
-use Rattle.comparing.specs.SameRoute.{sameRouteOf, readBoth, Compares}
-use Rattle.route.specs.Refusals.{Refuses, NoRoom, NotThere, RowsRefused, LocatorRefused, ReadingRefused, WholeRefused, WritingRefused, RewritingRefused, RouteRefused}
+use Rattle.comparing.specs.SameRoute.{NamedReason, sameRouteOf, readBoth, Compares}
+use Rattle.route.specs.Refusals.{Refuses, NoRoom, NotThere, RowsRefused, LocatorRefused, ReadingRefused, WholeRefused, WritingRefused, RewritingRefused, RouteRefused, Listed, Lists, unnamed}
 use Rattle.comparing.specs.declared.SameRoute.{SameRoute}
 
 -- ==== Demand 1. "Every call is defined on every input: no grammar, record, row table or index is assumed sound, each call comes to an end"
@@ -83,6 +83,17 @@ pub record Demand1 : Type 0 where
   -- `same_route`, whose contract allows one answer
   pub routes : (g first second : List ℕ) → Refuses (RouteRefused g first second) (readBoth g first second)
   pub oneRoute : (g first second : List ℕ) (r q : SameRoute) → Compares g first second (sameRouteOf r) → Compares g first second (sameRouteOf q) → r ≡ q
+  -- the numbers are those of document 01's table, each with its kind of place; so none is 0, which at the C interface is an accepted call
+  pub listedGrammar : (g : List ℕ) → Lists (FirstRefusal g)
+  pub listedRoom : (len index size : ℕ) → Lists (NoRoom len index size)
+  pub listedUnpackers : (len index size : ℕ) → Lists (NotThere len index size)
+  pub listedRows : (t : List ℕ) (n : ℕ) (s : List ℕ) → Lists (RowsRefused t n s)
+  pub listedLocator : (t : List ℕ) (n : ℕ) (s : List ℕ) (i : ℕ) → Lists (LocatorRefused t n s i)
+  pub listedReading : (g d : List ℕ) (index capacity : ℕ) → Lists (ReadingRefused g d index capacity)
+  pub listedWhole : (g d : List ℕ) (capacity : ℕ) → Lists (WholeRefused g d capacity)
+  pub listedWriting : (g t : List ℕ) (n : ℕ) (s : List ℕ) (len index : ℕ) → Lists (WritingRefused g t n s len index)
+  pub listedRewriting : (g d : List ℕ) (capacity len index : ℕ) → Lists (RewritingRefused g d capacity len index)
+  pub listedRoutes : (g first second : List ℕ) (e : NamedReason) → RouteRefused g first second e → Listed (unnamed e)
   -- "and a refusal alters no buffer lent to the call": a slice of numbers or bytes, rows, the output. They would be empty if no call were
   -- refused: `reading-C` of proofs/Examples.antt is
   pub fillsNothing : (o : Outcome Reason (List ℕ)) (a : Outcome Reason (Unit {0})) (entry exit : List ℕ) → Fills o a entry exit → (e : Reason) → a ≡ refused e → exit ≡ entry

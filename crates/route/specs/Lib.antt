@@ -2,3 +2,4 @@ pub mod Rewriting
 pub mod Refusals
 pub mod Demands
 pub mod Bench
+pub mod Accepted

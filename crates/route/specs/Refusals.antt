@@ -7,7 +7,7 @@ use mathlib.Core.Option.{none, some}
 use mathlib.Core.List.{List, []}
 use Prim.Native.Nat.{ℕ, _+_, _*_, _≤_, _<_}
 use lib.ListN.{length, drop}
-use Rattle.refusal.specs.Outcome.{Outcome, accepted, refused, byte, row, Reason, reason}
+use Rattle.refusal.specs.Outcome.{Outcome, accepted, refused, word, byte, row, Reason, reason}
 use Rattle.value.specs.Kinds.{Elements, elementWidth, elementsKind}
 use Rattle.value.specs.Tree.{Val, ValInGrammar, SizeOfV, rowCount}
 use Rattle.value.specs.Step.{Step}
@@ -101,3 +101,23 @@ pub data RouteRefused (g first second : List ℕ) : NamedReason → Type 0 where
   byGrammar : {e : Reason} → FirstRefusal g e → RouteRefused g first second (ofGrammar e)
   byFirst : {e : Reason} → checkGrammar g ≡ accepted tt → WholeRefused g first 4096 e → RouteRefused g first second (ofFirst e)
   bySecond : {e : Reason} → (t : Step State Val) → checkGrammar g ≡ accepted tt → demarshallOf g first 4096 ≡ accepted t → WholeRefused g second 4096 e → RouteRefused g first second (ofSecond e)
+
+-- ---- the table
+
+-- the numbers of document 01's table, each with its kind of place; 19 is the program's
+pub data Listed : Reason → Type 0 where
+  ofWord : (n w : ℕ) → 0 < n → n ≤ 5 → Listed (reason n (word w))
+  ofByte : (n b : ℕ) → 5 < n → n ≤ 11 → Listed (reason n (byte b))
+  ofOutput : (b : ℕ) → Listed (reason 17 (byte b))
+  ofRow : (n r : ℕ) → 11 < n → n ≤ 16 → Listed (reason n (row r))
+  ofLocator : (r : ℕ) → Listed (reason 18 (row r))
+
+-- every refusal with Q is one of the table
+abbrev pub Lists : (Reason → Type 0) → Type 0
+Lists Q = (e : Reason) → Q e → Listed e
+
+-- the refusal, whichever record it names
+abbrev pub unnamed : NamedReason → Reason
+unnamed (ofGrammar e) = e
+unnamed (ofFirst e) = e
+unnamed (ofSecond e) = e

@@ -1,0 +1,61 @@
+-- Number 0 of a C answer says that the call is accepted (specs/Accepted.antt): no refusal of the table has number 0.
+use mathlib.Core.Path.{_≡_, refl, sym, _∙_}
+use mathlib.Core.Logic.{_↔_}
+use mathlib.Core.Bool.{Bool, true, false}
+use mathlib.Core.List.{List}
+use Prim.Native.Nat.{ℕ, _<_}
+use native.Mathlib.Omega.{arith}
+use Rattle.refusal.specs.Outcome.{Outcome, accepted, refused, map, Location, Reason, reason}
+use Rattle.value.specs.Tree.{SizeOfV}
+use Rattle.reading.specs.Calls.{countsOf}
+use Rattle.comparing.specs.SameRoute.{NamedReason, ofGrammar, ofFirst, ofSecond, Compares}
+use Rattle.answer_c.specs.Answer.{Values, values, answerOf, sameAnswerOf}
+use Rattle.route.specs.Refusals.{Refuses, Listed, ofWord, ofByte, ofOutput, ofRow, ofLocator, Lists, unnamed}
+use Rattle.route.specs.Accepted.{IsAccepted, isAccepted, ZeroIsAccepted, NumberZero}
+use Rattle.route.proofs.Refusals.{map-refuses}
+use Rattle.route.proofs.Demand1.{demand1}
+
+listed-positive : {n : ℕ} {l : Location} → Listed (reason n l) → 0 < n
+listed-positive (ofWord n w a b) = a
+listed-positive (ofByte n w a b) = omega (arith, a)
+listed-positive (ofOutput b) = omega arith
+listed-positive (ofRow n w a b) = omega (arith, a)
+listed-positive (ofLocator r) = omega arith
+
+not-zero : {P : Type 0} {n : ℕ} {l : Location} → Listed (reason n l) → n ≡ 0 → P
+not-zero h q = let p = listed-positive h in absurd (omega (arith, p, q))
+
+not-refused : {E A P : Type 0} {e : E} {o : Outcome E A} → IsAccepted o → o ≡ refused e → P
+not-refused (isAccepted a) h = let z : _≡_ {A = ℕ} 0 1 = cc in absurd (omega arith)
+
+accepted-zero : (v : Values) → answerOf (accepted v) .number ≡ 0
+accepted-zero (values a b) = refl
+
+zero : {A : Type 0} (f : A → Values) (o : Outcome Reason A) → ((e : Reason) → o ≡ refused e → Listed e) → ZeroIsAccepted f o
+zero f (accepted a) h = (λ _. isAccepted a, λ _. accepted-zero (f a))
+zero f (refused (reason n l)) h = (not-zero (h (reason n l) refl), λ a. not-refused a refl)
+
+-- of an outcome whose refusals are known
+zero-of : {A : Type 0} {Q : Reason → Type 0} (f : A → Values) {o : Outcome Reason A} → Refuses Q o → Lists Q → ZeroIsAccepted f o
+zero-of f {o} r l = zero f o (λ e q. l e (r e .0 q))
+
+named-zero : (o : Outcome NamedReason Bool) → ((e : NamedReason) → o ≡ refused e → Listed (unnamed e)) → (sameAnswerOf o .number ≡ 0) ↔ IsAccepted o
+named-zero (accepted true) h = (λ _. isAccepted true, λ _. refl)
+named-zero (accepted false) h = (λ _. isAccepted false, λ _. refl)
+named-zero (refused (ofGrammar (reason n l))) h = (not-zero (h (ofGrammar (reason n l)) refl), λ a. not-refused a refl)
+named-zero (refused (ofFirst (reason n l))) h = (not-zero (h (ofFirst (reason n l)) refl), λ a. not-refused a refl)
+named-zero (refused (ofSecond (reason n l))) h = (not-zero (h (ofSecond (reason n l)) refl), λ a. not-refused a refl)
+
+pub number-zero : NumberZero
+number-zero = record {
+  grammar = λ g. zero-of _ (demand1 .grammar g) (demand1 .listedGrammar g);
+  packers = λ out index bs. zero-of _ (demand1 .packers out index bs) (demand1 .listedRoom _ _ _);
+  unpackers = λ w s index. zero-of _ (demand1 .unpackers w s index) (demand1 .listedUnpackers _ _ _);
+  unpackersSeq = λ w s index len. zero-of _ (demand1 .unpackersSeq w s index len) (demand1 .listedUnpackers _ _ _);
+  sizes = λ t n s. zero-of _ (demand1 .sizes t n s) (demand1 .listedRows t n s);
+  locator = λ t n s i. zero-of _ (demand1 .locator t n s i) (demand1 .listedLocator t n s i);
+  reading = λ g d index capacity. zero-of _ (map-refuses countsOf (demand1 .reading g d index capacity)) (demand1 .listedReading g d index capacity);
+  wholeReading = λ g d capacity. zero-of _ (map-refuses countsOf (demand1 .wholeReading g d capacity)) (demand1 .listedWhole g d capacity);
+  writing = λ g t n s len index. zero-of _ (map-refuses SizeOfV (demand1 .writing g t n s len index)) (demand1 .listedWriting g t n s len index);
+  routes = λ g first second o h. named-zero o (λ e q. demand1 .listedRoutes g first second e (demand1 .routes g first second e .0 (h .refuses e .0 q)));
+}

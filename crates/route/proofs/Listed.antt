@@ -1,0 +1,66 @@
+-- Every refusal of a call is one of document 01's table (specs/Refusals.antt).
+use mathlib.Core.List.{List}
+use Prim.Native.Nat.{ℕ}
+use native.Mathlib.Omega.{arith}
+use Rattle.refusal.specs.Outcome.{Reason}
+use Rattle.grammar.specs.Rule.{FirstRefusal, first1, first2, first3, first4, first5}
+use Rattle.comparing.specs.SameRoute.{NamedReason}
+use Rattle.route.specs.Refusals.{NoRoom, outputShort, NotThere, above, missing, RowRefused, broken, outside, RowsRefused, storeAbove, rowTable, atRow, LocatorRefused, ofRows, notAnArray, ValueRefused, noRow, bytesMissing, tagAbove, ReadingRefused, grammarFirst, recordAbove, indexAbove, atValue, WholeRefused, ofReading, recordEnd, WritingRefused, grammarBefore, rowsBefore, notInGrammar, sizeAbove, noRoom, RewritingRefused, roomFirst, readingThen, RouteRefused, byGrammar, byFirst, bySecond, Listed, ofWord, ofByte, ofOutput, ofRow, ofLocator, unnamed}
+
+pub grammar-listed : {g : List ℕ} {e : Reason} → FirstRefusal g e → Listed e
+grammar-listed (first1 _) = ofWord 1 _ (omega arith) (omega arith)
+grammar-listed (first2 _ _) = ofWord 2 _ (omega arith) (omega arith)
+grammar-listed (first3 _ _ _) = ofWord 3 _ (omega arith) (omega arith)
+grammar-listed (first4 _ _ _ _) = ofWord 4 _ (omega arith) (omega arith)
+grammar-listed (first5 _ _ _ _ _ _ _ _) = ofWord 5 _ (omega arith) (omega arith)
+
+pub room-listed : {len index size : ℕ} {e : Reason} → NoRoom len index size e → Listed e
+room-listed (outputShort _) = ofOutput _
+
+pub unpackers-listed : {len index size : ℕ} {e : Reason} → NotThere len index size e → Listed e
+unpackers-listed (above _) = ofByte 7 _ (omega arith) (omega arith)
+unpackers-listed (missing _ _) = ofByte 9 _ (omega arith) (omega arith)
+
+row-listed : {t : List ℕ} {n : ℕ} {s : List ℕ} {e : Reason} → RowRefused t n s e → Listed e
+row-listed (broken _ _) = ofRow 13 _ (omega arith) (omega arith)
+row-listed (outside _ _ _ _ _) = ofRow 14 _ (omega arith) (omega arith)
+
+pub rows-listed : {t : List ℕ} {n : ℕ} {s : List ℕ} {e : Reason} → RowsRefused t n s e → Listed e
+rows-listed (storeAbove _) = ofByte 6 _ (omega arith) (omega arith)
+rows-listed (rowTable _ _) = ofRow 12 _ (omega arith) (omega arith)
+rows-listed (atRow _ _ q _) = row-listed q
+
+pub locator-listed : {t : List ℕ} {n : ℕ} {s : List ℕ} {i : ℕ} {e : Reason} → LocatorRefused t n s i e → Listed e
+locator-listed (ofRows q) = rows-listed q
+locator-listed (notAnArray _ _ _) = ofLocator _
+
+value-listed : {g d : List ℕ} {index capacity : ℕ} {e : Reason} → ValueRefused g d index capacity e → Listed e
+value-listed (noRow _ _ _ _) = ofByte 8 _ (omega arith) (omega arith)
+value-listed (bytesMissing _ _ _ _) = ofByte 9 _ (omega arith) (omega arith)
+value-listed (tagAbove _ _ _ _) = ofByte 10 _ (omega arith) (omega arith)
+
+pub reading-listed : {g d : List ℕ} {index capacity : ℕ} {e : Reason} → ReadingRefused g d index capacity e → Listed e
+reading-listed (grammarFirst q) = grammar-listed q
+reading-listed (recordAbove _ _) = ofByte 6 _ (omega arith) (omega arith)
+reading-listed (indexAbove _ _ _) = ofByte 7 _ (omega arith) (omega arith)
+reading-listed (atValue _ _ _ q _) = value-listed q
+
+pub whole-listed : {g d : List ℕ} {capacity : ℕ} {e : Reason} → WholeRefused g d capacity e → Listed e
+whole-listed (ofReading q) = reading-listed q
+whole-listed (recordEnd _ _ _) = ofByte 11 _ (omega arith) (omega arith)
+
+pub writing-listed : {g t : List ℕ} {n : ℕ} {s : List ℕ} {len index : ℕ} {e : Reason} → WritingRefused g t n s len index e → Listed e
+writing-listed (grammarBefore q) = grammar-listed q
+writing-listed (rowsBefore _ q) = rows-listed q
+writing-listed (notInGrammar _ _ _ _ _ _ _) = ofRow 15 _ (omega arith) (omega arith)
+writing-listed (sizeAbove _ _ _ _ _) = ofRow 16 _ (omega arith) (omega arith)
+writing-listed (noRoom _ _ _ _ _ _) = ofOutput _
+
+pub rewriting-listed : {g d : List ℕ} {capacity len index : ℕ} {e : Reason} → RewritingRefused g d capacity len index e → Listed e
+rewriting-listed (roomFirst q) = room-listed q
+rewriting-listed (readingThen _ q) = whole-listed q
+
+pub routes-listed : {g first second : List ℕ} {e : NamedReason} → RouteRefused g first second e → Listed (unnamed e)
+routes-listed (byGrammar q) = grammar-listed q
+routes-listed (byFirst _ q) = whole-listed q
+routes-listed (bySecond _ _ _ q) = whole-listed q

@@ -1,0 +1,36 @@
+-- At the C interface number 0 says that a call is accepted: stated of the outcome that each C call answers.
+use mathlib.Core.Path.{_≡_}
+use mathlib.Core.Logic.{_↔_}
+use mathlib.Core.Bool.{Bool}
+use mathlib.Core.List.{List}
+use Prim.Native.Nat.{ℕ}
+use Rattle.refusal.specs.Outcome.{Outcome, accepted, map, Reason}
+use Rattle.packed.specs.Packed.{unpackAt, unpackSeqAt, putAt}
+use Rattle.value.specs.Tree.{SizeOfV}
+use Rattle.grammar.specs.Check.{checkGrammar}
+use Rattle.rows.specs.Size.{computeSizeOf}
+use Rattle.rows.specs.Locate.{locateArray}
+use Rattle.reading.specs.Calls.{parseValOf, demarshallOf, countsOf}
+use Rattle.sizing.specs.Writes.{marshallValOf}
+use Rattle.comparing.specs.SameRoute.{NamedReason, Compares}
+use Rattle.answer_c.specs.Answer.{Values, answerOf, noValue, oneValue, partValues, countValues, sameAnswerOf}
+
+pub data IsAccepted {E A : Type 0} : Outcome E A → Type 0 where
+  isAccepted : (a : A) → IsAccepted (accepted a)
+
+-- the number of the C answer is 0 exactly when the outcome is accepted
+abbrev pub ZeroIsAccepted : {A : Type 0} → (A → Values) → Outcome Reason A → Type 0
+ZeroIsAccepted f o = (answerOf (map f o) .number ≡ 0) ↔ IsAccepted o
+
+pub record NumberZero : Type 0 where
+  pub grammar : (g : List ℕ) → ZeroIsAccepted noValue (checkGrammar g)
+  pub packers : (out : List ℕ) (index : ℕ) (bs : List ℕ) → ZeroIsAccepted noValue (putAt out index bs)
+  pub unpackers : (w : ℕ) (s : List ℕ) (index : ℕ) → ZeroIsAccepted oneValue (unpackAt w s index)
+  pub unpackersSeq : (w : ℕ) (s : List ℕ) (index len : ℕ) → ZeroIsAccepted noValue (unpackSeqAt w s index len)
+  pub sizes : (t : List ℕ) (n : ℕ) (s : List ℕ) → ZeroIsAccepted oneValue (computeSizeOf t n s)
+  pub locator : (t : List ℕ) (n : ℕ) (s : List ℕ) (i : ℕ) → ZeroIsAccepted partValues (locateArray t n s i)
+  pub reading : (g d : List ℕ) (index capacity : ℕ) → ZeroIsAccepted countValues (map countsOf (parseValOf g d index capacity))
+  pub wholeReading : (g d : List ℕ) (capacity : ℕ) → ZeroIsAccepted countValues (map countsOf (demarshallOf g d capacity))
+  pub writing : (g t : List ℕ) (n : ℕ) (s : List ℕ) (len index : ℕ) → ZeroIsAccepted oneValue (map SizeOfV (marshallValOf g t n s len index))
+  -- yes and no
+  pub routes : (g first second : List ℕ) (o : Outcome NamedReason Bool) → Compares g first second o → (sameAnswerOf o .number ≡ 0) ↔ IsAccepted o
