@@ -3,16 +3,16 @@
 use std::hint::black_box;
 use std::time::{Duration, Instant};
 
-/// What a round of one program takes at least: long beside a reading of the clock.
+/// What a round of one contender takes at least: long beside a reading of the clock.
 const ROUND: Duration = Duration::from_micros(20);
 
-/// The most rounds of each program.
+/// The most rounds of each contender.
 const ROUNDS: usize = 10_000;
 
-/// What the rounds of all programs together may take, but for the first ones.
-const BUDGET: Duration = Duration::from_millis(1_000);
+/// What the rounds of each contender may take on average, but for the first ones.
+const BUDGET: Duration = Duration::from_millis(250);
 
-/// The rounds that each program has at least.
+/// The rounds that each contender has at least.
 const LEAST_ROUNDS: usize = 5;
 
 /// A call of a program, ready to be measured: what so many calls take.
@@ -48,9 +48,9 @@ pub fn measure(contenders: &mut [Contender]) -> Vec<f64> {
         .map(Contender::calls_of_round)
         .collect();
     let mut least = vec![f64::INFINITY; contenders.len()];
-    let start = Instant::now();
+    let (start, budget) = (Instant::now(), BUDGET * contenders.len() as u32);
     for round in 0..ROUNDS {
-        if round >= LEAST_ROUNDS && start.elapsed() > BUDGET {
+        if round >= LEAST_ROUNDS && start.elapsed() > budget {
             break;
         }
         for (place, contender) in contenders.iter_mut().enumerate() {

@@ -31,26 +31,32 @@ const CALLS: [Call; 5] = [
 /// Measures and prints the table of calls.
 pub fn calls(report: &mut Report, programs: &[&dyn Program]) {
     report.calls();
-    let sizes = [
-        ("16 rows", records::mixed(16)),
-        ("300 rows", records::mixed(300)),
-        ("4,096 rows", records::mixed(4_096)),
-        ("1 MiB", records::long_array()),
+    let sizes: [(&str, fn() -> Input); 4] = [
+        ("16 rows", || records::mixed(16)),
+        ("300 rows", || records::mixed(300)),
+        ("4,096 rows", || records::mixed(4_096)),
+        ("1 MiB", records::long_array),
     ];
-    for (size, input) in &sizes {
+    for (size, input) in sizes {
         for call in CALLS {
-            let limit = match (call, *size) {
+            let limit = match (call, size) {
                 (Call::Check | Call::Read | Call::Write, "300 rows") => {
                     Some(Limit::Beside("Rust", RATIO))
                 }
                 (Call::Write, "1 MiB") => Some(Limit::Beside("copy", RATIO)),
                 _ => None,
             };
-            line(report, programs, call, (size, input), limit);
+            line(report, programs, call, (size, input()), limit);
         }
     }
-    let (size, input) = &sizes[1];
-    line(report, programs, Call::CheckGrammar, (size, input), None);
+    let input = records::mixed(300);
+    line(
+        report,
+        programs,
+        Call::CheckGrammar,
+        ("300 rows", input),
+        None,
+    );
     for (name, input) in [
         ("array of 4,095 constants", records::constants()),
         ("tuple of 1,024 fields", records::wide_tuple()),
@@ -64,7 +70,7 @@ pub fn calls(report: &mut Report, programs: &[&dyn Program]) {
         ),
     ] {
         let at_once = Some(Limit::Milliseconds(AT_ONCE));
-        line(report, programs, Call::Read, (name, &input), at_once);
+        line(report, programs, Call::Read, (name, input), at_once);
     }
 }
 
@@ -73,28 +79,31 @@ fn line(
     report: &mut Report,
     programs: &[&dyn Program],
     call: Call,
-    (name, input): (&str, &Input),
+    (name, input): (&str, Input),
     limit: Option<Limit>,
 ) {
-    let times = times(programs, call, input);
-    report.call(&format!("{}, {name}", call.name()), &times, limit);
+    let times = times(programs, call, &[input]);
+    report.call(&format!("{}, {name}", call.name()), &times[0], limit);
 }
 
-/// The times of the programs that have the call, once the library's answers were compared with
-/// safe Rust's.
-fn times(programs: &[&dyn Program], call: Call, input: &Input) -> Vec<Option<f64>> {
-    answers::compare(call, input);
+/// The times of a call on each of the records, by program, once the library's answers were
+/// compared with safe Rust's. All are measured by turns, so that other work on the machine makes
+/// none of them longer than the others.
+fn times(programs: &[&dyn Program], call: Call, inputs: &[Input]) -> Vec<Vec<Option<f64>>> {
+    let mut times = vec![vec![None; programs.len()]; inputs.len()];
     let mut places = Vec::new();
     let mut contenders = Vec::new();
-    for (place, program) in programs.iter().enumerate() {
-        if let Some(contender) = program.contender(call, input) {
-            places.push(place);
-            contenders.push(contender);
+    for (size, input) in inputs.iter().enumerate() {
+        answers::compare(call, input);
+        for (place, program) in programs.iter().enumerate() {
+            if let Some(contender) = program.contender(call, input) {
+                places.push((size, place));
+                contenders.push(contender);
+            }
         }
     }
-    let mut times = vec![None; programs.len()];
-    for (place, time) in places.into_iter().zip(measure(&mut contenders)) {
-        times[place] = Some(time);
+    for ((size, place), time) in places.into_iter().zip(measure(&mut contenders)) {
+        times[size][place] = Some(time);
     }
     times
 }
@@ -125,8 +134,9 @@ fn per_row(
     call: Call,
     (records, record_of): (&str, fn(usize) -> Input),
 ) -> Vec<Curve> {
-    let one_row = times(programs, call, &record_of(1))[0];
-    let measured = ROW_COUNTS.map(|rows| times(programs, call, &record_of(rows)));
+    let inputs: Vec<_> = [1].into_iter().chain(ROW_COUNTS).map(record_of).collect();
+    let measured = times(programs, call, &inputs);
+    let (one_row, measured) = measured.split_first().expect("the record of one row");
     let mut curves = Vec::new();
     for (place, program) in programs.iter().enumerate() {
         let times = measured.iter().map(|times| times[place]);
@@ -139,7 +149,7 @@ fn per_row(
         let name = format!("{}, {records}, {}", call.name(), program.name());
         report.per_row(&name, &per_row, None);
         if place == 0 {
-            let one_row = one_row.expect("the library has every call");
+            let one_row = one_row[0].expect("the library has every call");
             let further = |&(rows, time): &(f64, f64)| (time - one_row) / (rows - 1.0);
             let further: Vec<_> = points.iter().map(further).collect();
             let limit = (call != Call::Write).then_some(SPREAD);
