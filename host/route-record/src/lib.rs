@@ -6,30 +6,7 @@
 //! that was not read. What is refused is refused by a [`Refusal`] with number, place and meaning.
 //!
 //! ```
-//! use route_record::{Contents, Grammar, Value};
-//!
-//! // An array of uint32: two nodes, and one child word.
-//! let grammar = Grammar::check(&[2, 3, 0, 1, 1, 0, 0, 1, 1])?;
-//!
-//! let route = Value::build(|value| {
-//!     value.array(|elements| {
-//!         elements.uint32(7);
-//!         elements.uint32(8);
-//!     });
-//! })?;
-//! let record = grammar.marshall_vec(&route)?;
-//! assert_eq!(record, [2, 0, 0, 0, 0, 0, 0, 0, 7, 0, 0, 0, 8, 0, 0, 0]);
-//!
-//! let value = grammar.demarshall_vec(&record)?;
-//! for element in value.root().children() {
-//!     assert!(matches!(element.contents(), Contents::Number(7 | 8)));
-//! }
-//! assert_eq!(grammar.same_route(&record, &record), Ok(true));
-//!
-//! let refusal = grammar.demarshall_vec(&record[..15]).unwrap_err();
-//! let words = "refused 9 at byte 12: the value that starts there is cut short";
-//! assert_eq!(refusal.to_string(), words);
-//! # Ok::<(), route_record::Refusal>(())
+#![doc = include_str!("../examples/first_use.rs")]
 //! ```
 //!
 //! [`calls`] has the library's calls as they are, on slices of any content.

@@ -61,6 +61,20 @@ fn the_examples_print_what_the_help_says() {
 }
 
 #[test]
+fn the_readme_shows_the_example_of_tree() {
+    let readme = include_str!("../../../../README.md");
+    let help = route(&["help", "tree"], b"").stdout;
+    let (line, printed) = &examples(&help)[0];
+    let line = line.replace("| route ", "| host/target/release/route ");
+    assert!(readme.contains(&format!("    {line}\n")), "{line}");
+    let printed: String = printed
+        .lines()
+        .map(|line| format!("    {line}\n"))
+        .collect();
+    assert!(readme.contains(&printed), "{printed}");
+}
+
+#[test]
 fn the_grammar_of_the_help_is_one() {
     let help = route(&["help"], b"").stdout;
     let start = help.find("    point = ").expect("a definition");
