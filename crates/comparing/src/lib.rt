@@ -16,20 +16,22 @@ pub enum SameRoute {
     Second(Refusal),
 }
 
+// The loop runs to the end also behind a byte that differs, so that it is compiled to many bytes at a time.
 fn same_bytes(a: &[u8], b: &[u8]) -> bool
     ensures { λ r. ⌜ (now (a .entry) ≡ now (b .entry)) ↔ (r ≡ true) ⌝ }
 {
     if a.len() != b.len() {
         return false;
     }
+    let mut same = true;
     let mut i: usize = 0;
     while i < a.len() {
         if a[i] != b[i] {
-            return false;
+            same = false;
         }
         i += 1;
     }
-    true
+    same
 }
 
 // Whether two records under one grammar have equal values. A record is the bytes of its value, so the bytes are compared.

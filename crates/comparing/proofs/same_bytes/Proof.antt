@@ -1,7 +1,7 @@
--- The loop's invariant: the lengths are equal, and so are the first i bytes.
-use mathlib.Core.Path.{_≡_, refl, ap}
-use mathlib.Core.Logic.{_↔_}
-use mathlib.Core.Bool.{true, false}
+-- The loop's invariant: the lengths are equal, and `same` says whether the first i bytes are.
+use mathlib.Core.Path.{_≡_, refl, sym, ap, _∙_}
+use mathlib.Core.Logic.{_↔_, ⊎-elim}
+use mathlib.Core.Bool.{Bool, true, false}
 use mathlib.Core.List.{List}
 use Prim.Native.Nat.{ℕ, _-_, _≤_, _<_}
 use native.Mathlib.Omega.{arith}
@@ -13,28 +13,25 @@ use Rattle.comparing.proofs.same_bytes.Statement.{statement}
 use Rattle.comparing.proofs.same_bytes.Tie as tie
 
 abbrev Inv-loop : tie.InvT-loop
-Inv-loop a b i₀ i = (length a ≡ length b) × (i ≤ length a) × ((k : ℕ) → k < i → getD a k 0 ≡ getD b k 0)
+Inv-loop a b same₀ i₀ same i = (length a ≡ length b) × (i ≤ length a) × (((k : ℕ) → k < i → getD a k 0 ≡ getD b k 0) ↔ (same ≡ true))
 
 abbrev μ-loop : tie.MeasureT-loop
-μ-loop a b i₀ i = length a - i
+μ-loop a b same₀ i₀ same i = length a - i
 
-differ : {P : Type 0} → (P → ⊥) → P ↔ (false ≡ true)
-differ n = (λ p. absurd (n p), λ e. let z : _≡_ {A = ℕ} 0 1 = cc in absurd (omega arith))
+other : {P : Type 0} {b : Bool} → b ≡ false → (P → ⊥) → P ↔ (b ≡ true)
+other f n = (λ p. absurd (n p), λ e. let z : _≡_ {A = ℕ} 0 1 = cc in absurd (omega arith))
 
 returns : tie.Need-returns Inv-loop μ-loop
-returns c = differ (λ e. c .if1 .taken (ap length e))
+returns c = other refl (λ e. c .if1 .taken (ap length e))
 
 loop-holds : tie.Need-loop-holds Inv-loop μ-loop
-loop-holds c = (c .if1 .left, omega arith, λ k l. absurd (omega arith))
+loop-holds c = (c .if1 .left, omega arith, (λ _. refl, λ _ k l. absurd (omega arith)))
 
 shared-slice-read-if2 : tie.Need-shared-slice-read-if2 Inv-loop μ-loop
 shared-slice-read-if2 c = search needs
 
 shared-slice-read-if2-2 : tie.Need-shared-slice-read-if2-2 Inv-loop μ-loop
 shared-slice-read-if2-2 c = search needs
-
-returns-2 : tie.Need-returns-2 Inv-loop μ-loop
-returns-2 c = differ (λ e. c .if2 .taken (ap (λ (l : List ℕ). getD l (c .before .before .before .before .loop .i) 0) e))
 
 add-i : tie.Need-add-i Inv-loop μ-loop
 add-i c = search needs
@@ -44,13 +41,19 @@ loop-less c = search needs
 
 loop-again : tie.Need-loop-again Inv-loop μ-loop
 loop-again c =
-    let l = c .before .before .before .before .loop in
-    (l .inv .0, omega arith, below-more _ _ (l .inv .2) (c .if2 .left))
+    let l = c .before .before .before .before .loop in (
+      l .inv .0,
+      omega arith,
+      ⊎-elim
+          (λ w. other (w .1) (λ p. w .0 .taken (p (l .i) (omega arith))))
+          (λ w. (λ p. w .1 ∙ l .inv .2 .0 (λ k m. p k (omega (arith, m))), λ e. below-more _ _ (l .inv .2 .1 (sym (w .1) ∙ e)) (w .0 .left)))
+          (c .if2 .came),
+    )
 
-returns-3 : tie.Need-returns-3 Inv-loop μ-loop
-returns-3 c =
+returns-2 : tie.Need-returns-2 Inv-loop μ-loop
+returns-2 c =
     let l = c .before .loop in
-    (λ e. refl, λ e. ext-getD 0 _ _ (l .inv .0) (λ k m. l .inv .2 k (omega arith)))
+    (λ e. l .inv .2 .0 (λ k _. ap (λ (x : List ℕ). getD x k 0) e), λ e. ext-getD 0 _ _ (l .inv .0) (λ k m. l .inv .2 .1 e k (omega arith)))
 
 pub same-bytes-spec : {M : Type 1} → statement M
 same-bytes-spec =
@@ -62,8 +65,7 @@ same-bytes-spec =
     loop-holds
     shared-slice-read-if2
     shared-slice-read-if2-2
-    returns-2
     add-i
     loop-less
     loop-again
-    returns-3)
+    returns-2)
