@@ -14,7 +14,7 @@ pub const MOST_ROWS: usize = 4096;
 // The words of a row.
 const ROW_WIDTH: usize = 4;
 
-// The rows that a slice of this many words has.
+// The capacity of a slice of this many words: the rows that it has, at most 4,096.
 pub fn capacity_of(words: usize) -> usize
     ensures { λ r. ⌜ (r ≡ capacityOf words) × (r ≤ 4096) × (4 * r ≤ words) ⌝ }
 {

@@ -83,7 +83,8 @@ pub record Demand1 : Type 0 where
   -- `same_route`, whose contract allows one answer
   pub routes : (g first second : List ℕ) → Refuses (RouteRefused g first second) (readBoth g first second)
   pub oneRoute : (g first second : List ℕ) (r q : SameRoute) → Compares g first second (sameRouteOf r) → Compares g first second (sameRouteOf q) → r ≡ q
-  -- the numbers are those of document 01's table, each with its kind of place; so none is 0, which at the C interface is an accepted call
+  -- every refusal given is one of document 01's table, with its kind of place; which call gives which is said above. So none has number 0,
+  -- which at the C interface is an accepted call
   pub listedGrammar : (g : List ℕ) → Lists (FirstRefusal g)
   pub listedRoom : (len index size : ℕ) → Lists (NoRoom len index size)
   pub listedUnpackers : (len index size : ℕ) → Lists (NotThere len index size)

@@ -104,7 +104,7 @@ pub data RouteRefused (g first second : List ℕ) : NamedReason → Type 0 where
 
 -- ---- the table
 
--- the numbers of document 01's table, each with its kind of place; 19 is the program's
+-- numbers 1 to 18 of document 01's table, each with its kind of place; the relations above fix the place itself, and 19 is the program's
 pub data Listed : Reason → Type 0 where
   ofWord : (n w : ℕ) → 0 < n → n ≤ 5 → Listed (reason n (word w))
   ofByte : (n b : ℕ) → 5 < n → n ≤ 11 → Listed (reason n (byte b))

@@ -72,6 +72,15 @@ const MIX_RECORD: &str = "0200000000000000 0000000000000000 0100000000000000 020
 const MIX_ROWS: &str = "4 7 2 0, 3 5 2 0, 8 2 0 0, 0 1 0 0, 8 2 1 0, 2 1 258 0, 5 1 1 40";
 /// A grammar that is refused with 3 at word 1.
 const KIND_9: &str = "1, 9 0 0, 0";
+/// For each refusal of a grammar its number and a grammar that is refused with it; that of 5 is
+/// example F.
+const REFUSED_GRAMMARS: [(u32, &str); 5] = [
+    (1, ""),
+    (2, "1"),
+    (3, KIND_9),
+    (4, "1, 1 1 0, 1, 0"),
+    (5, "1, 4 0 1, 1, 0"),
+];
 
 /// Numbers with blanks and commas between them.
 fn numbers<N: FromStr>(text: &str) -> Vec<N> {

@@ -4,7 +4,7 @@ use compare::Case;
 
 use super::{counted, doubling, hex, numbers, table, Cases, List, MOST_BYTES};
 use super::{A, A64, ARR, A_RECORD, B, BYT, C, D, E, KIND_9, MIX, MIX_RECORD, PAIR, TUP0};
-use super::{U32, U64, UNI};
+use super::{REFUSED_GRAMMARS, U32, U64, UNI};
 
 /// A whole reading with so many words lent.
 fn demarshall(grammar: &[u32], record: &[u8], words: usize) -> Case {
@@ -230,7 +230,7 @@ const WHOLE: [(&str, &str, &str, usize); 46] = [
 ];
 
 /// Two faults in one whole reading: name, grammar, record and capacity.
-const ORDER: [(&str, &str, &str, usize); 20] = [
+const ORDER: [(&str, &str, &str, usize); 22] = [
     ("no row before 9", U32, "", 0),
     ("no row before 9, inside a tuple", PAIR, "01000000", 2),
     (
@@ -238,6 +238,18 @@ const ORDER: [(&str, &str, &str, usize); 20] = [
         UNI,
         "0100000000000000 FF",
         1,
+    ),
+    (
+        "the first field's 9 before the second's 8",
+        PAIR,
+        "010000",
+        2,
+    ),
+    (
+        "a count above the rows before the elements' 10",
+        "2, 3 0 1, 8 0 0, 1, 1",
+        "0500000000000000 0000000000000000",
+        2,
     ),
     ("no row before 11", B, "00", 0),
     ("no row before 10", D, "0000000000000000", 0),
@@ -384,14 +396,7 @@ fn indices(list: &mut List) {
 fn before_the_values(list: &mut List) {
     let (b, bad) = (numbers::<u32>(B), numbers::<u32>(KIND_9));
     let long = vec![0; MOST_BYTES + 1];
-    let grammars = [
-        ("1", ""),
-        ("2", "1"),
-        ("3", KIND_9),
-        ("4", "1, 1 1 0, 1, 0"),
-        ("5, example F,", "1, 4 0 1, 1, 0"),
-    ];
-    for (number, grammar) in grammars {
+    for (number, grammar) in REFUSED_GRAMMARS {
         let grammar = numbers::<u32>(grammar);
         let name = format!("{number} before 8 and 11");
         list.add(&name, demarshall(&grammar, &[0], 0));
@@ -417,6 +422,12 @@ fn before_the_values(list: &mut List) {
         demarshall(&array, &vec![0xff; MOST_BYTES + 1], 4),
     );
     list.add("6 before 10", demarshall(&union, &long, 4));
+    list.add("6 before 9", check_val(&array, &long, MOST_BYTES));
+    list.add("6 before 10", check_val(&union, &long, 1));
+    let counted = counted(u64::MAX, &long);
+    list.add("6 before 8", check_whole(&numbers::<u32>(C), &counted));
+    list.add("6 before 9", check_whole(&array, &counted));
+    list.add("6 before 10", check_whole(&union, &counted));
     list.add("7 before 8", parse_val(&b, &[], 1, 0));
     list.add("7 before 9", parse_val(&numbers::<u32>(U32), &[], 1, 4));
 }

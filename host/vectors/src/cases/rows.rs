@@ -288,10 +288,13 @@ fn refused_located(list: &mut List) {
         locate(&numbers::<u64>("4 3 2 0, 5 1 0 0, 5 1 1 0"), 3, &[], 1),
     );
     list.add("12 before 18", locate(&behind, 0, &[], 0));
-    list.add(
-        "6 before 12 and 18",
-        locate(&behind, 0, &vec![0; MOST_BYTES + 1], 9),
-    );
+    let more = vec![0; MOST_BYTES + 1];
+    for (number, rows) in [(13, "5 2 0 0"), (14, "5 1 0 2000000")] {
+        let rows = numbers::<u64>(rows);
+        list.add(&format!("6 before {number}"), locate(&rows, 1, &more, 0));
+        list.add(&format!("12 before {number}"), locate(&rows, 2, &[], 0));
+    }
+    list.add("6 before 12 and 18", locate(&behind, 0, &more, 9));
 }
 
 /// A tuple of constants, of `n` rows.

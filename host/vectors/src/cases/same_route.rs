@@ -2,7 +2,7 @@
 
 use compare::Case;
 
-use super::{counted, hex, numbers, Cases, List, MOST_BYTES};
+use super::{counted, hex, numbers, Cases, List, MOST_BYTES, REFUSED_GRAMMARS};
 use super::{A, A_RECORD, B, BYT, C, D, E, KIND_9, MIX, MIX_RECORD, PAIR, TUP0, U32, U64, UNI};
 
 /// Adds the comparison of two records.
@@ -144,8 +144,11 @@ fn long_records(list: &mut List) {
     let most = counted(MOST_BYTES as u64 - 8, &vec![0x5a; MOST_BYTES - 8]);
     let mut other = most.clone();
     other[MOST_BYTES - 1] = 0x5b;
-    let listed: [(&str, &str, &[u8], &[u8]); 8] = [
-        ("1 before 6 of both records", "0, 0", &long, &long),
+    for (number, grammar) in REFUSED_GRAMMARS {
+        let name = format!("{number} before 6 of both records");
+        add(list, &name, grammar, &long, &long);
+    }
+    let listed: [(&str, &str, &[u8], &[u8]); 7] = [
         ("6 of both records", B, &long, &long),
         ("6 of the second record", B, &[], &long),
         (

@@ -59,6 +59,11 @@ pub fn show() -> Vec<(String, Vec<u8>)> {
     let a = input(A, &hex(A_RECORD));
     add("example A and a byte more", [&a[..], &[0]].concat());
     add("example A, the input cut by a byte", a[..73].to_vec());
+    let more = |grammar, record| [input(grammar, record), vec![0]].concat();
+    add("19 before 3", more(KIND_9, &[]));
+    add("19 before 5", more("1, 4 0 1, 1, 0", &[]));
+    add("19 before 10", more(D, &[0; 8]));
+    add("19 before 11", more(B, &[0]));
     add(
         "65,536 bytes",
         input(BYT, &counted(65_500, &[0x5a; 65_500])),

@@ -3,8 +3,8 @@
 use compare::{Case, Value};
 
 use super::{hex, numbers, table, Cases, List, MOST_BYTES};
-use super::{A, A64, ARR, A_RECORD, B, BYT, C, D, E, KIND_9, MIX, MIX_RECORD, MIX_ROWS, PAIR};
-use super::{TUP0, U32, U64, UNI};
+use super::{A, A64, ARR, A_RECORD, B, BYT, C, D, E, MIX, MIX_RECORD, MIX_ROWS, PAIR};
+use super::{REFUSED_GRAMMARS, TUP0, U32, U64, UNI};
 
 /// A value of as many rows as are given.
 fn value(grammar: &str, rows: &str, store: &[u8]) -> Value {
@@ -160,12 +160,8 @@ const NOT_IN_GRAMMAR: [(&str, &str, &str); 14] = [
 ];
 
 /// Two faults in one writing, to an output without room: name, grammar, rows, n.
-const ORDER: [(&str, &str, &str, usize); 18] = [
-    ("1 before 12", "", "0 1 0 0", 0),
-    ("2 before 13", "1", "9 1 0 0", 1),
-    ("3 before 12", KIND_9, "9 1 0 0", 0),
-    ("4 before 14", "1, 1 1 0, 1, 0", "5 1 1 0", 1),
-    ("5 before 15, example F", "1, 4 0 1, 1, 0", "0 1 0 0", 1),
+const ORDER: [(&str, &str, &str, usize); 14] = [
+    ("5 before 15, example F", "1, 4 0 1, 1, 0", "1 1 7 0", 1),
     ("12 before 13", U32, "9 1 0 0", 2),
     ("12 before 15 and 17", U32, "2 1 7 0", 0),
     ("13 before 14 of one row", U32, "5 2 9 0, 0 1 0 0", 2),
@@ -304,8 +300,33 @@ fn stores(list: &mut List) {
     list.add("6 before 16", marshall(&large, 0));
     long.n = 0;
     list.add("6 before 12", marshall(&long, 0));
-    long.grammar = numbers(KIND_9);
-    list.add("the grammar before all else", marshall_val(&long, 0, 9));
+}
+
+/// Each refusal of the grammar meets each of those behind it but 15, which speaks of a grammar.
+fn grammars(list: &mut List) {
+    let (constant, most) = ("0 1 0 0", vec![0; MOST_BYTES]);
+    let long = [&most[..], &[0]].concat();
+    let faults: [(u32, &str, usize, &[u8]); 6] = [
+        (6, constant, 1, &long),
+        (12, constant, 0, &[]),
+        (13, "9 1 0 0", 1, &[]),
+        (14, "5 1 1 0", 1, &[]),
+        (16, "5 1 1048576 0", 1, &most),
+        (17, constant, 1, &[]),
+    ];
+    for (number, grammar) in REFUSED_GRAMMARS {
+        for (behind, rows, n, store) in faults {
+            let name = format!("{number} before {behind}");
+            let value = Value {
+                n,
+                ..value(grammar, rows, store)
+            };
+            list.add(&name, marshall_val(&value, 5, 6));
+            if store.is_empty() && behind < 17 {
+                list.add(&name, marshall(&value, 5));
+            }
+        }
+    }
 }
 
 /// The most rows.
@@ -336,6 +357,7 @@ pub fn writing() -> Cases {
     room(&mut list);
     sizes(&mut list);
     stores(&mut list);
+    grammars(&mut list);
     many_rows(&mut list);
     list.0
 }
