@@ -22,7 +22,7 @@ other : {P : Type 0} {b : Bool} → b ≡ false → (P → ⊥) → P ↔ (b ≡
 other f n = (λ p. absurd (n p), λ e. let z : _≡_ {A = ℕ} 0 1 = cc in absurd (omega arith))
 
 returns : tie.Need-returns Inv-loop μ-loop
-returns c = other refl (λ e. c .if1 .taken (ap length e))
+returns c = other refl (λ e. omega (arith, c .if1 .taken, ap length e))
 
 loop-holds : tie.Need-loop-holds Inv-loop μ-loop
 loop-holds c = (c .if1 .left, omega arith, (λ _. refl, λ _ k l. absurd (omega arith)))

@@ -49,7 +49,7 @@ at-row-requires-2 c κs = search needs
 returns-3 : tie.Need-returns-3
 returns-3 c =
     let a = c .before .before .before .before .before .before .before .before .args in
-    ap refused (c .at-row2 .ensures) ∙ root-short (a .rows .now) (a .n) (a .store .now) (c .before .before .before .before .before .if1 .left) (counted (c .before .before .before)) (λ e. c .before .if3 .taken (c .before .before .span-at .ensures ∙ e))
+    ap refused (c .at-row2 .ensures) ∙ root-short (a .rows .now) (a .n) (a .store .now) (c .before .before .before .before .before .if1 .left) (counted (c .before .before .before)) (λ e. omega (arith, c .before .if3 .taken, c .before .before .span-at .ensures, e))
 
 check-row-requires : tie.Need-check-row-requires
 check-row-requires c κs = let h = there (c .before .before) in (omega arith, omega arith)
