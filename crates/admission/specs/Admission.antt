@@ -5,7 +5,7 @@ use lib.ListN.{length}
 use lib.Dec.{leb}
 use Rattle.refusal.specs.Outcome.{Outcome, accepted, bind, test, Reason, reason, byte}
 use Rattle.grammar.specs.Check.{checkGrammar}
-use Rattle.rows.specs.Row.{rowWidth}
+use Rattle.tables.specs.Row.{rowWidth}
 
 -- document 01's capacity of a slice of words: divided by 4, rounded down, at most 4,096
 abbrev pub capacityOf : ℕ → ℕ

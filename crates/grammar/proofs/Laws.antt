@@ -15,7 +15,7 @@ use Rattle.refusal.proofs.Outcome.{test-true, test-false, test-passed}
 use Rattle.refusal.proofs.Tests.{and-true, reflects-leb, reflects-ltb, reflects-eqb, reflects-and}
 use Rattle.value.specs.Kinds.{Kind, kinds, lastKind, kindOf, constant, number, array, tuple, elements, union, other}
 use Rattle.value.proofs.KindLaws.{kinds-length, kind-other}
-use Rattle.grammar.specs.Table.{nodeCount, kindWord, firstWord, countWord, childCount, childWord}
+use Rattle.tables.specs.Grammar.{nodeCount, kindWord, firstWord, countWord, childCount, childWord}
 use Rattle.grammar.specs.Check.{keepsRule, isNamed, startHolds, lengthHolds, childrenHold, childHolds, checkLayout, checkNode, checkChildren, checkNodes}
 use Rattle.grammar.specs.Rule.{StartRule, LengthRule, CountRule, ChildrenRule, ChildRule, LaidOut}
 

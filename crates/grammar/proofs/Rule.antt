@@ -11,7 +11,7 @@ use Rattle.refusal.specs.Outcome.{Outcome, accepted, refused, bind, Reason, rea
 use Rattle.refusal.proofs.Tests.{refuted}
 use Rattle.refusal.proofs.Outcome.{Post, holds, fails, post-bind, post-reflects, post-accepted, post-refused, test-true, test-false}
 use Rattle.value.specs.Kinds.{lastKind, kindOf}
-use Rattle.grammar.specs.Table.{nodeCount, kindWord, firstWord, countWord}
+use Rattle.tables.specs.Grammar.{nodeCount, kindWord, firstWord, countWord}
 use Rattle.grammar.specs.Check.{isNamed, startHolds, lengthHolds, childrenHold, childHolds, checkLayout, checkNode, checkChildren, checkNodes, checkGrammar}
 use Rattle.grammar.specs.Rule.{ChildrenRule, ChildRule, ChildOf, NodeRule, LaidOut, Passes, Reached, FirstRefusal, first1, first2, first3, first4, first5}
 use Rattle.grammar.proofs.Laws.{reflects-start, reflects-length, reflects-kind, reflects-children, reflects-child}

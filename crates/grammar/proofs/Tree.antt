@@ -9,7 +9,7 @@ use lib.ListN.{length, getD, List·getD-eq-default}
 use Rattle.packed.specs.Packed.{Below}
 use Rattle.value.specs.Kinds.{Kind, kindOf, constant, number, array, tuple, elements, union, other}
 use Rattle.value.specs.Tree.{G, Gs, gnil, gcons, seqG, caseAt, ValidGrammar, ValidGrammars}
-use Rattle.grammar.specs.Table.{nodeCount, kindWord, firstWord, countWord, childWord}
+use Rattle.tables.specs.Grammar.{nodeCount, kindWord, firstWord, countWord, childWord}
 use Rattle.grammar.specs.Rule.{Passes}
 use Rattle.grammar.specs.Tree.{onlyChild, nodeTree, childTrees, treeTo, treeOf}
 

@@ -6,7 +6,7 @@ use lib.ListN.{length}
 use lib.Dec.{leb, ltb, eqb}
 use Rattle.refusal.specs.Outcome.{Outcome, accepted, bind, test, Reason, reason, word}
 use Rattle.value.specs.Kinds.{Kind, kindOf, constant, number, array, tuple, elements, union, other}
-use Rattle.grammar.specs.Table.{nodeCount, kindWord, firstWord, countWord, childCount, childWord}
+use Rattle.tables.specs.Grammar.{nodeCount, kindWord, firstWord, countWord, childCount, childWord}
 
 -- first and count by the kind's rule
 abbrev pub keepsRule : Kind → ℕ → ℕ → Bool

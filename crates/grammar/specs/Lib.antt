@@ -1,4 +1,3 @@
-pub mod Table
 pub mod Check
 pub mod Rule
 pub mod Tree

@@ -5,7 +5,7 @@ use Prim.Native.Nat.{ℕ, _+_, _*_, _≤_, _<_}
 use lib.ListN.{length}
 use Rattle.refusal.specs.Outcome.{Reason, reason, word}
 use Rattle.value.specs.Kinds.{Kind, lastKind, kindOf, constant, number, array, tuple, elements, union, other}
-use Rattle.grammar.specs.Table.{nodeCount, kindWord, firstWord, countWord, childCount, childWord}
+use Rattle.tables.specs.Grammar.{nodeCount, kindWord, firstWord, countWord, childCount, childWord}
 
 -- the slice not empty, N from 1 to 256
 abbrev pub StartRule : List ℕ → Type 0

@@ -3,7 +3,7 @@ use Prim.Native.Nat.{ℕ, zero, suc}
 use mathlib.Core.List.{List}
 use Rattle.value.specs.Kinds.{Kind, kindOf, constant, number, array, tuple, elements, union, other}
 use Rattle.value.specs.Tree.{G, Gs, GConstant, GNumber, GArray, GTuple, GNumberArray, GTaggedUnion, gnil, gcons}
-use Rattle.grammar.specs.Table.{nodeCount, kindWord, firstWord, countWord, childWord}
+use Rattle.tables.specs.Grammar.{nodeCount, kindWord, firstWord, countWord, childWord}
 
 -- the first of some grammars, for kind 3, which has one. None, another kind and depth 0 below are not met in a table that passes
 abbrev pub onlyChild : Gs → G

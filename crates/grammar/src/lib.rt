@@ -6,7 +6,7 @@ ghost use lib.ListN.{length, getD};
 ghost use lib.Dec.{leb, ltb, eqb};
 ghost use Rattle.refusal.specs.Outcome.{accepted, test, reason, word as wordAt};
 ghost use Rattle.refusal.specs.Meaning.{outcomeOf};
-ghost use Rattle.grammar.specs.Table.{nodeCount, childCount};
+ghost use Rattle.tables.specs.Grammar.{nodeCount, childCount};
 ghost use Rattle.grammar.specs.Check.{startHolds, lengthHolds, checkLayout, checkNode, checkNodes, checkGrammar};
 ghost use Rattle.grammar.specs.Rule.{LaidOut};
 use refusal::Answer;

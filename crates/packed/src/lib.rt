@@ -24,7 +24,7 @@ pub enum UnpackedU64 {
 
 // Whether count numbers of width bytes from the index on end within len bytes. The count is compared and never multiplied.
 // Numbers of no bytes end where they start.
-fn within(len: usize, index: usize, count: usize, width: usize) -> bool
+pub fn within(len: usize, index: usize, count: usize, width: usize) -> bool
     ensures { λ r. ⌜ r ≡ leb (index + width * count) len ⌝ }
 {
     if len < index {

@@ -19,11 +19,11 @@ use Rattle.value.specs.Step.{Step, yield, next, give, elements}
 use Rattle.value.specs.Reading.{State, Stop, Reading, stop, move, begin, claim, free, takeNumber, takeNumbers, readBody, readFields, readVal}
 use Rattle.value.proofs.KindLaws.{number-kind, elements-kind, other-kinds}
 use Rattle.value.proofs.Agreement.{agrees, agrees-elements, agrees-fields, agrees-accepted, elements-count, fields-count}
-use Rattle.grammar.specs.Table.{kindWord, firstWord, countWord, childWord}
+use Rattle.tables.specs.Grammar.{kindWord, firstWord, countWord, childWord}
 use Rattle.grammar.specs.Rule.{CountRule}
 use Rattle.grammar.specs.Tree.{nodeTree, childTrees, treeOf}
 use Rattle.grammar.proofs.Tree.{tree-node, trees-length, trees-at}
-use Rattle.rows.specs.Row.{rowWidth}
+use Rattle.tables.specs.Row.{rowWidth}
 use Rattle.rows.specs.Layout.{ownRow, rowsOf, rowsOfAll}
 use Rattle.rows.proofs.LayoutLaws.{length-rowsOf}
 use Rattle.reading.specs.declared.State.{State as CodeState}

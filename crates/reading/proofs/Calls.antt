@@ -16,7 +16,7 @@ use Rattle.value.specs.Step.{Step, yield, next}
 use Rattle.value.specs.Reading.{State, Stop, Reading, stop, start, begin, claim, atEnd, readAt, readWhole, readBody, readVal}
 use Rattle.grammar.specs.Check.{checkGrammar}
 use Rattle.grammar.specs.Tree.{treeOf}
-use Rattle.rows.specs.Row.{rowWidth}
+use Rattle.tables.specs.Row.{rowWidth}
 use Rattle.rows.specs.Layout.{rowsOf}
 use Rattle.admission.specs.Admission.{admitOf}
 use Rattle.admission.proofs.Admission.{admitted}

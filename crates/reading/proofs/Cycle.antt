@@ -20,7 +20,7 @@ use Rattle.value.specs.Step.{Step, yield, next, give, both, elements}
 use Rattle.value.specs.Reading.{State, Stop, Reading, stop, free, takeNumber, readBody, readCaseAt, readVal}
 use Rattle.value.proofs.Agreement.{agrees, agrees-accepted}
 use Rattle.value.proofs.Reading.{read-accepted, readCaseAt-below, readCaseAt-above}
-use Rattle.rows.specs.Row.{rowWidth}
+use Rattle.tables.specs.Row.{rowWidth}
 use Rattle.rows.specs.Layout.{rowsOf, rowsOfAll}
 use Rattle.rows.proofs.LayoutLaws.{length-rowsOf, length-rowsOfAll}
 use Rattle.reading.specs.declared.State.{State as CodeState}

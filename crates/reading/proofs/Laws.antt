@@ -21,10 +21,10 @@ use Rattle.packed.proofs.Put.{put-nothing, put-next}
 use Rattle.value.specs.Step.{Step, yield, next}
 use Rattle.value.specs.Reading.{State, Stop, Reading, stop, move, claim, takeNumber, takeNumbers}
 use Rattle.value.specs.Kinds.{lastKind}
-use Rattle.grammar.specs.Table.{nodeCount, kindWord, firstWord, countWord}
+use Rattle.tables.specs.Grammar.{nodeCount, kindWord, firstWord, countWord}
 use Rattle.grammar.specs.Rule.{ChildRule, ChildrenRule}
 use Rattle.grammar.proofs.Rule.{node-inside as grammar-node-inside, child-inside as grammar-child-inside}
-use Rattle.rows.specs.Row.{rowWidth}
+use Rattle.tables.specs.Row.{rowWidth}
 use Rattle.reading.specs.declared.State.{State as CodeState}
 use Rattle.reading.specs.declared.Step.the-variants.{Next, Stopped}
 use Rattle.reading.specs.declared.Taken.{Taken}

@@ -12,9 +12,9 @@ use Rattle.value.specs.Tree.{G, Gs, Val, Vals, vnil, ValidGrammar, rowCounts}
 use Rattle.value.specs.Step.{Step, yield, both, elements}
 use Rattle.value.specs.Reading.{State, Reading, free, readVal, readBody, readFields}
 use Rattle.value.proofs.Agreement.{agrees, agrees-elements, agrees-fields, agrees-accepted}
-use Rattle.grammar.specs.Table.{childWord}
+use Rattle.tables.specs.Grammar.{childWord}
 use Rattle.grammar.specs.Tree.{treeOf, childTrees}
-use Rattle.rows.specs.Row.{rowWidth}
+use Rattle.tables.specs.Row.{rowWidth}
 use Rattle.rows.specs.Layout.{rowsOf, rowsOfAll}
 use Rattle.reading.specs.declared.State.{State as CodeState}
 use Rattle.reading.specs.declared.Step.{Step as CodeStep}

@@ -9,9 +9,9 @@ use Rattle.packed.specs.Packed.{Bytes, Below, put}
 use lib.Dec.{ltb}
 use Rattle.value.specs.Step.{Step, yield, next}
 use Rattle.value.specs.Reading.{State, Reading, stop, takeNumber}
-use Rattle.grammar.specs.Table.{nodeCount, kindWord}
+use Rattle.tables.specs.Grammar.{nodeCount, kindWord}
 use Rattle.grammar.specs.Rule.{Passes}
-use Rattle.rows.specs.Row.{rowWidth}
+use Rattle.tables.specs.Row.{rowWidth}
 use Rattle.reading.specs.declared.State.{State as CodeState}
 use Rattle.reading.specs.declared.Step.{Step as CodeStep}
 use Rattle.reading.specs.declared.Step.the-variants as S

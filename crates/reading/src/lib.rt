@@ -9,7 +9,7 @@ ghost use Rattle.value.specs.Kinds.{Number, numberKind, Elements, elementsKind,
 ghost use Rattle.value.specs.Tree.{VNumber, VNumberArray};
 ghost use Rattle.value.specs.Reading.{claim as claimOf, takeNumber, takeNumbers, move, start, readBody, readVal, readFields};
 ghost use Rattle.value.specs.Step.{give, elements};
-ghost use Rattle.grammar.specs.Table.{nodeCount, firstWord, countWord, childWord};
+ghost use Rattle.tables.specs.Grammar.{nodeCount, firstWord, countWord, childWord};
 ghost use Rattle.grammar.specs.Tree.{treeOf, childTrees};
 ghost use Rattle.rows.specs.Layout.{rowsOf, rowsOfAll};
 ghost use Rattle.admission.specs.Admission.{capacityOf};

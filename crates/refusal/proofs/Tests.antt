@@ -2,7 +2,7 @@
 use mathlib.Core.Path.{_≡_, refl, sym}
 use mathlib.Core.Logic.{_↔_}
 use mathlib.Core.Bool.{Bool, true, false, _&&_}
-use Prim.Native.Nat.{ℕ, suc, _≤_, _<_}
+use Prim.Native.Nat.{ℕ, zero, suc, _≤_, _<_, zero-le}
 use native.Mathlib.Omega.{arith}
 use lib.Dec.{leb, ltb, eqb}
 use borrow.Author.Tests.{le-leb, leb-true, lt-ltb, ltb-true, eq-eqb, eqb-true}
@@ -44,6 +44,15 @@ bool-iff false false f g = refl
 -- two comparisons that say the same
 pub leb-iff : (a b c d : ℕ) → (a ≤ b → c ≤ d) → (c ≤ d → a ≤ b) → leb a b ≡ leb c d
 leb-iff a b c d f g = bool-iff (leb a b) (leb c d) (λ t. le-leb c d (f (leb-true a b t))) (λ t. le-leb a b (g (leb-true c d t)))
+
+-- k is none of the b numbers below b: what is known in the arm behind the arms for these, the last one of a match
+abbrev pub NoneBelow : ℕ → ℕ → Type 0
+NoneBelow zero k = Unit {0}
+NoneBelow (suc b) k = NoneBelow b k × (k ≡ b → ⊥)
+
+pub none-below : (b k : ℕ) → NoneBelow b k → b ≤ k
+none-below zero k h = zero-le
+none-below (suc b) k h = let l = none-below b k (h .0) in let n = h .1 in omega arith
 
 -- a number that is none of those below, one after the other: for the last arm of a match
 pub next-key : {k x : ℕ} → k ≤ x → (x ≡ k → ⊥) → suc k ≤ x

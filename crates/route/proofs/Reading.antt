@@ -20,7 +20,7 @@ use Rattle.value.proofs.Laws.{valid-counts, length-bytesOf}
 use Rattle.value.proofs.Reading.{whole-fits, whole-short, whole-accepted}
 use Rattle.grammar.specs.Tree.{treeOf}
 use Rattle.grammar.proofs.Tree.{tree-valid}
-use Rattle.rows.specs.Row.{rowWidth}
+use Rattle.tables.specs.Row.{rowWidth}
 use Rattle.rows.specs.Layout.{rowsOf}
 use Rattle.rows.specs.Rule.{TableOf}
 use Rattle.rows.proofs.LayoutLaws.{length-rowsOf, layout-table}

@@ -18,7 +18,7 @@ use Rattle.value.specs.Parse.{parseVal, Demarshallable, DemarshallFunc}
 use Rattle.grammar.specs.Check.{checkGrammar}
 use Rattle.grammar.specs.Rule.{FirstRefusal}
 use Rattle.grammar.specs.Tree.{treeOf}
-use Rattle.rows.specs.Row.{rowWidth}
+use Rattle.tables.specs.Row.{rowWidth}
 use Rattle.rows.specs.Layout.{rowsOf}
 use Rattle.rows.specs.Walk.{walk}
 use Rattle.rows.specs.Rule.{TableOf}

@@ -16,7 +16,7 @@ use Rattle.value.specs.Parse.{parseVal}
 use Rattle.grammar.specs.Check.{checkGrammar}
 use Rattle.grammar.specs.Rule.{FirstRefusal}
 use Rattle.grammar.specs.Tree.{treeOf}
-use Rattle.rows.specs.Row.{rowWidth, rowAt}
+use Rattle.tables.specs.Row.{rowWidth, rowAt}
 use Rattle.rows.specs.Walk.{walk}
 use Rattle.reading.specs.Calls.{parseValOf, demarshallOf}
 use Rattle.sizing.specs.InGrammar.{checkInGrammar}

@@ -11,7 +11,7 @@ use Rattle.refusal.specs.Outcome.{Outcome, accepted, refused, bind, test, map, 
 use Rattle.packed.specs.Packed.{Below, Bytes}
 use Rattle.value.specs.Kinds.{elementWidth, Kind, kindOf, constant, number, array, tuple, elements, union, other}
 use Rattle.value.specs.Tree.{Val}
-use Rattle.rows.specs.Row.{Row, rowAt}
+use Rattle.tables.specs.Row.{Row, rowAt}
 use Rattle.rows.specs.Walk.{withinStore, walk}
 use Rattle.rows.specs.Rule.{TableOf}
 use Rattle.rows.specs.Locate.{Part, lookUp, elementsPart, locateArray}

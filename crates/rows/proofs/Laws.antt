@@ -15,7 +15,7 @@ use Rattle.refusal.proofs.Tests.{and-true, next-key, reflects-leb, reflects-ltb
 use Rattle.value.specs.Kinds.{Kind, kinds, kindOf, other}
 use Rattle.value.proofs.KindLaws.{kind-other}
 use Rattle.value.specs.Tree.{Val, Vals, vnil, vcons}
-use Rattle.rows.specs.Row.{rowWidth, Row, rowAt}
+use Rattle.tables.specs.Row.{rowWidth, Row, rowAt}
 use Rattle.rows.specs.Walk.{keepsRule, withinStore, childCount, rowValue, checkRow, walkChildren, walkTo, walkRow, countHolds, walk}
 
 -- an outcome without its value

@@ -13,7 +13,7 @@ use Rattle.value.specs.Kinds.{Elements, elementWidth}
 use Rattle.value.specs.Tree.{Val, Vals, VConstant, VNumber, VArray, VTuple, VNumberArray, VCase, vnil, vcons, seqV, ValidVal, TypedVal, SizeOfV, rowCount, rowCounts}
 use Rattle.value.specs.Bytes.{bytesOf, bytesOfAll}
 use Rattle.value.proofs.Laws.{length-bytesOf}
-use Rattle.rows.specs.Row.{rowWidth, Row, rowWords, rowAt}
+use Rattle.tables.specs.Row.{rowWidth, Row, rowWords, rowAt}
 use Rattle.rows.specs.Layout.{ownRow, rowsOf, rowsOfAll}
 use Rattle.rows.specs.Walk.{walk}
 use Rattle.rows.specs.Rule.{RowOf, PackedAt, StandFor, StandForAll, TableOf}

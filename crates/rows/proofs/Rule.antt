@@ -19,7 +19,7 @@ use Rattle.value.specs.Tree.{Val, Vals, VConstant, VNumber, VArray, VTuple, VNu
 use Rattle.value.proofs.KindLaws.{number-kind, elements-kind, kind-other}
 use Rattle.value.proofs.Laws.{unpackSeq-below}
 use Rattle.value.proofs.Agreement.{rowCount-positive}
-use Rattle.rows.specs.Row.{rowWidth, Row, rowAt}
+use Rattle.tables.specs.Row.{rowWidth, Row, rowAt}
 use Rattle.rows.specs.Layout.{ownRow}
 use Rattle.rows.specs.Walk.{keepsRule, withinStore, childCount, rowValue, checkRow, walkChildren, walkTo, walkRow, walk}
 use Rattle.rows.specs.Rule.{RowOf, StandFor, StandForAll, TableOf}

@@ -15,7 +15,7 @@ use Rattle.value.specs.Kinds.{Number, uint32, uint64, width, elementWidth, Kind
 use Rattle.value.specs.Tree.{Val, Vals, VConstant, VNumber, VArray, VTuple, VNumberArray, VCase, vnil, vcons, TypedVal, TypedVals, SizeOfV, SeqSum, rowCount, rowCounts}
 use Rattle.value.specs.Bytes.{bytesOf, bytesOfAll}
 use Rattle.value.proofs.KindLaws.{number-kind, elements-kind}
-use Rattle.rows.specs.Row.{Row, rowAt}
+use Rattle.tables.specs.Row.{Row, rowAt}
 use Rattle.rows.specs.Layout.{ownRow}
 use Rattle.rows.specs.Walk.{keepsRule, withinStore}
 use Rattle.rows.specs.Rule.{RowOf, StandFor, StandForAll, TableOf}

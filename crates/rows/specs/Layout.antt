@@ -4,7 +4,7 @@ use mathlib.Core.List.{List, [], _++_}
 use lib.ListN.{length}
 use Rattle.value.specs.Kinds.{numberKind, elementsKind}
 use Rattle.value.specs.Tree.{Val, Vals, VConstant, VNumber, VArray, VTuple, VNumberArray, VCase, vnil, vcons, seqV, SizeOfV, rowCount}
-use Rattle.rows.specs.Row.{Row, rowWords}
+use Rattle.tables.specs.Row.{Row, rowWords}
 
 -- the row of v itself. Word 2 is 0 for a constant, the number, the element count, or the tag; word 3 is the place of the first
 -- element for kinds 5 to 7, else 0

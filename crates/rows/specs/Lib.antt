@@ -1,4 +1,3 @@
-pub mod Row
 pub mod Layout
 pub mod Walk
 pub mod Rule

@@ -7,7 +7,7 @@ use lib.ListN.{take, drop}
 use lib.Dec.{ltb}
 use Rattle.refusal.specs.Outcome.{Outcome, accepted, refused, bind, test, Reason, reason, row}
 use Rattle.value.specs.Kinds.{elementWidth, Kind, kindOf, constant, number, array, tuple, elements, union, other}
-use Rattle.rows.specs.Row.{Row, rowAt}
+use Rattle.tables.specs.Row.{Row, rowAt}
 use Rattle.rows.specs.Walk.{walk}
 
 -- the first byte of a part of the store, and how many

@@ -6,7 +6,7 @@ use lib.ListN.{length, take, drop}
 use Rattle.packed.specs.Packed.{packLittleEndianSeq}
 use Rattle.value.specs.Kinds.{Elements, elementWidth}
 use Rattle.value.specs.Tree.{Val, Vals, VConstant, VNumber, VArray, VTuple, VNumberArray, VCase, vnil, vcons, ValidVal, TypedVal, rowCount}
-use Rattle.rows.specs.Row.{rowWidth, rowAt}
+use Rattle.tables.specs.Row.{rowWidth, rowAt}
 use Rattle.rows.specs.Layout.{ownRow}
 
 -- row i is the row of v itself, wherever its array lies

@@ -6,7 +6,7 @@ use Rattle.refusal.specs.Outcome.{Outcome, accepted, refused, map, Reason}
 use Rattle.packed.specs.Packed.{packLittleEndian}
 use Rattle.value.specs.Kinds.{width, elementWidth, Kind, kindOf, constant, number, array, tuple, elements, union, other}
 use Rattle.value.specs.Tree.{SizeOfV}
-use Rattle.rows.specs.Row.{Row, rowAt}
+use Rattle.tables.specs.Row.{Row, rowAt}
 use Rattle.rows.specs.Walk.{walk}
 
 -- what `compute_size_of` answers: the walk's refusal, or GM's `SizeOfV` of the value

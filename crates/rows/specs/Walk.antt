@@ -8,7 +8,7 @@ use Rattle.refusal.specs.Outcome.{Outcome, accepted, refused, bind, test, map, 
 use Rattle.packed.specs.Packed.{unpackLittleEndianSeq}
 use Rattle.value.specs.Kinds.{width, elementWidth, Kind, kindOf, constant, number, array, tuple, elements, union, other}
 use Rattle.value.specs.Tree.{Val, Vals, VConstant, VNumber, VArray, VTuple, VNumberArray, VCase, vnil, vcons}
-use Rattle.rows.specs.Row.{rowWidth, Row, rowAt}
+use Rattle.tables.specs.Row.{rowWidth, Row, rowAt}
 
 -- a row's words by its kind: no children, so span 1; a number's limit, which every word keeps at width 8; unused words 0
 abbrev pub keepsRule : Kind → Row → Bool

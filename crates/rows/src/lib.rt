@@ -7,7 +7,7 @@ ghost use lib.Dec.{leb};
 ghost use Rattle.refusal.specs.Outcome.{accepted, refused, test, map, reason, row as atRow};
 ghost use Rattle.refusal.specs.Meaning.{outcomeOf};
 ghost use Rattle.value.specs.Kinds.{kindOf};
-ghost use Rattle.rows.specs.Row.{rowWidth, rowAt};
+ghost use Rattle.tables.specs.Row.{rowWidth, rowAt};
 ghost use Rattle.rows.specs.Walk.{checkRow, walkChildren, walkRow, countHolds, walk};
 ghost use Rattle.rows.specs.Size.{computeSizeOf, AtMost, mostOwnSize, sizeAt, sizeFrom};
 ghost use Rattle.rows.specs.Locate.{lookUp, elementsPart, locateArray, PartOf};

@@ -20,14 +20,14 @@ use Rattle.refusal.proofs.Meaning.{done, stopped}
 use Rattle.value.specs.Kinds.{numberKind, elementsKind, Number, uint32, uint64, Elements, bytes, uint32s, uint64s, kinds, lastKind, kindOf, other}
 use Rattle.value.specs.Tree.{G, Gs, Val, Vals, VConstant, VNumber, VArray, VTuple, VNumberArray, VCase, vnil, vcons, seqG, seqV, caseAt, rowCount, rowCounts}
 use Rattle.value.proofs.Agreement.{rowCount-positive}
-use Rattle.grammar.specs.Table.{nodeCount, kindWord, firstWord, countWord, childWord}
+use Rattle.tables.specs.Grammar.{nodeCount, kindWord, firstWord, countWord, childWord}
 use Rattle.grammar.specs.Rule.{Passes}
 use Rattle.grammar.specs.Tree.{nodeTree, childTrees, treeOf}
 use Rattle.grammar.specs.Check.{isNamed}
 use Rattle.grammar.proofs.Laws.{reflects-kind}
 use Rattle.grammar.proofs.Rule.{node-inside, child-inside}
 use Rattle.grammar.proofs.Tree.{tree-node, trees-length, trees-at}
-use Rattle.rows.specs.Row.{rowWidth, Row, rowAt}
+use Rattle.tables.specs.Row.{rowWidth, Row, rowAt}
 use Rattle.rows.specs.Layout.{ownRow}
 use Rattle.rows.specs.Rule.{StandFor, StandForAll}
 use Rattle.rows.proofs.Laws.{NoneOf, none-of}

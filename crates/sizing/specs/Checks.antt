@@ -7,8 +7,8 @@ use Rattle.refusal.specs.Outcome.{Outcome, Reason}
 use Rattle.refusal.specs.Meaning.{outcomeOf}
 use Rattle.refusal.specs.declared.Answer.{Answer}
 use Rattle.value.specs.Tree.{G, Val, Vals, seqV, rowCount, rowCounts}
-use Rattle.grammar.specs.Table.{nodeCount, firstWord}
-use Rattle.rows.specs.Row.{rowWidth}
+use Rattle.tables.specs.Grammar.{nodeCount, firstWord}
+use Rattle.tables.specs.Row.{rowWidth}
 use Rattle.rows.specs.Rule.{StandFor, StandForAll}
 use Rattle.sizing.specs.InGrammar.{checkInGrammar}
 

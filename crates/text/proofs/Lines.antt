@@ -5,7 +5,7 @@ use Prim.Native.Nat.{ℕ, _+_, _*_, _^_, _≤_, _<_}
 use native.Mathlib.Numerals.{add-one}
 use native.Mathlib.Omega.{arith}
 use lib.ListN.{length, length-append}
-use Rattle.rows.specs.Row.{rowAt}
+use Rattle.tables.specs.Row.{rowAt}
 use Rattle.text.specs.Text.{numeral, mostNumeral, mostLine, line, linesOf, RoomFor, Puts}
 use Rattle.text.proofs.Digits.{digits-bound}
 use Rattle.text.proofs.Puts.{puts-nothing, puts-then}

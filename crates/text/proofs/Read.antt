@@ -16,7 +16,7 @@ use Rattle.value.specs.Step.{Step}
 use Rattle.value.specs.Reading.{State, start}
 use Rattle.value.proofs.Agreement.{agrees, agrees-accepted}
 use Rattle.grammar.specs.Tree.{treeOf}
-use Rattle.rows.specs.Row.{rowWidth, rowAt}
+use Rattle.tables.specs.Row.{rowWidth, rowAt}
 use Rattle.rows.specs.Layout.{rowsOf}
 use Rattle.rows.proofs.LayoutLaws.{length-rowsOf}
 use Rattle.reading.specs.declared.Parsed.{Parsed}

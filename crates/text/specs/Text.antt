@@ -5,7 +5,7 @@ use Prim.Native.Nat.{ℕ, zero, suc, _+_, _*_, _≤_}
 use lib.ListN.{length}
 use Rattle.refusal.specs.Outcome.{Location, word, byte, row, Reason, reason}
 use Rattle.packed.specs.Packed.{put}
-use Rattle.rows.specs.Row.{Row, rowAt}
+use Rattle.tables.specs.Row.{Row, rowAt}
 use Rattle.text.specs.Digits.{digits}
 
 abbrev pub space : ℕ

@@ -4,7 +4,7 @@ ghost use mathlib.Core.List.{_∷_, [], _++_};
 ghost use Prim.Native.Nat.{_+_, _*_, _≤_};
 ghost use lib.ListN.{length};
 ghost use Rattle.refusal.specs.Meaning.{locationOf, reasonOf};
-ghost use Rattle.rows.specs.Row.{rowWidth, rowAt};
+ghost use Rattle.tables.specs.Row.{rowWidth, rowAt};
 ghost use Rattle.reading.specs.Calls.{demarshallOf, Parses};
 ghost use Rattle.input.specs.Input.{mostWords, wordsAt};
 ghost use Rattle.text.specs.Digits.{digits};

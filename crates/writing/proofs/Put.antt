@@ -14,7 +14,7 @@ use Rattle.packed.proofs.Laws.{length-pack}
 use Rattle.packed.proofs.Put.{length-put, put-more}
 use Rattle.packed.proofs.Calls.{room-test}
 use Rattle.value.specs.Kinds.{kindOf}
-use Rattle.rows.specs.Row.{rowAt}
+use Rattle.tables.specs.Row.{rowAt}
 use Rattle.rows.specs.Walk.{withinStore}
 use Rattle.rows.specs.Size.{sizeAt, bytesFrom, sizeFrom}
 use Rattle.rows.proofs.Size.{length-ownBytes, size-join, size-next, bytes-join}

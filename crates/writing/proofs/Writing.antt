@@ -11,7 +11,7 @@ use Rattle.refusal.proofs.Outcome.{map-accepted, map-refused}
 use Rattle.packed.specs.Packed.{Bytes, Below, put}
 use Rattle.value.specs.Tree.{Val, SizeOfV}
 use Rattle.value.specs.Bytes.{bytesOf}
-use Rattle.rows.specs.Row.{rowWidth}
+use Rattle.tables.specs.Row.{rowWidth}
 use Rattle.rows.specs.Rule.{TableOf}
 use Rattle.rows.specs.Size.{sizeFrom}
 use Rattle.rows.specs.declared.SizeOf.the-variants as SizeOf

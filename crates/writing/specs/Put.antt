@@ -5,7 +5,7 @@ use mathlib.Core.List.{List}
 use Prim.Native.Nat.{ℕ}
 use lib.ListN.{length}
 use Rattle.value.specs.Kinds.{kindOf}
-use Rattle.rows.specs.Row.{rowAt}
+use Rattle.tables.specs.Row.{rowAt}
 use Rattle.rows.specs.Walk.{keepsRule, withinStore}
 use Rattle.rows.specs.Size.{ownBytes}
 

@@ -1,7 +1,7 @@
 use mathlib.Core.Path.{ap, _∙_}
 use Rattle.refusal.specs.Outcome.{Outcome, bind, Reason}
 use Rattle.refusal.proofs.Meaning.{done, stopped}
-use Rattle.grammar.specs.Table.{nodeCount}
+use Rattle.tables.specs.Grammar.{nodeCount}
 use Rattle.grammar.specs.Check.{checkNodes, checkGrammar}
 use Rattle.grammar.proofs.Laws.{laid-out}
 use borrow.Author.Needs.{needs}

@@ -8,7 +8,7 @@ use lib.ListN.{length, getD}
 use borrow.Author.Tests.{not-true, not-false}
 use Rattle.refusal.specs.Outcome.{bind, refused, reason, word}
 use Rattle.refusal.proofs.Meaning.{done, stopped}
-use Rattle.grammar.specs.Table.{nodeCount, childCount}
+use Rattle.tables.specs.Grammar.{nodeCount, childCount}
 use Rattle.grammar.specs.Check.{checkChildren, checkNodes}
 use Rattle.grammar.proofs.Laws.{node-within, node-refused, node-accepted, nodes-none, child-read, child-accepted, child-refused, children-none}
 use borrow.Author.Needs.{needs}

@@ -3,7 +3,7 @@ use Prim.Native.Nat.{ℕ, _+_, _*_}
 use native.Mathlib.Omega.{arith}
 use lib.ListN.{length, getD}
 use borrow.Author.Tests.{lt-ltb, le-ltb, le-leb, lt-leb}
-use Rattle.grammar.specs.Table.{nodeCount, childCount}
+use Rattle.tables.specs.Grammar.{nodeCount, childCount}
 use borrow.Author.Needs.{needs}
 use Rattle.grammar.proofs.length_holds.Statement.{statement}
 use Rattle.grammar.proofs.length_holds.Tie as tie

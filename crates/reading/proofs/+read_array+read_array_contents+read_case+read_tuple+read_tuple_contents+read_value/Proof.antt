@@ -9,7 +9,7 @@ use Rattle.value.specs.Kinds.{uint32, uint64, bytes as byteElements, uint32s, u
 use Rattle.value.specs.Tree.{Gs}
 use Rattle.value.specs.Step.{yield, both, elements}
 use Rattle.value.specs.Reading.{readVal, readFields}
-use Rattle.grammar.specs.Table.{firstWord, countWord}
+use Rattle.tables.specs.Grammar.{firstWord, countWord}
 use Rattle.grammar.specs.Tree.{treeOf, childTrees}
 use Rattle.grammar.proofs.Tree.{tree-valid}
 use Rattle.reading.specs.Meaning.{stateOf, TakenKeeps}

@@ -2,7 +2,7 @@ use mathlib.Core.Path.{_≡_, _∙_}
 use Prim.Native.Nat.{_+_, _*_}
 use native.Mathlib.Omega.{arith}
 use lib.ListN.{getD}
-use Rattle.grammar.specs.Table.{nodeCount, firstWord}
+use Rattle.tables.specs.Grammar.{nodeCount, firstWord}
 use Rattle.reading.proofs.Laws.{child-inside}
 use Rattle.reading.proofs.child_at.Statement.{statement}
 use Rattle.reading.proofs.child_at.Tie as tie

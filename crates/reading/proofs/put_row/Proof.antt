@@ -3,7 +3,7 @@ use mathlib.Core.List.{[], _∷_}
 use Prim.Native.Nat.{_*_}
 use native.Mathlib.Omega.{arith}
 use lib.ListN.{length-set}
-use Rattle.rows.specs.Row.{rowWidth}
+use Rattle.tables.specs.Row.{rowWidth}
 use Rattle.reading.proofs.Laws.{laid-lent, laid-none, room-lent, put-four}
 use borrow.Author.Needs.{needs}
 use Rattle.reading.proofs.put_row.Statement.{statement}

@@ -7,7 +7,7 @@ use lib.Dec.{eqb}
 use Rattle.refusal.specs.Outcome.{accepted, refused, test, Reason}
 use Rattle.refusal.proofs.Meaning.{done, stopped}
 use Rattle.refusal.specs.Meaning.{outcomeOf}
-use Rattle.rows.specs.Row.{rowAt}
+use Rattle.tables.specs.Row.{rowAt}
 use Rattle.rows.specs.Walk.{checkRow, walkRow}
 use Rattle.rows.proofs.Laws.{ends, Passed, row-passed, childrenOf, row-refused, row-accepted, child-missing, child-refused, child-accepted, children-done}
 use Rattle.rows.proofs.Meaning.{children, wanted-refused}

@@ -8,7 +8,7 @@ use lib.Dec.{leb}
 use borrow.Author.Tests.{not-true, not-false, lt-ltb}
 use Rattle.refusal.specs.Outcome.{accepted, refused, test, reason, row}
 use Rattle.value.specs.Kinds.{Kind, kinds, kindOf}
-use Rattle.rows.specs.Row.{Row, rowAt}
+use Rattle.tables.specs.Row.{Row, rowAt}
 use Rattle.rows.specs.Walk.{keepsRule, withinStore, childCount, checkRow}
 use Rattle.rows.proofs.Laws.{row-eq, none-of, row-arm, row-out}
 use borrow.Author.Needs.{needs}

@@ -6,7 +6,7 @@ use native.Mathlib.Omega.{arith}
 use lib.ListN.{length}
 use borrow.Author.Tests.{not-true, not-false}
 use Rattle.refusal.specs.Outcome.{refused}
-use Rattle.rows.specs.Row.{rowWidth, rowAt}
+use Rattle.tables.specs.Row.{rowWidth, rowAt}
 use Rattle.rows.specs.Walk.{countHolds}
 use Rattle.rows.proofs.Laws.{ends, childrenOf, row-refused, row-accepted, reflects-rows, store-long, rows-missing, root-short, root-walk}
 use Rattle.rows.proofs.Meaning.{children, wanted-refused}

@@ -4,7 +4,7 @@ use Prim.Native.Nat.{ℕ, _*_, _≤_}
 use native.Mathlib.Omega.{arith}
 use Rattle.refusal.specs.Outcome.{Outcome, accepted, Reason, reason, row}
 use Rattle.value.specs.Kinds.{Kind, kinds, kindOf}
-use Rattle.rows.specs.Row.{Row, rowAt}
+use Rattle.tables.specs.Row.{Row, rowAt}
 use Rattle.rows.specs.Size.{ownSize, mostOwnSize}
 use Rattle.rows.specs.Locate.{Part, elementsPart}
 use Rattle.rows.proofs.Laws.{by-kind, by-other}

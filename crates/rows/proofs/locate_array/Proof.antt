@@ -4,7 +4,7 @@ use native.Mathlib.Omega.{arith}
 use Rattle.refusal.specs.Outcome.{Outcome, bind, Reason, reason, row}
 use Rattle.refusal.proofs.Meaning.{done, stopped}
 use Rattle.value.specs.Kinds.{kindOf}
-use Rattle.rows.specs.Row.{Row}
+use Rattle.tables.specs.Row.{Row}
 use Rattle.rows.specs.Locate.{lookUp, elementsPart, locateArray}
 use Rattle.rows.proofs.Size.{table-small}
 use Rattle.rows.proofs.Calls.{bind-refused, Found, found}

@@ -3,7 +3,7 @@ use mathlib.Core.Path.{_≡_, refl, sym, subst, _∙_}
 use Prim.Native.Nat.{ℕ, _≤_}
 use native.Mathlib.Omega.{arith}
 use Rattle.value.specs.Kinds.{Kind, kinds, kindOf}
-use Rattle.rows.specs.Row.{Row, rowAt}
+use Rattle.tables.specs.Row.{Row, rowAt}
 use Rattle.rows.specs.Size.{ownSize, mostOwnSize}
 use Rattle.rows.proofs.Laws.{by-kind, by-other}
 use borrow.Author.Needs.{needs}

@@ -8,10 +8,10 @@ use native.Mathlib.Omega.{arith}
 use Rattle.value.specs.Tree.{Vals}
 use Rattle.refusal.specs.Outcome.{Outcome, Reason}
 use Rattle.refusal.specs.declared.Answer.the-variants.{Accepted}
-use Rattle.grammar.specs.Table.{kindWord, firstWord, countWord, childWord}
+use Rattle.tables.specs.Grammar.{kindWord, firstWord, countWord, childWord}
 use Rattle.grammar.specs.Tree.{treeOf, childTrees}
 use Rattle.grammar.proofs.Rule.{node-inside}
-use Rattle.rows.specs.Row.{rowAt}
+use Rattle.tables.specs.Row.{rowAt}
 use Rattle.sizing.specs.InGrammar.{kindNumber, checkAllInGrammar, checkEachInGrammar}
 use Rattle.sizing.specs.Checks.{StandingAll, Checks}
 use Rattle.sizing.proofs.Walk.{tree-kind, tree-element, tuple-parts, union-parts, tree-parts, part-count, tree-case, one-child, child-fits, child-above, not-named, isParent, arm-other, arm-leaf, arm-array, arm-count, arm-tuple, arm-tag, arm-case, row-inside, elements-stand, fields-stand, case-stands, first-stands, others-stand, next-inside, Left, left-all, left-none, left-stopped, left-next, all-step, each-step, none-step, none-each}

@@ -11,7 +11,7 @@ use Rattle.refusal.proofs.Tests.{reflects-eqb, reflects-ltb, reflects-and}
 use Rattle.packed.specs.Packed.{put}
 use Rattle.packed.proofs.Put.{put-nothing}
 use Rattle.value.specs.Kinds.{uint32, Elements, bytes, uint32s, uint64s, elementWidth, Kind, kinds, kindOf, number, elements}
-use Rattle.rows.specs.Row.{Row, rowAt}
+use Rattle.tables.specs.Row.{Row, rowAt}
 use Rattle.rows.specs.Walk.{keepsRule, withinStore}
 use Rattle.rows.specs.Size.{ownBytes, ownSize}
 use Rattle.rows.proofs.Laws.{none-of}

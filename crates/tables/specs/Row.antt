@@ -2,6 +2,8 @@
 use Prim.Native.Nat.{ℕ, _+_, _*_}
 use mathlib.Core.List.{List, [], _∷_}
 use lib.ListN.{getD}
+use Rattle.refusal.specs.Outcome.{contents}
+use Rattle.packed.specs.Packed.{putAt}
 
 -- the words of a row
 abbrev pub rowWidth : ℕ
@@ -17,7 +19,7 @@ pub record Row : Type 0 where
 abbrev pub rowWords : Row → List ℕ
 rowWords r = r .kind ∷ r .span ∷ r .word2 ∷ r .word3 ∷ []
 
--- row i of a table
+-- row i of a table; a word that is not there is 0
 abbrev pub rowAt : List ℕ → ℕ → Row
 rowAt t i = record {
   kind = getD t (rowWidth * i) 0;
@@ -25,3 +27,7 @@ rowAt t i = record {
   word2 = getD t (rowWidth * i + 2) 0;
   word3 = getD t (rowWidth * i + 3) 0;
 }
+
+-- words laid over a table from row i on: all of them where the table has room for all, else none
+unfoldable pub laid : List ℕ → ℕ → List ℕ → List ℕ
+laid t i ws = contents (putAt t (rowWidth * i) ws) t
