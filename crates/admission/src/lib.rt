@@ -2,21 +2,16 @@
 ghost use mathlib.Core.Path.{_≡_};
 ghost use Prim.Native.Nat.{_*_, _≤_};
 ghost use Rattle.refusal.specs.Meaning.{outcomeOf};
+ghost use Rattle.tables.specs.Row.{rowWidth};
 ghost use Rattle.admission.specs.Admission.{capacityOf, admitOf};
 use refusal::Answer;
-
-// The bytes of the longest record.
-const MOST_BYTES: usize = 1048576;
-
-// The rows of the largest capacity.
-pub const MOST_ROWS: usize = 4096;
-
-// The words of a row.
-const ROW_WIDTH: usize = 4;
+use tables::MOST_BYTES;
+use tables::MOST_ROWS;
+use tables::ROW_WIDTH;
 
 // The capacity of a slice of this many words: the rows that it has, at most 4,096.
 pub fn capacity_of(words: usize) -> usize
-    ensures { λ r. ⌜ (r ≡ capacityOf words) × (r ≤ 4096) × (4 * r ≤ words) ⌝ }
+    ensures { λ r. ⌜ (r ≡ capacityOf words) × (r ≤ 4096) × (rowWidth * r ≤ words) ⌝ }
 {
     let rows = words / ROW_WIDTH;
     if rows < MOST_ROWS {

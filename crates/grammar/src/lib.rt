@@ -2,7 +2,6 @@
 ghost use mathlib.Core.Path.{_≡_};
 ghost use mathlib.Core.Bool.{_&&_};
 ghost use Prim.Native.Nat.{_+_, _*_, _≤_, _<_};
-ghost use lib.ListN.{length, getD};
 ghost use lib.Dec.{leb, ltb, eqb};
 ghost use Rattle.refusal.specs.Outcome.{accepted, test, reason, word as wordAt};
 ghost use Rattle.refusal.specs.Meaning.{outcomeOf};
@@ -25,20 +24,13 @@ pub fn check_grammar(words: &[u32]) -> Answer
     }
 }
 
-fn word(words: &[u32], at: usize) -> usize
-    requires { ⌜ at < length (now words) ⌝ }
-    ensures { λ r. ⌜ (r ≡ getD (now (words .entry)) at 0) × (r < 4294967296) ⌝ }
-{
-    words[at] as usize
-}
-
 fn start_holds(words: &[u32]) -> bool
     ensures { λ r. ⌜ r ≡ startHolds (now (words .entry)) ⌝ }
 {
     if words.len() == 0 {
         return false;
     }
-    let nodes = word(words, 0);
+    let nodes = tables::word(words, 0);
     if nodes == 0 {
         return false;
     }
@@ -46,15 +38,15 @@ fn start_holds(words: &[u32]) -> bool
 }
 
 fn length_holds(words: &[u32]) -> bool
-    requires { ⌜ (0 < length (now words)) × (nodeCount (now words) ≤ 256) ⌝ }
+    requires { ⌜ nodeCount (now words) ≤ 256 ⌝ }
     ensures { λ r. ⌜ r ≡ lengthHolds (now (words .entry)) ⌝ }
 {
-    let nodes = word(words, 0);
+    let nodes = tables::word(words, 0);
     let at = 1 + 3 * nodes;
     if words.len() <= at {
         return false;
     }
-    let children = word(words, at);
+    let children = tables::word(words, at);
     if MOST_CHILD_WORDS < children {
         return false;
     }
@@ -66,7 +58,7 @@ fn check_layout(words: &[u32]) -> Answer
     ensures { λ r. ⌜ outcomeOf r ≡ checkLayout (now (words .entry)) ⌝ }
 {
     if start_holds(words) {
-        let at = 1 + 3 * word(words, 0);
+        let at = 1 + 3 * tables::word(words, 0);
         refusal::accept_if(
             length_holds(words),
             refusal::at_word(refusal::GRAMMAR_LENGTH, at),
@@ -108,13 +100,13 @@ fn check_rule(kept: bool, at: usize, first: usize, count: usize, children: usize
 
 // Node k by itself: refusal 3, then 4.
 fn check_node(words: &[u32], k: usize, children: usize) -> Answer
-    requires { ⌜ (k < 256) × (3 + 3 * k < length (now words)) × (children ≡ childCount (now words)) ⌝ }
+    requires { ⌜ (k < 256) × (children ≡ childCount (now words)) ⌝ }
     ensures { λ r. ⌜ outcomeOf r ≡ checkNode (now (words .entry)) k ⌝ }
 {
-    let kind = words[1 + 3 * k];
+    let kind = tables::word(words, 1 + 3 * k);
     let at = 2 + 3 * k;
-    let first = word(words, at);
-    let count = word(words, 3 + 3 * k);
+    let first = tables::word(words, at);
+    let count = tables::word(words, 3 + 3 * k);
     let leaf = is_leaf(first, count);
     match kind {
         0 => check_rule(leaf, at, first, count, children),
@@ -126,7 +118,7 @@ fn check_node(words: &[u32], k: usize, children: usize) -> Answer
         6 => check_rule(leaf, at, first, count, children),
         7 => check_rule(leaf, at, first, count, children),
         8 => check_rule(true, at, first, count, children),
-        9..=4294967295 => Answer::Refused(refusal::at_word(refusal::NODE_KIND, 1 + 3 * k)),
+        9.. => Answer::Refused(refusal::at_word(refusal::NODE_KIND, 1 + 3 * k)),
     }
 }
 
@@ -142,8 +134,8 @@ fn check_nodes(words: &[u32]) -> Answer
     requires { ⌜ LaidOut (now words) ⌝ }
     ensures { λ r. ⌜ outcomeOf r ≡ checkNodes (now (words .entry)) 0 (nodeCount (now (words .entry))) ⌝ }
 {
-    let nodes = word(words, 0);
-    let children = word(words, 1 + 3 * nodes);
+    let nodes = tables::word(words, 0);
+    let children = tables::word(words, 1 + 3 * nodes);
     let mut k: usize = 0;
     'nodes: loop {
         if k == nodes {
@@ -152,12 +144,12 @@ fn check_nodes(words: &[u32]) -> Answer
         if let Answer::Refused(r) = check_node(words, k, children) {
             break 'nodes Answer::Refused(r);
         }
-        let first = word(words, 2 + 3 * k);
-        let count = word(words, 3 + 3 * k);
+        let first = tables::word(words, 2 + 3 * k);
+        let count = tables::word(words, 3 + 3 * k);
         let mut j: usize = 0;
         while j < count {
             let at = 2 + 3 * nodes + (first + j);
-            let child = word(words, at);
+            let child = tables::word(words, at);
             if !child_holds(k, child, nodes) {
                 break 'nodes Answer::Refused(refusal::at_word(refusal::CHILD_NUMBER, at));
             }

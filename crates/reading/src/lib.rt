@@ -16,11 +16,11 @@ ghost use Rattle.admission.specs.Admission.{capacityOf};
 ghost use Rattle.reading.specs.Meaning.{stateOf, stepOf, takenOf, bodyOf, StepKeeps, TakenKeeps, parsedOf};
 ghost use Rattle.reading.specs.Calls.{parseValOf, demarshallOf, countsOf, Parses, Admitted, parsedStep};
 ghost use Rattle.reading.specs.Reads.{laid, RowRoom, Ready, Node, Parent, Reads, closed, Counted, takeBelow};
-use admission::MOST_ROWS;
 use packed::UnpackedU32;
 use packed::UnpackedU64;
 use refusal::Answer;
 use refusal::Refusal;
+use tables::MOST_ROWS;
 
 // Document 01's position and rows used, under a capacity. `begun` counts each time a row is asked for, the refused time too.
 struct State {

@@ -11,7 +11,6 @@ use Rattle.refusal.proofs.Outcome.{map-accepted, map-refused}
 use Rattle.packed.specs.Packed.{Bytes, Below, put}
 use Rattle.value.specs.Tree.{Val, SizeOfV}
 use Rattle.value.specs.Bytes.{bytesOf}
-use Rattle.tables.specs.Row.{rowWidth}
 use Rattle.rows.specs.Rule.{TableOf}
 use Rattle.rows.specs.Size.{sizeFrom}
 use Rattle.rows.specs.declared.SizeOf.the-variants as SizeOf
@@ -35,11 +34,11 @@ module _ (g t : List ℕ) (n : ℕ) (s : List ℕ) (len index : ℕ) where
       let w = accepted-writes g t n s len index (x .0) (x .1) in
       record { value = x .0; decided = x .1; table = rows-exactly t n s (x .0) words bytes .0 (w .rows) }
 
-  pub put-ready : Written g t n s len index → (rowWidth * n ≤ length t) × ((j : ℕ) → j < n → RowHolds t s j) × (index + sizeFrom t 0 n ≤ len)
+  pub put-ready : Written g t n s len index → ((j : ℕ) → j < n → RowHolds t s j) × (index + sizeFrom t 0 n ≤ len)
   put-ready w =
       let v = w .value in
       let h = w .table in
-      (h .words, λ j l. record { rule = table-rule t n s v h j l; within = table-within t n s v h j l }, omega (arith, table-size t n s v h, accepted-writes g t n s len index v (w .decided) .room))
+      (λ j l. record { rule = table-rule t n s v h j l; within = table-within t n s v h j l }, omega (arith, table-size t n s v h, accepted-writes g t n s len index v (w .decided) .room))
 
 module _ (o : Outcome Reason Val) (index : ℕ) (out : List ℕ) where
   output : {x : Outcome Reason Val} → o ≡ x → contents (map (λ v. put out index (bytesOf v)) o) out ≡ contents (map (λ v. put out index (bytesOf v)) x) out

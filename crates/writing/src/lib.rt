@@ -4,15 +4,11 @@ ghost use mathlib.Core.List.{_++_};
 ghost use Prim.Native.Nat.{ℕ, _+_, _*_, _≤_, _<_};
 ghost use lib.ListN.{length, take, drop};
 ghost use Rattle.packed.specs.Packed.{packLittleEndian, put};
-ghost use Rattle.tables.specs.Row.{rowWidth};
 ghost use Rattle.rows.specs.Size.{sizeAt, bytesFrom, sizeFrom};
 ghost use Rattle.sizing.specs.Writes.{marshallValOf};
 ghost use Rattle.writing.specs.Put.{RowHolds, ownBytesAt};
 ghost use Rattle.writing.specs.Marshall.{Marshalls};
 use rows::SizeOf;
-
-// The words of a row.
-const ROW_WIDTH: usize = 4;
 
 // GM's `MarshallUint32`: puts a 4-byte number, which has room, and gives the index behind it.
 fn marshall_uint32(n: u32, out: &mut [u8], index: usize) -> usize
@@ -54,13 +50,12 @@ fn marshall_elements(
 
 // Puts a row's own bytes, without its children's, and gives the index behind them.
 fn marshall_row(rows: &[u64], row: usize, store: &[u8], out: &mut [u8], index: usize) -> usize
-    requires { ⌜ (rowWidth * row + rowWidth ≤ length (now rows)) × RowHolds (now rows) (now store) row × (index + sizeAt (now rows) row ≤ length (now out)) ⌝ }
+    requires { ⌜ RowHolds (now rows) (now store) row × (index + sizeAt (now rows) row ≤ length (now out)) ⌝ }
     ensures { λ r. ⌜ (r ≡ index + sizeAt (now (rows .entry)) row) × (now (out .exit) ≡ put (now (out .entry)) index (ownBytesAt (now (rows .entry)) (now (store .entry)) row)) ⌝ }
 {
-    let first = ROW_WIDTH * row;
-    let kind = rows[first];
-    let word2 = rows[first + 2];
-    let place = rows[first + 3];
+    let kind = tables::kind_at(rows, row);
+    let word2 = tables::word2_at(rows, row);
+    let place = tables::word3_at(rows, row);
     match kind {
         0 => index,
         1 => marshall_uint32(word2 as u32, out, index),
@@ -77,7 +72,7 @@ fn marshall_row(rows: &[u64], row: usize, store: &[u8], out: &mut [u8], index: u
 
 // Puts the own bytes of all rows, one behind the other: a value's rows are in the order of its bytes.
 fn marshall_rows(rows: &[u64], n: usize, store: &[u8], out: &mut [u8], index: usize)
-    requires { ⌜ (rowWidth * n ≤ length (now rows)) × ((j : ℕ) → j < n → RowHolds (now rows) (now store) j) × (index + sizeFrom (now rows) 0 n ≤ length (now out)) ⌝ }
+    requires { ⌜ ((j : ℕ) → j < n → RowHolds (now rows) (now store) j) × (index + sizeFrom (now rows) 0 n ≤ length (now out)) ⌝ }
     ensures { λ _. ⌜ now (out .exit) ≡ put (now (out .entry)) index (bytesFrom (now (rows .entry)) (now (store .entry)) 0 n) ⌝ }
 {
     let mut at = index;

@@ -13,7 +13,7 @@ start-holds-requires : tie.Need-start-holds-requires
 start-holds-requires c κs = search needs
 
 word-requires : tie.Need-word-requires
-word-requires c κs = reflects-start (c .before .before .before .args .words .now) .1 (sym (c .before .start-holds .ensures) ∙ c .if1 .taken) .0
+word-requires c κs = search needs
 
 mul-at : tie.Need-mul-at
 mul-at c = search needs
@@ -22,9 +22,7 @@ add-at : tie.Need-add-at
 add-at c = search needs
 
 length-holds-requires : tie.Need-length-holds-requires
-length-holds-requires c κs =
-    let b = reflects-start (c .before .before .before .before .args .words .now) .1 (sym (c .before .before .start-holds .ensures) ∙ c .before .if1 .taken) in
-    (b .0, b .1 .1)
+length-holds-requires c κs = reflects-start (c .before .before .before .before .args .words .now) .1 (sym (c .before .before .start-holds .ensures) ∙ c .before .if1 .taken) .1 .1
 
 at-word-requires : tie.Need-at-word-requires
 at-word-requires c κs = search needs

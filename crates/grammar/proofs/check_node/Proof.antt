@@ -1,34 +1,25 @@
 -- Each arm cites the law of its kind word; the last arm's word is none of 0 to 8.
-use mathlib.Core.Path.{refl, ap, _∙_}
-use Prim.Native.Nat.{zero-le}
-use Rattle.refusal.specs.Outcome.{refused}
-use Rattle.refusal.proofs.Tests.{next-key}
+use mathlib.Core.Path.{_≡_, refl, ap, sym, _∙_}
+use mathlib.Core.Bool.{Bool, true, _&&_}
+use Prim.Native.Nat.{ℕ, _+_, _*_, _≤_}
+use lib.Dec.{leb}
+use Rattle.refusal.specs.Outcome.{accepted, refused, test, reason, word}
+use Rattle.refusal.proofs.Tests.{none-below}
 use Rattle.value.specs.Kinds.{kinds, kindOf}
+use Rattle.tables.specs.Grammar.{kindWord}
+use Rattle.grammar.specs.Check.{keepsRule, isNamed, checkNode}
 use Rattle.grammar.proofs.Laws.{node-named, node-other}
 use borrow.Author.Needs.{needs}
 use Rattle.grammar.proofs.check_node.Statement.{statement}
 use Rattle.grammar.proofs.check_node.Tie as tie
 
-mul-kind : tie.Need-mul-kind
-mul-kind c = search needs
-
-add-kind : tie.Need-add-kind
-add-kind c = search needs
-
-mul-kind-2 : tie.Need-mul-kind-2
-mul-kind-2 c = search needs
-
-shared-slice-read-kind : tie.Need-shared-slice-read-kind
-shared-slice-read-kind c = search needs
-
-mul-at : tie.Need-mul-at
-mul-at c = search needs
-
-add-at : tie.Need-add-at
-add-at c = search needs
-
-word-requires : tie.Need-word-requires
-word-requires c κs = search needs
+-- the rule of the kind word m, behind the words as read
+arm : (c : tie.After-is-leaf) (m : ℕ) {kept : Bool} → c .before .before .before .word .result ≡ m → isNamed (kindOf m) ≡ true → kept ≡ keepsRule (kindOf m) (c .before .before .word2 .result) (c .before .word3 .result) →
+    let a = c .before .before .before .before .before .args in
+    test (kept && leb (c .before .before .word2 .result + c .before .word3 .result) (a .children)) (reason 4 (word (2 + 3 * a .k))) accepted ≡ checkNode (a .words .now) (a .k)
+arm c m e n r =
+    let a = c .before .before .before .before .before .args in
+    node-named (a .words .now) (a .k) m (sym (c .before .before .before .word .ensures .0) ∙ e) n r (c .before .before .word2 .ensures .0) (c .before .word3 .ensures .0) (c .before .before .before .before .before .pre .1)
 
 mul-word : tie.Need-mul-word
 mul-word c = search needs
@@ -36,8 +27,26 @@ mul-word c = search needs
 add-word : tie.Need-add-word
 add-word c = search needs
 
+word-requires : tie.Need-word-requires
+word-requires c κs = search needs
+
+mul-at : tie.Need-mul-at
+mul-at c = search needs
+
+add-at : tie.Need-add-at
+add-at c = search needs
+
 word-requires-2 : tie.Need-word-requires-2
 word-requires-2 c κs = search needs
+
+mul-word-2 : tie.Need-mul-word-2
+mul-word-2 c = search needs
+
+add-word-2 : tie.Need-add-word-2
+add-word-2 c = search needs
+
+word-requires-3 : tie.Need-word-requires-3
+word-requires-3 c κs = search needs
 
 is-leaf-requires : tie.Need-is-leaf-requires
 is-leaf-requires c κs = search needs
@@ -80,70 +89,61 @@ at-word-requires c κs = search needs
 
 returns : tie.Need-returns
 unfolding kindOf kinds
-returns c =
-    c .check-rule .ensures ∙ node-named (c .before .before .before .before .before .before .before .args .words .now) (c .before .before .before .before .before .before .before .args .k) 0 (c .before .match .keys1) refl (c .before .before .is-leaf .ensures) (c .before .before .before .before .word .ensures .0) (c .before .before .before .word2 .ensures .0) (c .before .before .before .before .before .before .before .pre .2)
+returns c = c .check-rule .ensures ∙ arm (c .before .before) 0 (c .before .match .keys1) refl (c .before .before .is-leaf .ensures)
 
 returns-2 : tie.Need-returns-2
 unfolding kindOf kinds
-returns-2 c =
-    c .check-rule2 .ensures ∙ node-named (c .before .before .before .before .before .before .before .args .words .now) (c .before .before .before .before .before .before .before .args .k) 1 (c .before .match .keys2) refl (c .before .before .is-leaf .ensures) (c .before .before .before .before .word .ensures .0) (c .before .before .before .word2 .ensures .0) (c .before .before .before .before .before .before .before .pre .2)
+returns-2 c = c .check-rule2 .ensures ∙ arm (c .before .before) 1 (c .before .match .keys2) refl (c .before .before .is-leaf .ensures)
 
 returns-3 : tie.Need-returns-3
 unfolding kindOf kinds
-returns-3 c =
-    c .check-rule3 .ensures ∙ node-named (c .before .before .before .before .before .before .before .args .words .now) (c .before .before .before .before .before .before .before .args .k) 2 (c .before .match .keys3) refl (c .before .before .is-leaf .ensures) (c .before .before .before .before .word .ensures .0) (c .before .before .before .word2 .ensures .0) (c .before .before .before .before .before .before .before .pre .2)
+returns-3 c = c .check-rule3 .ensures ∙ arm (c .before .before) 2 (c .before .match .keys3) refl (c .before .before .is-leaf .ensures)
 
 returns-4 : tie.Need-returns-4
 unfolding kindOf kinds
-returns-4 c =
-    c .check-rule4 .ensures ∙ node-named (c .before .before .before .before .before .before .before .args .words .now) (c .before .before .before .before .before .before .before .args .k) 3 (c .before .match .keys4) refl refl (c .before .before .before .before .word .ensures .0) (c .before .before .before .word2 .ensures .0) (c .before .before .before .before .before .before .before .pre .2)
+returns-4 c = c .check-rule4 .ensures ∙ arm (c .before .before) 3 (c .before .match .keys4) refl refl
 
 returns-5 : tie.Need-returns-5
 unfolding kindOf kinds
-returns-5 c =
-    c .check-rule5 .ensures ∙ node-named (c .before .before .before .before .before .before .before .args .words .now) (c .before .before .before .before .before .before .before .args .k) 4 (c .before .match .keys5) refl refl (c .before .before .before .before .word .ensures .0) (c .before .before .before .word2 .ensures .0) (c .before .before .before .before .before .before .before .pre .2)
+returns-5 c = c .check-rule5 .ensures ∙ arm (c .before .before) 4 (c .before .match .keys5) refl refl
 
 returns-6 : tie.Need-returns-6
 unfolding kindOf kinds
-returns-6 c =
-    c .check-rule6 .ensures ∙ node-named (c .before .before .before .before .before .before .before .args .words .now) (c .before .before .before .before .before .before .before .args .k) 5 (c .before .match .keys6) refl (c .before .before .is-leaf .ensures) (c .before .before .before .before .word .ensures .0) (c .before .before .before .word2 .ensures .0) (c .before .before .before .before .before .before .before .pre .2)
+returns-6 c = c .check-rule6 .ensures ∙ arm (c .before .before) 5 (c .before .match .keys6) refl (c .before .before .is-leaf .ensures)
 
 returns-7 : tie.Need-returns-7
 unfolding kindOf kinds
-returns-7 c =
-    c .check-rule7 .ensures ∙ node-named (c .before .before .before .before .before .before .before .args .words .now) (c .before .before .before .before .before .before .before .args .k) 6 (c .before .match .keys7) refl (c .before .before .is-leaf .ensures) (c .before .before .before .before .word .ensures .0) (c .before .before .before .word2 .ensures .0) (c .before .before .before .before .before .before .before .pre .2)
+returns-7 c = c .check-rule7 .ensures ∙ arm (c .before .before) 6 (c .before .match .keys7) refl (c .before .before .is-leaf .ensures)
 
 returns-8 : tie.Need-returns-8
 unfolding kindOf kinds
-returns-8 c =
-    c .check-rule8 .ensures ∙ node-named (c .before .before .before .before .before .before .before .args .words .now) (c .before .before .before .before .before .before .before .args .k) 7 (c .before .match .keys8) refl (c .before .before .is-leaf .ensures) (c .before .before .before .before .word .ensures .0) (c .before .before .before .word2 .ensures .0) (c .before .before .before .before .before .before .before .pre .2)
+returns-8 c = c .check-rule8 .ensures ∙ arm (c .before .before) 7 (c .before .match .keys8) refl (c .before .before .is-leaf .ensures)
 
 returns-9 : tie.Need-returns-9
 unfolding kindOf kinds
-returns-9 c =
-    c .check-rule9 .ensures ∙ node-named (c .before .before .before .before .before .before .before .args .words .now) (c .before .before .before .before .before .before .before .args .k) 8 (c .before .match .keys9) refl refl (c .before .before .before .before .word .ensures .0) (c .before .before .before .word2 .ensures .0) (c .before .before .before .before .before .before .before .pre .2)
+returns-9 c = c .check-rule9 .ensures ∙ arm (c .before .before) 8 (c .before .match .keys9) refl refl
 
 returns-10 : tie.Need-returns-10
 unfolding kinds
 returns-10 c =
-    let r = c .before .match .rest in
-    let h = next-key (next-key (next-key (next-key (next-key (next-key (next-key (next-key (next-key zero-le (r .0 .0 .0 .0 .0 .0 .0 .0 .1)) (r .0 .0 .0 .0 .0 .0 .0 .1)) (r .0 .0 .0 .0 .0 .0 .1)) (r .0 .0 .0 .0 .0 .1)) (r .0 .0 .0 .0 .1)) (r .0 .0 .0 .1)) (r .0 .0 .1)) (r .0 .1)) (r .1) in
-    ap refused (c .at-word .ensures) ∙ node-other (c .before .before .before .before .before .before .before .args .words .now) (c .before .before .before .before .before .before .before .args .k) h
+    let d = c .before .before in
+    let a = d .before .before .before .before .before .args in
+    let h : 9 ≤ kindWord (a .words .now) (a .k) = rw (sym (d .before .before .before .word .ensures .0)) (none-below 9 (d .before .before .before .word .result) (c .before .match .rest)) in
+    ap refused (c .at-word .ensures) ∙ node-other (a .words .now) (a .k) h
 
 pub check-node-spec : {M : Type 1} → statement M
 check-node-spec =
     tie.close
     (tie.spec
-    mul-kind
-    add-kind
-    mul-kind-2
-    shared-slice-read-kind
-    mul-at
-    add-at
-    word-requires
     mul-word
     add-word
+    word-requires
+    mul-at
+    add-at
     word-requires-2
+    mul-word-2
+    add-word-2
+    word-requires-3
     is-leaf-requires
     check-rule-requires
     check-rule-requires-2

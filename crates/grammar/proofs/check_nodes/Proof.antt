@@ -34,9 +34,7 @@ abbrev μ-nodes : tie.MeasureT-nodes
 μ-nodes words nodes children k₀ k = nodes - k
 
 word-requires : tie.Need-word-requires Inv-loop μ-loop Inv-nodes μ-nodes
-word-requires c κs =
-    let l = c .before .pre in
-    omega (arith, l .size .1 .1)
+word-requires c κs = search needs
 
 mul-word : tie.Need-mul-word Inv-loop μ-loop Inv-nodes μ-nodes
 mul-word c = search needs
@@ -45,9 +43,7 @@ add-word : tie.Need-add-word Inv-loop μ-loop Inv-nodes μ-nodes
 add-word c = search needs
 
 word-requires-2 : tie.Need-word-requires-2 Inv-loop μ-loop Inv-nodes μ-nodes
-word-requires-2 c κs =
-    let l = c .before .before .pre in
-    omega (arith, l .size .1 .1, c .word .ensures .0)
+word-requires-2 c κs = search needs
 
 nodes-holds : tie.Need-nodes-holds Inv-loop μ-loop Inv-nodes μ-nodes
 nodes-holds c =

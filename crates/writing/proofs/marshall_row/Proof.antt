@@ -1,5 +1,5 @@
 -- Each arm cites its kind's class; the last arm's word is none of 0 to 8.
-use mathlib.Core.Path.{_≡_, ap, sym, subst, _∙_}
+use mathlib.Core.Path.{_≡_, refl, ap, sym, subst, _∙_}
 use mathlib.Core.Bool.{true}
 use mathlib.Core.List.{List, []}
 use Prim.Native.Nat.{ℕ, _+_, _*_, _^_, _≤_, _<_}
@@ -14,162 +14,151 @@ use Rattle.value.specs.Kinds.{uint32, Elements, bytes, uint32s, uint64s, elemen
 use Rattle.tables.specs.Row.{Row, rowAt}
 use Rattle.rows.specs.Walk.{keepsRule, withinStore}
 use Rattle.rows.specs.Size.{ownBytes, ownSize}
-use Rattle.rows.proofs.Laws.{none-of}
+use Rattle.rows.proofs.Laws.{none-of, row-eq}
 use borrow.Author.Needs.{needs}
 use Rattle.writing.proofs.marshall_row.Statement.{statement}
 use Rattle.writing.proofs.marshall_row.Tie as tie
 
--- behind the reads: the row, and the output before it
-abbrev this : tie.After-shared-slice-known5 → Row
-this c = rowAt (c .before .before .before .before .before .before .args .rows .now) (c .before .before .before .before .before .before .args .row)
+-- the row as read, behind the reads
+abbrev this : tie.After-word3-at → Row
+this c = record {
+  kind = c .before .before .kind-at .result;
+  span = rowAt (c .before .before .before .before .before .before .args .rows .now) (c .before .before .before .before .before .before .args .row) .span;
+  word2 = c .before .word2-at .result;
+  word3 = c .word3-at .result;
+}
 
--- what is to be put where the row is of class k
-abbrev Put : tie.After-shared-slice-known5 → Kind → ℕ → List ℕ → Type 0
-Put c k r exit =
+read : (c : tie.After-word3-at) → this c ≡ rowAt (c .before .before .before .before .before .before .args .rows .now) (c .before .before .before .before .before .before .args .row)
+read c = sym (row-eq (rowAt (c .before .before .before .before .before .before .args .rows .now) (c .before .before .before .before .before .before .args .row)) (sym (c .before .before .kind-at .ensures)) refl (sym (c .before .word2-at .ensures)) (sym (c .word3-at .ensures)))
+
+-- what is to be put where a row is of class k
+abbrev Put : tie.After-word3-at → Row → Kind → ℕ → List ℕ → Type 0
+Put c x k r exit =
     let a = c .before .before .before .before .before .before .args in
-    (r ≡ a .index + ownSize k (this c)) × (exit ≡ put (a .out .now) (a .index) (ownBytes k (this c) (a .store .now)))
+    (r ≡ a .index + ownSize k x) × (exit ≡ put (a .out .now) (a .index) (ownBytes k x (a .store .now)))
 
-class : (c : tie.After-shared-slice-known5) {m : ℕ} → this c .kind ≡ m → kindOf (this c .kind) ≡ kindOf m
-class c e = ap kindOf e
-
-arm : (c : tie.After-shared-slice-known5) {k : Kind} → kindOf (this c .kind) ≡ k → {r : ℕ} {exit : List ℕ} → Put c k r exit → Put c (kindOf (this c .kind)) r exit
-arm c e {r} {exit} h = subst (λ (k : Kind). Put c k r exit) (sym e) h
+arm : (c : tie.After-word3-at) {k : Kind} → kindOf (this c .kind) ≡ k → {r : ℕ} {exit : List ℕ} → Put c (this c) k r exit → Put c (rowAt (c .before .before .before .before .before .before .args .rows .now) (c .before .before .before .before .before .before .args .row)) (kindOf (rowAt (c .before .before .before .before .before .before .args .rows .now) (c .before .before .before .before .before .before .args .row) .kind)) r exit
+arm c e {r} {exit} h = subst (λ (x : Row). Put c x (kindOf (x .kind)) r exit) (read c) (subst (λ (k : Kind). Put c (this c) k r exit) (sym e) h)
 
 -- a row without bytes of its own
-nothing : (c : tie.After-shared-slice-known5) → let a = c .before .before .before .before .before .before .args in (a .index ≡ a .index + 0) × (a .out .now ≡ put (a .out .now) (a .index) [])
+nothing : (c : tie.After-word3-at) → let a = c .before .before .before .before .before .before .args in (a .index ≡ a .index + 0) × (a .out .now ≡ put (a .out .now) (a .index) [])
 nothing c = let a = c .before .before .before .before .before .before .args in (sym (add-zero (a .index)), sym (put-nothing (a .out .now) (a .index)))
 
-room : (c : tie.After-shared-slice-known5) {k : Kind} → kindOf (this c .kind) ≡ k → let a = c .before .before .before .before .before .before .args in a .index + ownSize k (this c) ≤ length (a .out .now)
-room c e = let s = c .before .before .before .before .before .before in subst (λ (k : Kind). s .args .index + ownSize k (this c) ≤ length (s .args .out .now)) e (s .pre .2)
+room : (c : tie.After-word3-at) {k : Kind} → kindOf (this c .kind) ≡ k → c .before .before .before .before .before .before .args .index + ownSize k (this c) ≤ length (c .before .before .before .before .before .before .args .out .now)
+room c e =
+    let s = c .before .before .before .before .before .before in
+    subst (λ (k : Kind). s .args .index + ownSize k (this c) ≤ length (s .args .out .now)) e (subst (λ (x : Row). s .args .index + ownSize (kindOf (x .kind)) x ≤ length (s .args .out .now)) (sym (read c)) (s .pre .1))
 
-number-fits : (c : tie.After-shared-slice-known5) → kindOf (this c .kind) ≡ number uint32 → this c .word2 < 256 ^ 4
+number-fits : (c : tie.After-word3-at) → kindOf (this c .kind) ≡ number uint32 → this c .word2 < 256 ^ 4
 number-fits c e =
     let r = this c in
-    let h : keepsRule (number uint32) r ≡ true = sym (ap (λ (k : Kind). keepsRule k r) e) ∙ c .before .before .before .before .before .before .pre .1 .rule in
+    let h : keepsRule (number uint32) r ≡ true = sym (ap (λ (k : Kind). keepsRule k r) e) ∙ ap (λ (x : Row). keepsRule (kindOf (x .kind)) x) (read c) ∙ c .before .before .before .before .before .before .pre .0 .rule in
     reflects-and (reflects-eqb (r .span) 1) (reflects-and (reflects-ltb (r .word2) (256 ^ 4)) (reflects-eqb (r .word3) 0)) .1 h .1 .0
 
-elements-fit : (c : tie.After-shared-slice-known5) (k : Elements) → kindOf (this c .kind) ≡ elements k → let a = c .before .before .before .before .before .before .args in (this c .word3 + elementWidth k * this c .word2 ≤ length (a .store .now)) × (a .index + (8 + elementWidth k * this c .word2) ≤ length (a .out .now))
+elements-fit : (c : tie.After-word3-at) (k : Elements) → kindOf (this c .kind) ≡ elements k → (this c .word3 + elementWidth k * this c .word2 ≤ length (c .before .before .before .before .before .before .args .store .now)) × (c .before .before .before .before .before .before .args .index + (8 + elementWidth k * this c .word2) ≤ length (c .before .before .before .before .before .before .args .out .now))
 elements-fit c k e =
     let r = this c in
     let len = length (c .before .before .before .before .before .before .args .store .now) in
-    let h : withinStore (elements k) r len ≡ true = sym (ap (λ (x : Kind). withinStore x r len) e) ∙ c .before .before .before .before .before .before .pre .1 .within in
+    let h : withinStore (elements k) r len ≡ true = sym (ap (λ (x : Kind). withinStore x r len) e) ∙ ap (λ (x : Row). withinStore (kindOf (x .kind)) x len) (read c) ∙ c .before .before .before .before .before .before .pre .0 .within in
     (leb-true (r .word3 + elementWidth k * r .word2) len h, room c e)
 
-mul-first : tie.Need-mul-first
-mul-first c = search needs
+kind-at-requires : tie.Need-kind-at-requires
+kind-at-requires c κs = search needs
 
-mul-kind : tie.Need-mul-kind
-mul-kind c = search needs
+word2-at-requires : tie.Need-word2-at-requires
+word2-at-requires c κs = search needs
 
-shared-slice-read-kind : tie.Need-shared-slice-read-kind
-shared-slice-read-kind c = search needs
-
-add-word2 : tie.Need-add-word2
-add-word2 c = search needs
-
-mul-word2 : tie.Need-mul-word2
-mul-word2 c = search needs
-
-shared-slice-read-word2 : tie.Need-shared-slice-read-word2
-shared-slice-read-word2 c = search needs
-
-add-place : tie.Need-add-place
-add-place c = search needs
-
-mul-place : tie.Need-mul-place
-mul-place c = search needs
-
-shared-slice-read-place : tie.Need-shared-slice-read-place
-shared-slice-read-place c = search needs
+word3-at-requires : tie.Need-word3-at-requires
+word3-at-requires c κs = search needs
 
 cast-marshall-uint32 : tie.Need-cast-marshall-uint32
 unfolding kindOf kinds ownBytes
-cast-marshall-uint32 c = omega (arith, number-fits (c .before) (class (c .before) (c .match .keys2)))
+cast-marshall-uint32 c = omega (arith, number-fits (c .before) (ap kindOf (c .match .keys2)))
 
 marshall-uint32-requires : tie.Need-marshall-uint32-requires
 unfolding kindOf kinds ownBytes
-marshall-uint32-requires c κs = room (c .before .before) (class (c .before .before) (c .before .match .keys2))
+marshall-uint32-requires c κs = room (c .before .before) (ap kindOf (c .before .match .keys2))
 
 marshall-uint64-requires : tie.Need-marshall-uint64-requires
 unfolding kindOf kinds ownBytes
-marshall-uint64-requires c κs = room (c .before .before) (class (c .before .before) (c .before .match .keys3))
+marshall-uint64-requires c κs = room (c .before .before) (ap kindOf (c .before .match .keys3))
 
 marshall-uint64-requires-2 : tie.Need-marshall-uint64-requires-2
 unfolding kindOf kinds ownBytes
-marshall-uint64-requires-2 c κs = room (c .before .before) (class (c .before .before) (c .before .match .keys4))
+marshall-uint64-requires-2 c κs = room (c .before .before) (ap kindOf (c .before .match .keys4))
 
 marshall-elements-requires : tie.Need-marshall-elements-requires
 unfolding kindOf kinds ownBytes
-marshall-elements-requires c κs = elements-fit (c .before .before) bytes (class (c .before .before) (c .before .match .keys6))
+marshall-elements-requires c κs = elements-fit (c .before .before) bytes (ap kindOf (c .before .match .keys6))
 
 marshall-elements-requires-2 : tie.Need-marshall-elements-requires-2
 unfolding kindOf kinds ownBytes
-marshall-elements-requires-2 c κs = elements-fit (c .before .before) uint32s (class (c .before .before) (c .before .match .keys7))
+marshall-elements-requires-2 c κs = elements-fit (c .before .before) uint32s (ap kindOf (c .before .match .keys7))
 
 marshall-elements-requires-3 : tie.Need-marshall-elements-requires-3
 unfolding kindOf kinds ownBytes
-marshall-elements-requires-3 c κs = elements-fit (c .before .before) uint64s (class (c .before .before) (c .before .match .keys8))
+marshall-elements-requires-3 c κs = elements-fit (c .before .before) uint64s (ap kindOf (c .before .match .keys8))
 
 marshall-uint64-requires-3 : tie.Need-marshall-uint64-requires-3
 unfolding kindOf kinds ownBytes
-marshall-uint64-requires-3 c κs = room (c .before .before) (class (c .before .before) (c .before .match .keys9))
+marshall-uint64-requires-3 c κs = room (c .before .before) (ap kindOf (c .before .match .keys9))
 
 returns : tie.Need-returns
 unfolding kindOf kinds ownBytes
-returns c = arm (c .before) (class (c .before) (c .match .keys1)) (nothing (c .before))
+returns c = arm (c .before) (ap kindOf (c .match .keys1)) (nothing (c .before))
 
 same-length : tie.Need-same-length
 same-length c = search needs
 
 returns-2 : tie.Need-returns-2
 unfolding kindOf kinds ownBytes
-returns-2 c = arm (c .before .before .before .before .before) (class (c .before .before .before .before .before) (c .before .before .before .before .match .keys2)) (c .before .before .marshall-uint32 .ensures)
+returns-2 c = arm (c .before .before .before .before .before) (ap kindOf (c .before .before .before .before .match .keys2)) (c .before .before .marshall-uint32 .ensures)
 
 same-length-2 : tie.Need-same-length-2
 same-length-2 c = search needs
 
 returns-3 : tie.Need-returns-3
 unfolding kindOf kinds ownBytes
-returns-3 c = arm (c .before .before .before .before .before) (class (c .before .before .before .before .before) (c .before .before .before .before .match .keys3)) (c .before .before .marshall-uint64 .ensures)
+returns-3 c = arm (c .before .before .before .before .before) (ap kindOf (c .before .before .before .before .match .keys3)) (c .before .before .marshall-uint64 .ensures)
 
 same-length-3 : tie.Need-same-length-3
 same-length-3 c = search needs
 
 returns-4 : tie.Need-returns-4
 unfolding kindOf kinds ownBytes
-returns-4 c = arm (c .before .before .before .before .before) (class (c .before .before .before .before .before) (c .before .before .before .before .match .keys4)) (c .before .before .marshall-uint642 .ensures)
+returns-4 c = arm (c .before .before .before .before .before) (ap kindOf (c .before .before .before .before .match .keys4)) (c .before .before .marshall-uint642 .ensures)
 
 returns-5 : tie.Need-returns-5
 unfolding kindOf kinds ownBytes
-returns-5 c = arm (c .before) (class (c .before) (c .match .keys5)) (nothing (c .before))
+returns-5 c = arm (c .before) (ap kindOf (c .match .keys5)) (nothing (c .before))
 
 same-length-4 : tie.Need-same-length-4
 same-length-4 c = search needs
 
 returns-6 : tie.Need-returns-6
 unfolding kindOf kinds ownBytes
-returns-6 c = arm (c .before .before .before .before .before) (class (c .before .before .before .before .before) (c .before .before .before .before .match .keys6)) (c .before .before .marshall-elements .ensures)
+returns-6 c = arm (c .before .before .before .before .before) (ap kindOf (c .before .before .before .before .match .keys6)) (c .before .before .marshall-elements .ensures)
 
 same-length-5 : tie.Need-same-length-5
 same-length-5 c = search needs
 
 returns-7 : tie.Need-returns-7
 unfolding kindOf kinds ownBytes
-returns-7 c = arm (c .before .before .before .before .before) (class (c .before .before .before .before .before) (c .before .before .before .before .match .keys7)) (c .before .before .marshall-elements2 .ensures)
+returns-7 c = arm (c .before .before .before .before .before) (ap kindOf (c .before .before .before .before .match .keys7)) (c .before .before .marshall-elements2 .ensures)
 
 same-length-6 : tie.Need-same-length-6
 same-length-6 c = search needs
 
 returns-8 : tie.Need-returns-8
 unfolding kindOf kinds ownBytes
-returns-8 c = arm (c .before .before .before .before .before) (class (c .before .before .before .before .before) (c .before .before .before .before .match .keys8)) (c .before .before .marshall-elements3 .ensures)
+returns-8 c = arm (c .before .before .before .before .before) (ap kindOf (c .before .before .before .before .match .keys8)) (c .before .before .marshall-elements3 .ensures)
 
 same-length-7 : tie.Need-same-length-7
 same-length-7 c = search needs
 
 returns-9 : tie.Need-returns-9
 unfolding kindOf kinds ownBytes
-returns-9 c = arm (c .before .before .before .before .before) (class (c .before .before .before .before .before) (c .before .before .before .before .match .keys9)) (c .before .before .marshall-uint643 .ensures)
+returns-9 c = arm (c .before .before .before .before .before) (ap kindOf (c .before .before .before .before .match .keys9)) (c .before .before .marshall-uint643 .ensures)
 
 returns-10 : tie.Need-returns-10
 unfolding kindOf kinds ownBytes
@@ -179,15 +168,9 @@ pub marshall-row-spec : {M : Type 1} → statement M
 marshall-row-spec =
     tie.close
     (tie.spec
-    mul-first
-    mul-kind
-    shared-slice-read-kind
-    add-word2
-    mul-word2
-    shared-slice-read-word2
-    add-place
-    mul-place
-    shared-slice-read-place
+    kind-at-requires
+    word2-at-requires
+    word3-at-requires
     cast-marshall-uint32
     marshall-uint32-requires
     marshall-uint64-requires

@@ -27,7 +27,7 @@ marshall-row-requires : tie.Need-marshall-row-requires Inv-loop μ-loop
 marshall-row-requires c κs =
     let s = c .before .before .before .before .before .before in
     let l = c .before .before .loop in
-    (omega (arith, s .pre .0), s .pre .1 (l .i) (c .before .loop-test .taken), omega (arith, s .pre .2, size-within (s .args .rows .now) (s .args .store .now) (l .i) (s .args .n) (c .before .loop-test .taken)))
+    (s .pre .0 (l .i) (c .before .loop-test .taken), omega (arith, s .pre .1, size-within (s .args .rows .now) (s .args .store .now) (l .i) (s .args .n) (c .before .loop-test .taken)))
 
 add-i : tie.Need-add-i Inv-loop μ-loop
 add-i c = search needs
@@ -41,7 +41,7 @@ loop-again c =
     let a = s .args in
     let l = c .before .before .before .before .before .loop in
     let q = c .before .before .marshall-row in
-    let r = rows-next (a .rows .now) (a .store .now) (a .n) (a .out .now) (a .index) (s .pre .1) (s .pre .2) (l .out) _ (l .at) (l .i) (c .before .before .before .before .loop-test .taken) (l .inv .1) (l .inv .2) (q .ensures .1) in
+    let r = rows-next (a .rows .now) (a .store .now) (a .n) (a .out .now) (a .index) (s .pre .0) (s .pre .1) (l .out) _ (l .at) (l .i) (c .before .before .before .before .loop-test .taken) (l .inv .1) (l .inv .2) (q .ensures .1) in
     (omega arith, omega (arith, q .ensures .0, size-next (a .rows .now) (l .i)), r .0, r .1)
 
 same-length : tie.Need-same-length Inv-loop μ-loop
