@@ -37,8 +37,8 @@ words-read input words h f =
     ∙ ap (λ (o : Outcome Reason (Unit {0})). contents (map (λ bs. unpackLittleEndianSeq 4 bs (length words)) (map (λ _. take (4 * length words) (drop 4 input)) o)) words)
     (present-inside (length input) 4 (4 * length words) (omega arith) ∙ test-true _ _ (le-leb (4 + 4 * length words) (length input) h))
 
--- a reading by them, with 4,096 words for rows
-pub record-read : (d rows : List ℕ) {g words exit : List ℕ} {r : Parsed} → words ≡ g → length rows ≡ 4096 → Parses (demarshallOf words d (capacityOf (length rows))) 0 r rows exit → Parses (demarshallOf g d mostRows) 0 r rows exit
+-- a reading by them, with the words of so many rows
+pub record-read : (d rows : List ℕ) {g words exit : List ℕ} {r : Parsed} → words ≡ g → length rows ≡ rowWidth * mostRows → Parses (demarshallOf words d (capacityOf (length rows))) 0 r rows exit → Parses (demarshallOf g d mostRows) 0 r rows exit
 record-read d rows {g} {words} {exit} {r} e l p =
     subst (λ (w : List ℕ). Parses (demarshallOf w d mostRows) 0 r rows exit) e
     (subst (λ (k : ℕ). Parses (demarshallOf words d (capacityOf k)) 0 r rows exit) l p)
@@ -93,15 +93,15 @@ answered (accepted k) = k .rows
 answered (refused e) = 0
 
 -- what a reading answered, with the table that it filled, is printed as its outcome
-pub text-shown : (input : List ℕ) {p : Parsed} {rows exit : List ℕ} → length exit ≡ 4096 → Parses (readInput input) 0 p rows exit → FewRows exit p × (textOf exit p ≡ shown (readInput input))
+pub text-shown : (input : List ℕ) {p : Parsed} {rows exit : List ℕ} → Parses (readInput input) 0 p rows exit → FewRows p × (textOf exit p ≡ shown (readInput input))
 unfolding shown answered
-text-shown input {p} {rows} {exit} l h = go (readInput input) p (input-counted input) h
+text-shown input {p} {rows} {exit} h = go (readInput input) p (input-counted input) h
   where
-    go : (o : Outcome Reason (Step State Val)) (q : Parsed) → ((t : Step State Val) → o ≡ accepted t → Counted t) → Parses o 0 q rows exit → FewRows exit q × (textOf exit q ≡ shown o)
+    go : (o : Outcome Reason (Step State Val)) (q : Parsed) → ((t : Step State Val) → o ≡ accepted t → Counted t) → Parses o 0 q rows exit → FewRows q × (textOf exit q ≡ shown o)
     go (accepted t) (P.Value n rest) f r =
         let k = f t refl in
         let e : n ≡ t .state .begun = ap answered (r .answers) in (
-          (omega (arith, k .count, k .few), omega (arith, k .count, k .few)),
+          omega (arith, k .count, k .few),
           rw (e, r .rows) (put-text rows (rowsOf (t .value) 0) (t .state .begun) (omega (arith, length-rowsOf (t .value) 0, k .count))),
         )
     go (accepted t) (P.Refused g) f r = let a = r .answers in let z : _≡_ {A = ℕ} 0 1 = cc in absurd (omega arith)

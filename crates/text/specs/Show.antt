@@ -1,14 +1,12 @@
 -- The whole of the program between reading and writing: which text an input gives.
 use mathlib.Core.List.{List}
-use Prim.Native.Nat.{ℕ, _*_, _≤_}
-use lib.ListN.{length}
+use Prim.Native.Nat.{ℕ, _≤_}
 use Rattle.refusal.specs.Outcome.{Outcome, accepted, refused, bind, Reason}
 use Rattle.refusal.specs.Meaning.{reasonOf}
 use Rattle.value.specs.Tree.{Val}
 use Rattle.value.specs.Step.{Step}
 use Rattle.value.specs.Reading.{State}
 use Rattle.rows.specs.Layout.{rowsOf}
-use Rattle.tables.specs.Row.{rowWidth}
 use Rattle.reading.specs.declared.Parsed.{Parsed}
 use Rattle.reading.specs.declared.Parsed.the-variants as P
 use Rattle.reading.specs.Calls.{demarshallOf}
@@ -33,7 +31,7 @@ abbrev pub textOf : List ℕ → Parsed → List ℕ
 textOf t (P.Value n rest) = rowsText t n
 textOf t (P.Refused r) = refusalText (reasonOf r)
 
--- the rows to be printed are in the table, and are no more than were lent
-abbrev pub FewRows : List ℕ → Parsed → Type 0
-FewRows t (P.Value n rest) = (n ≤ mostRows) × (rowWidth * n ≤ length t)
-FewRows t (P.Refused r) = Unit {0}
+-- the rows to be printed are no more than were lent
+abbrev pub FewRows : Parsed → Type 0
+FewRows (P.Value n rest) = n ≤ mostRows
+FewRows (P.Refused r) = Unit {0}

@@ -5,7 +5,7 @@ use Prim.Native.Nat.{ℕ, zero, suc, _+_, _*_, _≤_}
 use lib.ListN.{length}
 use Rattle.refusal.specs.Outcome.{Location, word, byte, row, Reason, reason}
 use Rattle.packed.specs.Packed.{put}
-use Rattle.tables.specs.Row.{Row, rowAt}
+use Rattle.tables.specs.Row.{rowWidth, Row, rowAt}
 use Rattle.text.specs.Digits.{digits}
 
 abbrev pub space : ℕ
@@ -63,7 +63,7 @@ abbrev pub mostNumeral : ℕ
 mostNumeral = 21
 
 abbrev pub mostLine : ℕ
-mostLine = 4 * mostNumeral
+mostLine = rowWidth * mostNumeral
 
 abbrev pub mostPlace : ℕ
 mostPlace = 5 + mostNumeral

@@ -18,10 +18,8 @@ use refusal::Refusal;
 // No text has more bytes.
 pub const MOST_TEXT: usize = 86042;
 
-// The words of a row, and of the rows with which a record is read.
-const ROW_WIDTH: usize = 4;
-
-const ROW_WORDS: usize = 4096;
+// The rows with which a record is read.
+const MOST_ROWS: usize = 1024;
 
 // Puts a byte, which has room, and gives the index behind it.
 fn put_byte(b: u8, out: &mut [u8], index: usize) -> usize
@@ -63,26 +61,25 @@ fn put_number(n: u64, end: u8, out: &mut [u8], index: usize) -> usize
 }
 
 // Puts the line of a row.
-fn put_row(rows: &[u64], row: usize, out: &mut [u8], index: usize) -> usize
-    requires { ⌜ (rowWidth * row + rowWidth ≤ length (now rows)) × RoomFor mostLine index (now out) ⌝ }
+fn put_line(rows: &[u64], row: usize, out: &mut [u8], index: usize) -> usize
+    requires { ⌜ RoomFor mostLine index (now out) ⌝ }
     ensures { λ r. ⌜ Puts (line (rowAt (now (rows .entry)) row)) mostLine index r (now (out .entry)) (now (out .exit)) ⌝ }
 {
-    let first = ROW_WIDTH * row;
-    let at1 = put_number(rows[first], b' ', out, index);
-    let at2 = put_number(rows[first + 1], b' ', out, at1);
-    let at3 = put_number(rows[first + 2], b' ', out, at2);
-    put_number(rows[first + 3], b'\n', out, at3)
+    let at1 = put_number(tables::kind_at(rows, row), b' ', out, index);
+    let at2 = put_number(tables::span_at(rows, row), b' ', out, at1);
+    let at3 = put_number(tables::word2_at(rows, row), b' ', out, at2);
+    put_number(tables::word3_at(rows, row), b'\n', out, at3)
 }
 
 // Puts the lines of rows 0 to n − 1.
-fn put_rows(rows: &[u64], n: usize, out: &mut [u8], index: usize) -> usize
-    requires { ⌜ (rowWidth * n ≤ length (now rows)) × RoomFor (mostLine * n) index (now out) ⌝ }
+fn put_lines(rows: &[u64], n: usize, out: &mut [u8], index: usize) -> usize
+    requires { ⌜ RoomFor (mostLine * n) index (now out) ⌝ }
     ensures { λ r. ⌜ Puts (linesOf (now (rows .entry)) n) (mostLine * n) index r (now (out .entry)) (now (out .exit)) ⌝ }
 {
     let mut at = index;
     let mut i: usize = 0;
     while i < n {
-        at = put_row(rows, i, out, at);
+        at = put_line(rows, i, out, at);
         i += 1;
     }
     at
@@ -90,12 +87,12 @@ fn put_rows(rows: &[u64], n: usize, out: &mut [u8], index: usize) -> usize
 
 // Puts the row count and the rows.
 fn put_rows_text(rows: &[u64], n: usize, out: &mut [u8]) -> usize
-    requires { ⌜ (rowWidth * n ≤ length (now rows)) × RoomFor (mostRowsText n) 0 (now out) ⌝ }
+    requires { ⌜ RoomFor (mostRowsText n) 0 (now out) ⌝ }
     ensures { λ r. ⌜ Puts (rowsText (now (rows .entry)) n) (mostRowsText n) 0 r (now (out .entry)) (now (out .exit)) ⌝ }
 {
     let at1 = put_bytes(b"rows ", out, 0);
     let at2 = put_number(n as u64, b'\n', out, at1);
-    put_rows(rows, n, out, at2)
+    put_lines(rows, n, out, at2)
 }
 
 // Puts a word and a number behind it, with which a line ends.
@@ -132,7 +129,7 @@ fn put_refusal(refusal: Refusal, out: &mut [u8]) -> usize
 
 // Puts the text of what a reading answered.
 fn put_text(parsed: Parsed, rows: &[u64], out: &mut [u8; MOST_TEXT]) -> usize
-    requires { ⌜ FewRows (now rows) parsed ⌝ }
+    requires { ⌜ FewRows parsed ⌝ }
     ensures { λ r. ⌜ Puts (textOf (now (rows .entry)) parsed) mostText 0 r (now (out .entry)) (now (out .exit)) ⌝ }
 {
     match parsed {
@@ -143,7 +140,7 @@ fn put_text(parsed: Parsed, rows: &[u64], out: &mut [u8; MOST_TEXT]) -> usize
 
 // The record by its grammar words, which stand from byte 4 on. As many are read as `words` holds.
 fn read_record(input: &[u8], words: &mut [u32], record: &[u8], rows: &mut [u64]) -> Parsed
-    requires { ⌜ (4 + 4 * length (now words) ≤ length (now input)) × (length (now rows) ≡ 4096) ⌝ }
+    requires { ⌜ (4 + 4 * length (now words) ≤ length (now input)) × (length (now rows) ≡ rowWidth * mostRows) ⌝ }
     ensures { λ r. ⌜ Parses (demarshallOf (wordsAt (now (input .entry)) (length (now (words .entry)))) (now («record» .entry)) mostRows) 0 r (now (rows .entry)) (now (rows .exit)) ⌝ }
 {
     packed::unpack_little_endian_uint32_seq(input, 4, words);
@@ -152,7 +149,7 @@ fn read_record(input: &[u8], words: &mut [u32], record: &[u8], rows: &mut [u64])
 
 // The record of an input, read whole: 19 before any other refusal.
 fn read_input(input: &[u8], words: &mut [u32], rows: &mut [u64]) -> Parsed
-    requires { ⌜ (length (now words) ≡ mostWords) × (length (now rows) ≡ 4096) ⌝ }
+    requires { ⌜ (length (now words) ≡ mostWords) × (length (now rows) ≡ rowWidth * mostRows) ⌝ }
     ensures { λ r. ⌜ Parses (readInput (now (input .entry))) 0 r (now (rows .entry)) (now (rows .exit)) ⌝ }
 {
     match input::lay_out(input) {
@@ -173,7 +170,7 @@ pub fn show(input: &[u8], out: &mut [u8; MOST_TEXT]) -> usize
     ensures { λ r. ⌜ Puts (shown (readInput (now (input .entry)))) mostText 0 r (now (out .entry)) (now (out .exit)) ⌝ }
 {
     let mut words = [0u32; input::MOST_WORDS];
-    let mut rows = [0u64; ROW_WORDS];
+    let mut rows = [0u64; tables::ROW_WIDTH * MOST_ROWS];
     let parsed = read_input(input, &mut words, &mut rows);
     put_text(parsed, &rows, out)
 }

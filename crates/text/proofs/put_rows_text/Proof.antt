@@ -11,19 +11,19 @@ slice-aggregate-put-bytes c = search needs
 put-bytes-requires : tie.Need-put-bytes-requires
 put-bytes-requires c κs =
     let s = c .before .before .before .before in
-    room-first 5 (mostNumeral + mostLine * s .args .n) (s .pre .1)
+    room-first 5 (mostNumeral + mostLine * s .args .n) (s .pre)
 
 put-number-requires : tie.Need-put-number-requires
 put-number-requires c κs =
     let s = c .before .before .before .before .before .before .before .before in
     let lines = mostLine * s .args .n in
-    room-first mostNumeral lines (room-then 5 (mostNumeral + lines) (s .pre .1) (c .before .before .before .put-bytes .ensures))
+    room-first mostNumeral lines (room-then 5 (mostNumeral + lines) (s .pre) (c .before .before .before .put-bytes .ensures))
 
-put-rows-requires : tie.Need-put-rows-requires
-put-rows-requires c κs =
+put-lines-requires : tie.Need-put-lines-requires
+put-lines-requires c κs =
     let s = c .before .before .before .before .before .before .before .before .before .before .before .before in
     let lines = mostLine * s .args .n in
-    (s .pre .0, room-then mostNumeral lines (room-then 5 (mostNumeral + lines) (s .pre .1) (c .before .before .before .before .before .before .before .put-bytes .ensures)) (c .before .before .before .put-number .ensures))
+    room-then mostNumeral lines (room-then 5 (mostNumeral + lines) (s .pre) (c .before .before .before .before .before .before .before .put-bytes .ensures)) (c .before .before .before .put-number .ensures)
 
 same-length : tie.Need-same-length
 same-length c = search needs
@@ -34,7 +34,7 @@ returns c =
     let s = c .before .before .before .before .before .before .before .before .before .before .before .before .before .before .before in
     let lines = mostLine * s .args .n in
     let p = c .before .before .before .before .before .before .before .before .before .before .put-bytes .ensures in
-    puts-then 5 (mostNumeral + lines) (s .pre .1) p (puts-then mostNumeral lines (room-then 5 (mostNumeral + lines) (s .pre .1) p) (c .before .before .before .before .before .before .put-number .ensures) (c .before .before .put-rows .ensures))
+    puts-then 5 (mostNumeral + lines) (s .pre) p (puts-then mostNumeral lines (room-then 5 (mostNumeral + lines) (s .pre) p) (c .before .before .before .before .before .before .put-number .ensures) (c .before .before .put-lines .ensures))
 
 pub put-rows-text-spec : {M : Type 1} → statement M
 put-rows-text-spec =
@@ -43,6 +43,6 @@ put-rows-text-spec =
     slice-aggregate-put-bytes
     put-bytes-requires
     put-number-requires
-    put-rows-requires
+    put-lines-requires
     same-length
     returns)

@@ -12,7 +12,7 @@ put-rows-text-requires : tie.Need-put-rows-text-requires
 put-rows-text-requires c κs =
     let s = c .before .before .before .before .before in
     let f = rw (c .before .before .parsed .given .1) at (s .pre) in
-    (f .1, record { room = omega (arith, f .0) })
+    record { room = omega (arith, f) }
 
 enum-known-parsed-2 : tie.Need-enum-known-parsed-2
 enum-known-parsed-2 c = search needs
@@ -24,7 +24,7 @@ returns : tie.Need-returns
 returns c =
     let f = rw (c .before .before .before .parsed .given .1) at (c .before .before .before .before .before .before .pre) in
     let p = c .put-rows-text .ensures in
-    rw (c .before .before .before .parsed .given .1) (puts-more mostText (omega (arith, f .0, p .within)) p)
+    rw (c .before .before .before .parsed .given .1) (puts-more mostText (omega (arith, f, p .within)) p)
 
 returns-2 : tie.Need-returns-2
 returns-2 c =

@@ -20,12 +20,12 @@ slice-aggregate-put-text : tie.Need-slice-aggregate-put-text
 slice-aggregate-put-text c = search needs
 
 put-text-requires : tie.Need-put-text-requires
-put-text-requires c κs = text-shown (c .before .before .before .before .before .before .before .before .args .input .now) (c .before .before .before .before .read-input .kept .1 .1 .0) (c .before .before .before .before .read-input .ensures) .0
+put-text-requires c κs = text-shown (c .before .before .before .before .before .before .before .before .args .input .now) (c .before .before .before .before .read-input .ensures) .0
 
 returns : tie.Need-returns
 returns c =
     let a = c .before .before .before .before .before .before .before .before .before .args in
-    subst (λ (bs : List ℕ). Puts bs mostText 0 (c .put-text .result) (a .out .now) (c .put-text .last .1 .1 .0)) (text-shown (a .input .now) (c .before .before .before .before .before .read-input .kept .1 .1 .0) (c .before .before .before .before .before .read-input .ensures) .1) (c .put-text .ensures)
+    subst (λ (bs : List ℕ). Puts bs mostText 0 (c .put-text .result) (a .out .now) (c .put-text .last .1 .1 .0)) (text-shown (a .input .now) (c .before .before .before .before .before .read-input .ensures) .1) (c .put-text .ensures)
 
 pub show-spec : {M : Type 1} → statement M
 show-spec =
