@@ -18,8 +18,8 @@ use refusal::Refusal;
 // No text has more bytes.
 pub const MOST_TEXT: usize = 86042;
 
-// The rows with which a record is read.
-const MOST_ROWS: usize = 1024;
+// The capacity with which a record is read.
+const CAPACITY: usize = 1024;
 
 // Puts a byte, which has room, and gives the index behind it.
 fn put_byte(b: u8, out: &mut [u8], index: usize) -> usize
@@ -170,7 +170,7 @@ pub fn show(input: &[u8], out: &mut [u8; MOST_TEXT]) -> usize
     ensures { λ r. ⌜ Puts (shown (readInput (now (input .entry)))) mostText 0 r (now (out .entry)) (now (out .exit)) ⌝ }
 {
     let mut words = [0u32; input::MOST_WORDS];
-    let mut rows = [0u64; tables::ROW_WIDTH * MOST_ROWS];
+    let mut rows = [0u64; tables::ROW_WIDTH * CAPACITY];
     let parsed = read_input(input, &mut words, &mut rows);
     put_text(parsed, &rows, out)
 }
