@@ -4,11 +4,7 @@ use std::cell::Cell;
 use std::marker::PhantomData;
 use std::mem;
 
-use crate::kind::{
-    ARRAY, BYTE_ARRAY, CONSTANT, TAGGED_UNION, TUPLE, UINT32, UINT32_ARRAY, UINT64, UINT64_ARRAY,
-};
-use crate::value::Value;
-use crate::{calls, Refusal};
+use crate::{calls, Kind, Refusal, Value, ROW_WORDS};
 
 /// Makes the rows and the store of a value, one value behind the other. [`Value::build`] lends it.
 ///
@@ -62,7 +58,7 @@ impl Value<'_> {
         };
         make(&mut builder);
         let Builder { rows, store, .. } = builder;
-        calls::compute_size_of(&rows, rows.len() / 4, &store)?;
+        calls::compute_size_of(&rows, rows.len() / ROW_WORDS, &store)?;
         Ok(Value::read(rows, store))
     }
 }
@@ -70,34 +66,34 @@ impl Value<'_> {
 impl<'b> Builder<'b> {
     /// A constant.
     pub fn constant(&mut self) {
-        self.row(CONSTANT, 0, 0);
+        self.row(Kind::CONSTANT, 0, 0);
     }
 
     /// A uint32.
     pub fn uint32(&mut self, number: u32) {
-        self.row(UINT32, number.into(), 0);
+        self.row(Kind::UINT32, number.into(), 0);
     }
 
     /// A uint64.
     pub fn uint64(&mut self, number: u64) {
-        self.row(UINT64, number, 0);
+        self.row(Kind::UINT64, number, 0);
     }
 
     /// An array whose elements the closure makes.
     pub fn array(&mut self, elements: impl FnOnce(&mut Builder<'b>)) {
-        let (word2, count) = self.parent(ARRAY, elements);
+        let (word2, count) = self.parent(Kind::ARRAY, elements);
         self.rows[word2] = count;
     }
 
     /// A tuple whose fields the closure makes.
     pub fn tuple(&mut self, fields: impl FnOnce(&mut Builder<'b>)) {
-        let (word2, count) = self.parent(TUPLE, fields);
+        let (word2, count) = self.parent(Kind::TUPLE, fields);
         self.rows[word2] = count;
     }
 
     /// An array of bytes.
     pub fn byte_array(&mut self, bytes: &[u8]) {
-        self.elements(BYTE_ARRAY, bytes.len(), 1, |out| {
+        self.elements(Kind::BYTE_ARRAY, bytes.len(), 1, |out| {
             out.copy_from_slice(bytes);
             Ok(())
         });
@@ -106,18 +102,18 @@ impl<'b> Builder<'b> {
     /// An array of uint32.
     pub fn uint32_array(&mut self, numbers: &[u32]) {
         let pack = |out: &mut [u8]| calls::pack_u32_seq(numbers, out, 0);
-        self.elements(UINT32_ARRAY, numbers.len(), 4, pack);
+        self.elements(Kind::UINT32_ARRAY, numbers.len(), 4, pack);
     }
 
     /// An array of uint64.
     pub fn uint64_array(&mut self, numbers: &[u64]) {
         let pack = |out: &mut [u8]| calls::pack_u64_seq(numbers, out, 0);
-        self.elements(UINT64_ARRAY, numbers.len(), 8, pack);
+        self.elements(Kind::UINT64_ARRAY, numbers.len(), 8, pack);
     }
 
     /// The case of this tag of a union, whose one value the closure makes.
     pub fn tagged_union(&mut self, tag: u64, value: impl FnOnce(&mut Builder<'b>)) {
-        let (word2, _) = self.parent(TAGGED_UNION, value);
+        let (word2, _) = self.parent(Kind::TAGGED_UNION, value);
         self.rows[word2] = tag;
     }
 
@@ -136,7 +132,7 @@ impl<'b> Builder<'b> {
         let siblings = mem::take(&mut self.children);
         children(self);
         let count = mem::replace(&mut self.children, siblings + 1);
-        self.rows[start + 1] = ((self.rows.len() - start) / 4) as u64;
+        self.rows[start + 1] = ((self.rows.len() - start) / ROW_WORDS) as u64;
         (start + 2, count)
     }
 
@@ -161,7 +157,7 @@ mod tests {
     use std::panic::{catch_unwind, AssertUnwindSafe};
 
     use super::*;
-    use crate::{Grammar, Place};
+    use crate::{Grammar, Place, MAX_BYTES, MAX_ROWS};
 
     #[test]
     fn every_kind_at_once() {
@@ -217,9 +213,9 @@ mod tests {
         });
         assert_eq!(of_two, (13, Place::Row(0)));
         assert_eq!(refusal(|v| v.tagged_union(0, |_| ())), (13, Place::Row(0)));
-        let of_many = refusal(|v| v.array(|v| (0..4_096).for_each(|_| v.constant())));
+        let of_many = refusal(|v| v.array(|v| (0..MAX_ROWS).for_each(|_| v.constant())));
         assert_eq!(of_many, (12, Place::Row(0)));
-        let of_long = refusal(|v| v.byte_array(&[0; 1_048_577]));
+        let of_long = refusal(|v| v.byte_array(&[0; MAX_BYTES + 1]));
         assert_eq!(of_long, (6, Place::Byte(0)));
     }
 
@@ -239,8 +235,8 @@ mod tests {
             let value = Value::build(|value| value.byte_array(&vec![9; count]));
             bytes.marshall_vec(&value.unwrap())
         };
-        assert_eq!(record_of(1_048_568).unwrap().len(), 1_048_576);
-        let refusal = record_of(1_048_569).unwrap_err();
+        assert_eq!(record_of(MAX_BYTES - 8).unwrap().len(), MAX_BYTES);
+        let refusal = record_of(MAX_BYTES - 7).unwrap_err();
         assert_eq!((refusal.number, refusal.place), (16, Place::Row(0)));
     }
 }

@@ -1,10 +1,7 @@
 //! Grammars that passed their check, and what is done under one: reading, writing, comparing.
 
 use crate::value::Value;
-use crate::{calls, Parsed, Refusal, SameRouteRefusal};
-
-/// The most bytes that the library writes for one value.
-const MOST_BYTES: u64 = 1_048_576;
+use crate::{calls, Parsed, Refusal, SameRouteRefusal, MAX_BYTES, ROW_WORDS};
 
 /// A grammar table that passed its check.
 ///
@@ -101,7 +98,7 @@ impl Grammar {
         rows: &'a mut [u64],
     ) -> Result<(Value<'a>, usize), Refusal> {
         let parsed = calls::parse_val(&self.words, record, index, rows)?;
-        let value = Value::read(&rows[..4 * parsed.rows], record);
+        let value = Value::read(&rows[..ROW_WORDS * parsed.rows], record);
         Ok((value, parsed.rest_index))
     }
 
@@ -126,7 +123,7 @@ impl Grammar {
         rows: &'a mut [u64],
     ) -> Result<Value<'a>, Refusal> {
         let parsed = calls::demarshall(&self.words, record, rows)?;
-        Ok(Value::read(&rows[..4 * parsed.rows], record))
+        Ok(Value::read(&rows[..ROW_WORDS * parsed.rows], record))
     }
 
     /// Reads as [`parse_val`](Grammar::parse_val) does with 4,096 rows, into as many rows as the
@@ -147,7 +144,7 @@ impl Grammar {
         record: &'a [u8],
         index: usize,
     ) -> Result<(Value<'a>, usize), Refusal> {
-        let mut rows = vec![0; 4 * self.check_val(record, index)?.rows];
+        let mut rows = vec![0; ROW_WORDS * self.check_val(record, index)?.rows];
         let parsed = calls::parse_val(&self.words, record, index, &mut rows)?;
         Ok((Value::read(rows, record), parsed.rest_index))
     }
@@ -163,7 +160,7 @@ impl Grammar {
     /// # Ok::<(), route_record::Refusal>(())
     /// ```
     pub fn demarshall_vec<'a>(&self, record: &'a [u8]) -> Result<Value<'a>, Refusal> {
-        let mut rows = vec![0; 4 * self.check_whole(record)?.rows];
+        let mut rows = vec![0; ROW_WORDS * self.check_whole(record)?.rows];
         calls::demarshall(&self.words, record, &mut rows)?;
         Ok(Value::read(rows, record))
     }
@@ -227,7 +224,7 @@ impl Grammar {
     /// ```
     pub fn marshall_vec(&self, value: &Value) -> Result<Vec<u8>, Refusal> {
         // A value of more bytes is refused by 15 or 16, whatever output is lent.
-        let length = value.size().min(MOST_BYTES) as usize;
+        let length = value.size().min(MAX_BYTES as u64) as usize;
         let mut out = vec![0; length];
         self.marshall(value, &mut out)?;
         Ok(out)

@@ -1,7 +1,7 @@
 //! The kinds of grammar nodes and value rows, in one table.
 
 /// What a value of a kind is made of.
-#[derive(Clone, Copy, Debug, PartialEq, Eq)]
+#[derive(Clone, Copy, Debug, PartialEq, Eq, Hash)]
 pub enum Class {
     /// Nothing: there is one such value, and it has no bytes.
     Constant,
@@ -24,7 +24,7 @@ pub enum Class {
 }
 
 /// A kind.
-#[derive(Debug, PartialEq, Eq)]
+#[derive(Clone, Copy, Debug, PartialEq, Eq, Hash)]
 pub struct Kind {
     /// The kind word of a node, and of a row.
     pub number: u32,
@@ -36,46 +36,42 @@ pub struct Kind {
     pub class: Class,
 }
 
-pub(crate) const CONSTANT: u32 = 0;
-pub(crate) const UINT32: u32 = 1;
-pub(crate) const UINT64: u32 = 2;
-pub(crate) const ARRAY: u32 = 3;
-pub(crate) const TUPLE: u32 = 4;
-pub(crate) const BYTE_ARRAY: u32 = 5;
-pub(crate) const UINT32_ARRAY: u32 = 6;
-pub(crate) const UINT64_ARRAY: u32 = 7;
-pub(crate) const TAGGED_UNION: u32 = 8;
+/// Makes the named numbers and the table of the kinds, a line to each: number, constant, name in
+/// the library's source, short name, class.
+macro_rules! kinds {
+    ($($number:literal $constant:ident $name:literal $text:literal $class:expr;)*) => {
+        /// The numbers of the kinds.
+        impl Kind {
+            $(#[doc = concat!("Number ", $number, ", `", $text, "`.")]
+            pub const $constant: u32 = $number;)*
+        }
 
-const fn kind(number: u32, name: &'static str, text: &'static str, class: Class) -> Kind {
-    Kind {
-        number,
-        name,
-        text,
-        class,
-    }
+        /// The kinds, each at the place of its number.
+        ///
+        /// ```
+        /// use route_record::{Class, Kind, KINDS};
+        ///
+        /// let bytes = &KINDS[Kind::BYTE_ARRAY as usize];
+        /// assert_eq!((bytes.number, bytes.name, bytes.text), (5, "GByteArray", "bytes"));
+        /// assert_eq!(bytes.class, Class::Elements { width: 1 });
+        /// ```
+        pub static KINDS: &[Kind] = &[
+            $(Kind { number: $number, name: $name, text: $text, class: $class }),*
+        ];
+    };
 }
 
-/// The kinds, each at the place of its number.
-///
-/// ```
-/// use route_record::{Class, KINDS};
-///
-/// let bytes = &KINDS[5];
-/// assert_eq!((bytes.number, bytes.name, bytes.text), (5, "GByteArray", "bytes"));
-/// assert_eq!(bytes.class, Class::Elements { width: 1 });
-/// ```
-#[rustfmt::skip]
-pub static KINDS: &[Kind] = &[
-    kind(CONSTANT, "GConstant", "constant", Class::Constant),
-    kind(UINT32, "GUint32", "u32", Class::Number { width: 4 }),
-    kind(UINT64, "GUint64", "u64", Class::Number { width: 8 }),
-    kind(ARRAY, "GArray", "array", Class::Array),
-    kind(TUPLE, "GTuple", "tuple", Class::Tuple),
-    kind(BYTE_ARRAY, "GByteArray", "bytes", Class::Elements { width: 1 }),
-    kind(UINT32_ARRAY, "GUint32Array", "u32s", Class::Elements { width: 4 }),
-    kind(UINT64_ARRAY, "GUint64Array", "u64s", Class::Elements { width: 8 }),
-    kind(TAGGED_UNION, "GTaggedUnion", "union", Class::Union),
-];
+kinds! {
+    0 CONSTANT "GConstant" "constant" Class::Constant;
+    1 UINT32 "GUint32" "u32" Class::Number { width: 4 };
+    2 UINT64 "GUint64" "u64" Class::Number { width: 8 };
+    3 ARRAY "GArray" "array" Class::Array;
+    4 TUPLE "GTuple" "tuple" Class::Tuple;
+    5 BYTE_ARRAY "GByteArray" "bytes" Class::Elements { width: 1 };
+    6 UINT32_ARRAY "GUint32Array" "u32s" Class::Elements { width: 4 };
+    7 UINT64_ARRAY "GUint64Array" "u64s" Class::Elements { width: 8 };
+    8 TAGGED_UNION "GTaggedUnion" "union" Class::Union;
+}
 
 #[cfg(test)]
 mod tests {
@@ -92,8 +88,8 @@ mod tests {
     #[test]
     fn the_library_knows_these_kinds_and_no_other() {
         for number in 0..=u32::from(u8::MAX) {
-            let count = u32::from(number == ARRAY);
-            let words = [2, number, 0, count, CONSTANT, 0, 0, 1, 1];
+            let count = u32::from(number == Kind::ARRAY);
+            let words = [2, number, 0, count, Kind::CONSTANT, 0, 0, 1, 1];
             let known = Grammar::check(&words).is_ok();
             assert_eq!(known, KINDS.iter().any(|kind| kind.number == number));
         }

@@ -6,7 +6,7 @@ use std::fmt;
 use crate::ffi::Answer;
 
 /// Where a refusal was found: a word of the grammar, a byte or a row.
-#[derive(Clone, Copy, Debug, PartialEq, Eq)]
+#[derive(Clone, Copy, Debug, PartialEq, Eq, Hash)]
 pub enum Place {
     /// A word of the grammar table.
     Word(u64),
@@ -17,16 +17,16 @@ pub enum Place {
 }
 
 /// Why a call was refused: the refusal's number and its place.
-#[derive(Clone, Copy, Debug, PartialEq, Eq)]
+#[derive(Clone, Copy, Debug, PartialEq, Eq, Hash)]
 pub struct Refusal {
-    /// The number of the refusal, 1 to 19.
+    /// The number of the refusal, one of the constants below.
     pub number: u64,
     /// Where it was found.
     pub place: Place,
 }
 
 /// Why the question whether two records are of the same route was refused, with the record of the refusal.
-#[derive(Clone, Copy, Debug, PartialEq, Eq)]
+#[derive(Clone, Copy, Debug, PartialEq, Eq, Hash)]
 pub enum SameRouteRefusal {
     /// The grammar's refusal, which is of neither record.
     Grammar(Refusal),
@@ -36,28 +36,44 @@ pub enum SameRouteRefusal {
     Second(Refusal),
 }
 
-/// What each refusal means, number 1 first. "There" is its place.
-const MEANINGS: [&str; 19] = [
-    "the table is empty, or its node count is not 1 to 256",
-    "the count of child words is missing or above 1,024, or the table's length does not fit it",
-    "the node's kind is above 8",
-    "the node's first or count breaks the rule of its kind, or reaches past the child words",
-    "the child's number is not above its node's, or there is no such node",
-    "the record or store is longer than 1,048,576 bytes",
-    "the index is above the length",
-    "no row is left for the value that starts there, or too few for the elements that it counts",
-    "the value that starts there is cut short",
-    "no case has the tag of the value that starts there",
-    "the value ends there, and bytes follow it",
-    "the row count is 0, above 4,096 or above the rows given",
-    "the row breaks the layout of a value",
-    "the row's array lies or reaches past the end of the store",
-    "the row's kind, field count or tag does not fit its node of the grammar",
-    "the value's record is longer than 1,048,576 bytes",
-    "the output ends there, before what is to be written does",
-    "there is no such row, or its kind is not 5, 6 or 7",
-    "the input is not a grammar and a record as the program wants them",
-];
+/// Makes the named numbers and the table of the refusals, a line to each: number, name in the
+/// library's source, meaning. "There" is the refusal's place.
+macro_rules! refusals {
+    ($($number:literal $name:ident $meaning:literal)*) => {
+        /// The numbers of the refusals.
+        impl Refusal {
+            $(#[doc = concat!("Number ", $number, ": ", $meaning, ".")]
+            pub const $name: u64 = $number;)*
+        }
+
+        /// The refusals: the number, the constant's name and the meaning of each, number 1 first.
+        pub static REFUSALS: &[(u64, &str, &str)] = &[
+            $(($number, stringify!($name), $meaning)),*
+        ];
+    };
+}
+
+refusals! {
+    1 NODE_COUNT "the table is empty, or its node count is not 1 to 256"
+    2 GRAMMAR_LENGTH "the count of child words is missing or above 1,024, or the table's length does not fit it"
+    3 NODE_KIND "the node's kind is above 8"
+    4 NODE_CHILDREN "the node's first or count breaks the rule of its kind, or reaches past the child words"
+    5 CHILD_NUMBER "the child's number is not above its node's, or there is no such node"
+    6 BYTES_TOO_LONG "the record or store is longer than 1,048,576 bytes"
+    7 INDEX_PAST_END "the index is above the length"
+    8 ROWS_EXHAUSTED "no row is left for the value that starts there, or too few for the elements that it counts"
+    9 BYTES_MISSING "the value that starts there is cut short"
+    10 TAG_UNKNOWN "no case has the tag of the value that starts there"
+    11 BYTES_LEFT_OVER "the value ends there, and bytes follow it"
+    12 ROW_COUNT "the row count is 0, above 4,096 or above the rows given"
+    13 ROW_MALFORMED "the row breaks the layout of a value"
+    14 ARRAY_OUTSIDE_STORE "the row's array lies or reaches past the end of the store"
+    15 NOT_IN_GRAMMAR "the row's kind, field count or tag does not fit its node of the grammar"
+    16 SIZE_TOO_LARGE "the value's record is longer than 1,048,576 bytes"
+    17 OUTPUT_TOO_SHORT "the output ends there, before what is to be written does"
+    18 NOT_AN_ARRAY "there is no such row, or its kind is not 5, 6 or 7"
+    19 INPUT_LAYOUT "the input is not a grammar and a record as the program wants them"
+}
 
 impl fmt::Display for Place {
     fn fmt(&self, f: &mut fmt::Formatter) -> fmt::Result {
@@ -75,13 +91,12 @@ impl Refusal {
     /// ```
     /// use route_record::{Place, Refusal};
     ///
-    /// let refusal = Refusal { number: 9, place: Place::Byte(4) };
+    /// let refusal = Refusal { number: Refusal::BYTES_MISSING, place: Place::Byte(4) };
     /// assert_eq!(refusal.meaning(), "the value that starts there is cut short");
     /// ```
     pub fn meaning(&self) -> &'static str {
-        let place = self.number.checked_sub(1).map(usize::try_from);
-        let meaning = place.and_then(|place| MEANINGS.get(place.ok()?));
-        meaning.copied().unwrap_or("no refusal has this number")
+        let of_number = REFUSALS.iter().find(|(number, ..)| *number == self.number);
+        of_number.map_or("no refusal has this number", |(_, _, meaning)| meaning)
     }
 }
 
@@ -106,10 +121,14 @@ impl Error for Refusal {}
 impl SameRouteRefusal {
     /// The refusal, without whose it is.
     pub fn refusal(&self) -> Refusal {
+        *self.inner()
+    }
+
+    fn inner(&self) -> &Refusal {
         let (SameRouteRefusal::Grammar(refusal)
         | SameRouteRefusal::First(refusal)
         | SameRouteRefusal::Second(refusal)) = self;
-        *refusal
+        refusal
     }
 }
 
@@ -123,7 +142,11 @@ impl fmt::Display for SameRouteRefusal {
     }
 }
 
-impl Error for SameRouteRefusal {}
+impl Error for SameRouteRefusal {
+    fn source(&self) -> Option<&(dyn Error + 'static)> {
+        Some(self.inner())
+    }
+}
 
 impl Answer {
     /// The answer itself if the call was accepted, else its refusal.

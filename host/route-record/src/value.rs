@@ -4,7 +4,7 @@ use std::borrow::Cow;
 use std::iter::FusedIterator;
 
 use crate::kind::{Class, Kind, KINDS};
-use crate::{calls, Refusal};
+use crate::{calls, Refusal, ROW_WORDS};
 
 /// A value: rows that stand for one, and the store that their arrays lie in.
 ///
@@ -47,7 +47,7 @@ impl<'a> Value<'a> {
     /// ```
     pub fn check(rows: &'a [u64], n: usize, store: &'a [u8]) -> Result<Value<'a>, Refusal> {
         calls::compute_size_of(rows, n, store)?;
-        Ok(Value::read(&rows[..4 * n], store))
+        Ok(Value::read(&rows[..ROW_WORDS * n], store))
     }
 
     /// The value of rows that the library has read or checked, with no word behind them.
@@ -61,14 +61,14 @@ impl<'a> Value<'a> {
         }
     }
 
-    /// The words of the rows, four to a row.
+    /// The words of the rows, [`ROW_WORDS`] to a row.
     pub fn row_words(&self) -> &[u64] {
         &self.rows
     }
 
     /// How many rows the value has.
     pub fn row_count(&self) -> usize {
-        self.rows.len() / 4
+        self.rows.len() / ROW_WORDS
     }
 
     /// The bytes that the arrays lie in. Of a value just read it is the record.
@@ -121,9 +121,8 @@ impl<'v> Row<'v> {
     }
 
     /// The row's words: kind, span, word 2 and word 3.
-    pub fn words(&self) -> [u64; 4] {
-        let words = &self.value.rows[4 * self.index..][..4];
-        words.try_into().expect("four words")
+    pub fn words(&self) -> &'v [u64] {
+        &self.value.rows[ROW_WORDS * self.index..][..ROW_WORDS]
     }
 
     /// The row's kind.
@@ -133,19 +132,19 @@ impl<'v> Row<'v> {
 
     /// What the row's value is made of.
     pub fn contents(&self) -> Contents<'v> {
-        let [_, _, word2, word3] = self.words();
+        let words = self.words();
         match self.kind().class {
             Class::Constant => Contents::Constant,
-            Class::Number { .. } => Contents::Number(word2),
+            Class::Number { .. } => Contents::Number(words[2]),
             Class::Array => Contents::Array(self.children()),
             Class::Tuple => Contents::Tuple(self.children()),
             Class::Elements { width } => {
-                let (place, count) = (word3 as usize, word2 as usize);
+                let (place, count) = (words[3] as usize, words[2] as usize);
                 let bytes = &self.value.store[place..][..count * width];
                 Contents::Elements(Elements { bytes, width })
             }
             Class::Union => Contents::Case {
-                tag: word2,
+                tag: words[2],
                 value: self.value.row(self.index + 1),
             },
         }

@@ -4,7 +4,9 @@
 use std::thread;
 
 use route_record::calls::locate_array;
-use route_record::{Contents, Grammar, Place, Refusal, Row, Value, KINDS};
+use route_record::{
+    Contents, Grammar, Place, Refusal, Row, Value, KINDS, MAX_BYTES, MAX_ROWS, REFUSALS, ROW_WORDS,
+};
 
 /// A tuple of a uint32, an array of a union of bytes and uint64s, and a tuple of none.
 fn grammar() -> Grammar {
@@ -52,6 +54,7 @@ fn text(row: Row) -> String {
         Contents::Tuple(mut fields) => format!("({})", all(&mut fields)),
         Contents::Elements(elements) => format!("{:?}", elements.numbers().collect::<Vec<_>>()),
         Contents::Case { tag, value } => format!("{tag}:{}", text(value)),
+        other => panic!("{other:?} is no contents of today"),
     }
 }
 
@@ -91,7 +94,7 @@ fn elements_are_where_the_library_locates_them() {
     let (rows, store) = (value.row_words(), value.store());
     let mut located = 0;
     for (_, row) in value.rows() {
-        let expected = locate_array(rows, rows.len() / 4, store, row.index());
+        let expected = locate_array(rows, rows.len() / ROW_WORDS, store, row.index());
         match (row.contents(), expected) {
             (Contents::Elements(elements), Ok((start, length))) => {
                 assert_eq!(
@@ -112,15 +115,15 @@ fn elements_are_where_the_library_locates_them() {
 fn lent_rows_and_rows_in_a_vec_are_the_same() {
     let (grammar, record) = (grammar(), record());
     let in_vec = grammar.demarshall_vec(&record).unwrap();
-    let mut rows = [99; 4 * 9];
+    let mut rows = [99; ROW_WORDS * 9];
     let lent = grammar.demarshall(&record, &mut rows).unwrap();
     assert_eq!(lent.row_words(), in_vec.row_words());
-    assert_eq!(rows[32..], [99; 4]);
+    assert_eq!(rows[ROW_WORDS * 8..], [99; ROW_WORDS]);
 
     let longer = [&[0xff], &record[..], &[0xff]].concat();
     let (in_vec, rest_index) = grammar.parse_val_vec(&longer, 1).unwrap();
     assert_eq!(rest_index, 1 + record.len());
-    let mut rows = [99; 4 * 9];
+    let mut rows = [99; ROW_WORDS * 9];
     let (lent, rest_index) = grammar.parse_val(&longer, 1, &mut rows).unwrap();
     assert_eq!(
         (lent.row_words(), rest_index),
@@ -149,7 +152,7 @@ fn what_was_read_is_written_again() {
 #[test]
 fn a_refusal_changes_no_slice() {
     let (grammar, record) = (grammar(), record());
-    let mut rows = [99; 4 * 9];
+    let mut rows = [99; ROW_WORDS * 9];
     let cut = &record[..record.len() - 1];
     let refusal = Refusal {
         number: 9,
@@ -157,7 +160,7 @@ fn a_refusal_changes_no_slice() {
     };
     assert_eq!(grammar.demarshall(cut, &mut rows).unwrap_err(), refusal);
     assert_eq!(grammar.parse_val(cut, 0, &mut rows).unwrap_err(), refusal);
-    assert_eq!(rows, [99; 4 * 9]);
+    assert_eq!(rows, [99; ROW_WORDS * 9]);
 
     let value = grammar.demarshall_vec(&record).unwrap();
     let mut out = vec![0xff; record.len() - 1];
@@ -179,10 +182,10 @@ fn a_value_of_another_grammar_is_not_written() {
 
 #[test]
 fn a_value_of_more_bytes_than_may_be_written_has_a_size() {
-    let store = vec![0; 1_048_576];
-    let mut rows = vec![3, 4_096, 4_095, 0];
-    rows.extend([5, 1, 1_048_576, 0].repeat(4_095));
-    let value = Value::check(&rows, 4_096, &store).unwrap();
+    let store = vec![0; MAX_BYTES];
+    let mut rows = vec![3, MAX_ROWS as u64, MAX_ROWS as u64 - 1, 0];
+    rows.extend([5, 1, MAX_BYTES as u64, 0].repeat(MAX_ROWS - 1));
+    let value = Value::check(&rows, MAX_ROWS, &store).unwrap();
     assert_eq!(value.size(), 4_293_951_488);
 
     let array_of_bytes = Grammar::check(&[2, 3, 0, 1, 5, 0, 0, 1, 1]).unwrap();
@@ -214,37 +217,30 @@ fn elements_may_be_none() {
 }
 
 #[test]
-fn each_refusal_has_its_meaning() {
-    let meaning = |number| {
+fn each_refusal_has_a_number_a_name_and_a_meaning() {
+    for ((number, name, meaning), expected) in REFUSALS.iter().zip(1..) {
         let place = Place::Row(0);
-        Refusal { number, place }.meaning()
-    };
-    let about = [
-        "node count",
-        "child words",
-        "kind is above",
-        "first or count",
-        "child's number",
-        "longer than 1,048,576",
-        "index is above",
-        "no row is left",
-        "cut short",
-        "no case",
-        "bytes follow",
-        "row count",
-        "layout",
-        "end of the store",
-        "grammar",
-        "record is longer",
-        "output ends",
-        "no such row",
-        "the program wants",
-    ];
-    for (number, part) in (1..).zip(about) {
-        assert!(meaning(number).contains(part), "{number}: {part}");
+        assert_eq!(
+            (
+                *number,
+                Refusal {
+                    number: expected,
+                    place
+                }
+                .meaning()
+            ),
+            (expected, *meaning)
+        );
+        let same = |other: &&(u64, &str, &str)| other.1 == *name || other.2 == *meaning;
+        assert_eq!(REFUSALS.iter().filter(same).count(), 1, "{name}");
     }
+    assert_eq!((REFUSALS.len(), Refusal::INPUT_LAYOUT), (19, 19));
     for number in [0, 20, u64::MAX] {
-        assert_eq!(meaning(number), "no refusal has this number");
+        let refusal = Refusal {
+            number,
+            place: Place::Row(0),
+        };
+        assert_eq!(refusal.meaning(), "no refusal has this number");
     }
 }
 

@@ -1,6 +1,6 @@
 //! Refusals: what is printed, and grammars whose text makes a table that the library refuses.
 
-use route_record::Place;
+use route_record::{Place, MAX_BYTES};
 
 use crate::run::{file, folder, printed, refused, refused_grammar, route};
 
@@ -79,7 +79,8 @@ fn a_text_nested_deeper_than_a_table_can_be() {
 
 #[test]
 fn a_record_longer_than_the_library_reads() {
-    let most = [&1_048_568_u64.to_le_bytes()[..], &[0; 1_048_568]].concat();
+    const COUNT: usize = MAX_BYTES - 8;
+    let most = [&COUNT.to_le_bytes()[..], &[0; COUNT]].concat();
     let got = route(&["check", "-g", "bytes", "-"], &most);
     assert_eq!(got, printed(0, "accepted: rows 1, bytes 1048576\n"));
     let got = route(&["tree", "-g", "bytes", "-"], &[&most[..], &[0]].concat());

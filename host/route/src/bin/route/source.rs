@@ -7,12 +7,9 @@ use std::io::{self, Read};
 use std::path::PathBuf;
 
 use route::{decode, describe_word, parse_grammar, parse_hex, TextError};
-use route_record::{Grammar, Place};
+use route_record::{Grammar, Place, MAX_BYTES};
 
 use crate::answer::Stop;
-
-/// How many bytes of a record are read: more than the library accepts, so that it refuses them.
-const MOST_BYTES: u64 = 1_048_577;
 
 /// Where a grammar or a record comes from.
 #[derive(PartialEq)]
@@ -59,7 +56,8 @@ impl Source {
     pub fn record(&self, hex: bool) -> Result<Vec<u8>, Stop> {
         match hex {
             true => self.parse(&self.bytes(u64::MAX)?, parse_hex),
-            false => self.bytes(MOST_BYTES),
+            // One more than the library accepts, so that it refuses them.
+            false => self.bytes(MAX_BYTES as u64 + 1),
         }
     }
 

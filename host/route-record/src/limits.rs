@@ -1,0 +1,13 @@
+//! The numbers of the format that callers size their slices by.
+
+/// The words of a row.
+pub const ROW_WORDS: usize = 4;
+
+/// The most rows of a value.
+pub const MAX_ROWS: usize = 4_096;
+
+/// The most bytes of a record, and of a store.
+pub const MAX_BYTES: usize = 1_048_576;
+
+/// The most words of a grammar table: of 256 nodes and 1,024 child words.
+pub const MAX_GRAMMAR_WORDS: usize = 2 + 3 * 256 + 1_024;
