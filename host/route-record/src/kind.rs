@@ -2,6 +2,7 @@
 
 /// What a value of a kind is made of.
 #[derive(Clone, Copy, Debug, PartialEq, Eq, Hash)]
+#[non_exhaustive]
 pub enum Class {
     /// Nothing: there is one such value, and it has no bytes.
     Constant,

@@ -168,6 +168,7 @@ impl<'v> Row<'v> {
 
 /// What a value is made of, by the class of its kind.
 #[derive(Clone, Debug)]
+#[non_exhaustive]
 pub enum Contents<'v> {
     /// Nothing.
     Constant,

@@ -18,9 +18,9 @@ enum Arity {
 impl Arity {
     fn of(kind: &Kind) -> Arity {
         match kind.class {
-            Class::Constant | Class::Number { .. } | Class::Elements { .. } => Arity::None,
             Class::Array => Arity::One,
             Class::Tuple | Class::Union => Arity::Any,
+            _ => Arity::None,
         }
     }
 }

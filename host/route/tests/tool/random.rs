@@ -59,7 +59,7 @@ fn text_of(table: &Table, random: &mut Random) -> String {
                 let comma = random.pick(&[",", ", ", " ,\n  "]);
                 format!("{}({})", kind.text, below.join(comma))
             }
-            Class::Constant | Class::Number { .. } | Class::Elements { .. } => kind.text.into(),
+            _ => kind.text.into(),
         };
         let uses = table.children.iter().filter(|&&c| c as usize == k);
         if uses.count() > 1 || random.below(2) == 0 {
@@ -167,7 +167,7 @@ fn counted_starts(tree: &str) -> Vec<usize> {
         let start = start.parse().expect("a number");
         match kind.class {
             Class::Array | Class::Elements { .. } | Class::Union => Some(Some(start)),
-            Class::Constant | Class::Number { .. } | Class::Tuple => Some(None),
+            _ => Some(None),
         }
     };
     let starts = tree.lines().map(|line| start(line).expect(line));

@@ -27,13 +27,13 @@ pub fn tree(value: &Value) -> String {
 fn describe(row: &Row) -> String {
     let kind = row.kind().text;
     match row.contents() {
-        Contents::Constant => kind.to_string(),
         Contents::Number(number) => format!("{kind} {number}"),
         Contents::Array(children) | Contents::Tuple(children) => {
             format!("{kind} of {}", children.count())
         }
         Contents::Elements(elements) => format!("{kind} of {}", list(&elements)),
         Contents::Case { tag, .. } => format!("{kind} tag {tag}"),
+        _ => kind.to_string(),
     }
 }
 
@@ -56,9 +56,9 @@ fn list(elements: &Elements) -> String {
 /// The bytes of a record that are the row's own: rows and their bytes are in the same order.
 fn own_bytes(row: &Row) -> usize {
     match row.kind().class {
-        Class::Constant | Class::Tuple => 0,
         Class::Number { width } => width,
         Class::Array | Class::Union => COUNT_BYTES,
         Class::Elements { width } => COUNT_BYTES + width * row.words()[2] as usize,
+        _ => 0,
     }
 }
