@@ -1,9 +1,11 @@
 // A route is written, read back and cut short.
 
+use std::error::Error;
+
 use route_record::{Grammar, Refusal, Value};
 
-fn main() -> Result<(), Refusal> {
-    let grammar = Grammar::check(&[3, 4, 0, 2, 1, 0, 0, 5, 0, 0, 2, 1, 2])?; // tuple(u32, bytes)
+fn main() -> Result<(), Box<dyn Error>> {
+    let grammar = "tuple(u32, bytes)".parse::<Grammar>()?;
     let route = Value::build(|value| {
         value.tuple(|fields| {
             fields.uint32(7);
@@ -14,6 +16,7 @@ fn main() -> Result<(), Refusal> {
     let value = grammar.demarshall_vec(&record)?;
     assert_eq!(value.root().children().count(), 2);
     let refusal = grammar.demarshall_vec(&record[..13]).unwrap_err();
+    assert_eq!(refusal.number, Refusal::BYTES_MISSING);
     assert_eq!(
         refusal.to_string(),
         "refused 9 at byte 4: the value that starts there is cut short"

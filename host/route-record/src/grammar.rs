@@ -3,25 +3,33 @@
 use crate::value::Value;
 use crate::{calls, Parsed, Refusal, SameRouteRefusal, MAX_BYTES, ROW_WORDS};
 
-/// A grammar table that passed its check.
+/// A grammar table that passed its check. A text gives one too, by [`str::parse`].
 ///
 /// ```
 /// use route_record::{Grammar, Place, Refusal};
 ///
-/// // A tuple of a uint32 and bytes: three nodes, their kinds and children, two child words.
-/// let grammar = Grammar::check(&[3, 4, 0, 2, 1, 0, 0, 5, 0, 0, 2, 1, 2])?;
+/// let grammar = "tuple(u32, bytes)".parse::<Grammar>()?;
 /// let record = [7, 0, 0, 0, 2, 0, 0, 0, 0, 0, 0, 0, 0x41, 0x42];
 /// let value = grammar.demarshall_vec(&record)?;
 /// assert_eq!(value.row_words(), [4, 3, 2, 0, 1, 1, 7, 0, 5, 1, 2, 12]);
 /// assert_eq!(grammar.marshall_vec(&value)?, record);
 ///
-/// let refusal = Refusal { number: 9, place: Place::Byte(4) };
+/// let refusal = Refusal { number: Refusal::BYTES_MISSING, place: Place::Byte(4) };
 /// assert_eq!(grammar.demarshall_vec(&record[..13]).unwrap_err(), refusal);
-/// # Ok::<(), Refusal>(())
+/// # Ok::<(), Box<dyn std::error::Error>>(())
 /// ```
-#[derive(Clone, Debug, PartialEq, Eq)]
+#[derive(Clone, Debug, PartialEq, Eq, Hash)]
 pub struct Grammar {
     words: Vec<u32>,
+}
+
+/// As [`Grammar::check`] does.
+impl TryFrom<&[u32]> for Grammar {
+    type Error = Refusal;
+
+    fn try_from(words: &[u32]) -> Result<Grammar, Refusal> {
+        Grammar::check(words)
+    }
 }
 
 impl Grammar {
@@ -31,10 +39,15 @@ impl Grammar {
     /// ```
     /// use route_record::Grammar;
     ///
+    /// // A tuple of a uint32 and bytes: three nodes, their kinds and children, two child words.
+    /// let grammar = Grammar::check(&[3, 4, 0, 2, 1, 0, 0, 5, 0, 0, 2, 1, 2])?;
+    /// assert_eq!(grammar, "tuple(u32, bytes)".parse().unwrap());
+    ///
     /// let refusal = Grammar::check(&[1, 4, 0, 1, 1, 0]).unwrap_err();
     /// let words = "refused 5 at word 5: \
     ///     the child's number is not above its node's, or there is no such node";
     /// assert_eq!(refusal.to_string(), words);
+    /// # Ok::<(), route_record::Refusal>(())
     /// ```
     pub fn check(words: &[u32]) -> Result<Grammar, Refusal> {
         calls::check_grammar(words)?;
@@ -46,6 +59,21 @@ impl Grammar {
     /// The words of the table.
     pub fn words(&self) -> &[u32] {
         &self.words
+    }
+
+    /// The sections of the table: the node count, the nodes, the count of child words, the child
+    /// words.
+    ///
+    /// ```
+    /// let grammar = "array(u32)".parse::<route_record::Grammar>()?;
+    /// assert_eq!(grammar.sections(), [&[2][..], &[3, 0, 1, 1, 0, 0], &[1], &[1]]);
+    /// # Ok::<(), route_record::GrammarError>(())
+    /// ```
+    pub fn sections(&self) -> [&[u32]; 4] {
+        let (node_count, rest) = self.words.split_at(1);
+        let (nodes, rest) = rest.split_at(3 * node_count[0] as usize);
+        let (child_word_count, child_words) = rest.split_at(1);
+        [node_count, nodes, child_word_count, child_words]
     }
 
     /// How many rows the value that starts at byte `index` has and where it ends. Refused as

@@ -25,6 +25,7 @@ mod kind;
 mod limits;
 mod parsed;
 mod refusal;
+mod text;
 mod value;
 
 pub use builder::Builder;
@@ -33,4 +34,5 @@ pub use kind::{Class, Kind, KINDS};
 pub use limits::{MAX_BYTES, MAX_GRAMMAR_WORDS, MAX_ROWS, ROW_WORDS};
 pub use parsed::Parsed;
 pub use refusal::{Place, Refusal, SameRouteRefusal, REFUSALS};
+pub use text::{GrammarError, Position, TextError};
 pub use value::{Children, Contents, Elements, Row, Rows, Value};

@@ -1,7 +1,7 @@
 //! What an accepted reading gives.
 
 /// The counts that an accepted reading gives.
-#[derive(Clone, Copy, Debug, PartialEq, Eq)]
+#[derive(Clone, Copy, Debug, PartialEq, Eq, Hash)]
 pub struct Parsed {
     /// The number of rows of the value.
     pub rows: usize,

@@ -1,33 +1,47 @@
-//! A record in hexadecimal digits.
+//! Texts that are no grammar: bytes as UTF-8, and a record in hexadecimal digits.
 
-use crate::text::{quote, Position, TextError};
+use std::str;
+
+use route_record::{Position, TextError};
+
+/// The error that something else was expected behind the first part of a text.
+fn error(before: &str, expected: &str, found: String) -> TextError {
+    TextError {
+        position: Position::START.behind(before),
+        expected: expected.to_string(),
+        found,
+    }
+}
+
+/// The text that these bytes are in UTF-8.
+pub fn decode(bytes: &[u8]) -> Result<&str, TextError> {
+    str::from_utf8(bytes).map_err(|fault| {
+        let (text, rest) = bytes.split_at(fault.valid_up_to());
+        let found = format!("byte 0x{:02x}", rest[0]);
+        error(&String::from_utf8_lossy(text), "UTF-8 text", found)
+    })
+}
 
 /// The bytes that a text gives by two hexadecimal digits each. White space is passed over.
 pub fn parse_hex(text: &str) -> Result<Vec<u8>, TextError> {
     let mut bytes = Vec::new();
     let mut high = None;
     for (at, c) in text.char_indices().filter(|(_, c)| !c.is_whitespace()) {
-        let digit = c.to_digit(16).ok_or_else(|| missing_digit(text, at))? as u8;
+        let missing = || error(&text[..at], "a hexadecimal digit", format!("{c:?}"));
+        let digit = c.to_digit(16).ok_or_else(missing)? as u8;
         match high.take() {
             None => high = Some(digit),
             Some(high) => bytes.push(16 * high + digit),
         }
     }
-    match high {
-        None => Ok(bytes),
-        Some(_) => Err(missing_digit(text, text.len())),
-    }
-}
-
-/// The error that there is no digit at this byte of the text.
-fn missing_digit(text: &str, at: usize) -> TextError {
-    let (before, rest) = text.split_at(at);
-    let found: String = rest.chars().take(1).collect();
-    TextError {
-        position: Position::START.behind(before),
-        expected: "a hexadecimal digit".to_string(),
-        found: quote(&found),
-    }
+    let end = || {
+        error(
+            text,
+            "a hexadecimal digit",
+            "the end of the text".to_string(),
+        )
+    };
+    high.map_or(Ok(bytes), |_| Err(end()))
 }
 
 #[cfg(test)]
@@ -36,23 +50,32 @@ mod tests {
 
     #[test]
     fn white_space_is_passed_over() {
-        assert_eq!(parse_hex("").unwrap(), []);
         assert_eq!(parse_hex(" \n").unwrap(), []);
         assert_eq!(parse_hex("00fF\t0 7\r\n41").unwrap(), [0, 255, 7, 0x41]);
     }
 
     #[test]
     fn what_is_no_digit_has_a_position() {
-        for (text, error) in [
-            ("4g", "1:2: expected a hexadecimal digit, found 'g'"),
-            ("41\n0x42", "2:2: expected a hexadecimal digit, found 'x'"),
-            ("ä", "1:1: expected a hexadecimal digit, found 'ä'"),
-            (
-                "41 4\n",
-                "2:1: expected a hexadecimal digit, found the end of the text",
-            ),
+        for (text, position, found) in [
+            ("4g", "1:2", "'g'"),
+            ("41\n0x42", "2:2", "'x'"),
+            ("ä", "1:1", "'ä'"),
+            ("41 4\n", "2:1", "the end of the text"),
         ] {
-            assert_eq!(parse_hex(text).unwrap_err().to_string(), error);
+            let expected = format!("{position}: expected a hexadecimal digit, found {found}");
+            assert_eq!(parse_hex(text).unwrap_err().to_string(), expected);
+        }
+    }
+
+    #[test]
+    fn bytes_that_are_no_text_have_a_position() {
+        assert_eq!(decode("ä\n".as_bytes()), Ok("ä\n"));
+        for (bytes, position, byte) in [
+            (&b"u32 # \xc3\xa4\n \xff("[..], "2:2", "ff"),
+            (b"\xc3", "1:1", "c3"),
+        ] {
+            let expected = format!("{position}: expected UTF-8 text, found byte 0x{byte}");
+            assert_eq!(decode(bytes).unwrap_err().to_string(), expected);
         }
     }
 }

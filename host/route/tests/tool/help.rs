@@ -5,7 +5,7 @@ use std::iter;
 use std::path::Path;
 use std::process::Command;
 
-use route::type_forms;
+use route_record::{Kind, KINDS};
 
 use crate::run::{folder, printed, route, run, Run};
 
@@ -108,7 +108,7 @@ fn every_way_to_ask_for_help() {
 #[test]
 fn the_help_names_every_kind_and_fits_a_terminal() {
     let help = route(&["help"], b"").stdout;
-    let forms = type_forms().collect::<Vec<_>>().join(", ");
+    let forms = KINDS.iter().map(Kind::form).collect::<Vec<_>>().join(", ");
     assert!(help.lines().any(|line| line.trim() == forms), "{forms}");
     let widest = help.lines().map(|line| line.chars().count()).max();
     assert!(widest <= Some(100), "{widest:?}");

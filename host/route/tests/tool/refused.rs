@@ -1,16 +1,8 @@
-//! Refusals: what is printed, and grammars whose text makes a table that the library refuses.
+//! Refusals: what is printed.
 
 use route_record::{Place, MAX_BYTES};
 
 use crate::run::{file, folder, printed, refused, refused_grammar, route};
-
-/// A tuple of so many fields, each a node of its own or all one node.
-fn tuple(fields: usize, field: &str) -> String {
-    format!(
-        "n = u32\ntuple(n{})",
-        format!(", {field}").repeat(fields - 1)
-    )
-}
 
 #[test]
 fn a_refusal_is_one_line_with_number_place_and_words() {
@@ -41,40 +33,6 @@ fn every_command_refuses_a_refused_grammar() {
         let arguments: Vec<&str> = [command].into_iter().chain(arguments).collect();
         assert_eq!(route(&arguments, b""), refusal, "{command}");
     }
-}
-
-#[test]
-fn a_text_of_more_nodes_than_a_table_takes() {
-    let accepted = printed(0, "accepted: nodes 256, child words 255\n");
-    assert_eq!(
-        route(&["check", "-"], tuple(255, "u32").as_bytes()),
-        accepted
-    );
-    let count = "word 0 is the node count: 257 (table length 1029)";
-    let got = route(&["check", "-"], tuple(256, "u32").as_bytes());
-    assert_eq!(got, refused_grammar(1, 0, count));
-}
-
-#[test]
-fn a_text_of_more_child_words_than_a_table_takes() {
-    let accepted = printed(0, "accepted: nodes 2, child words 1024\n");
-    assert_eq!(
-        route(&["check", "-"], tuple(1_024, "n").as_bytes()),
-        accepted
-    );
-    let count = "word 7 is the count of child words: 1025 (table length 1033)";
-    let got = route(&["check", "-"], tuple(1_025, "n").as_bytes());
-    assert_eq!(got, refused_grammar(2, 7, count));
-}
-
-#[test]
-fn a_text_nested_deeper_than_a_table_can_be() {
-    let nested = |depth| format!("{}u32{}", "tuple(".repeat(depth), ")".repeat(depth));
-    let got = route(&["check", "-"], nested(255).as_bytes());
-    assert_eq!(got, printed(0, "accepted: nodes 256, child words 255\n"));
-    let count = "word 0 is the node count: 100001 (table length 400005)";
-    let got = route(&["check", "-"], nested(100_000).as_bytes());
-    assert_eq!(got, refused_grammar(1, 0, count));
 }
 
 #[test]

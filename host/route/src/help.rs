@@ -1,6 +1,6 @@
 //! The help.
 
-use route::type_forms;
+use route_record::{Kind, KINDS};
 
 use crate::commands::{Command, COMMANDS};
 
@@ -32,7 +32,7 @@ pub fn text(command: Option<&Command>) -> String {
         Some(command) => entry(command),
         None => COMMANDS.iter().map(entry).collect(),
     };
-    let forms = type_forms().collect::<Vec<_>>().join(", ");
+    let forms = KINDS.iter().map(Kind::form).collect::<Vec<_>>().join(", ");
     format!(
         "\
 Checks, shows and compares route records.

@@ -2,11 +2,10 @@
 
 use std::collections::HashMap;
 
-use route_record::{Class, Kind, KINDS};
-
-use crate::table::{Node, Nodes};
-use crate::text::{Position, TextError};
-use crate::token::{Token, Tokens};
+use super::error::{Position, TextError};
+use super::table::{Node, Nodes};
+use super::token::{Token, Tokens};
+use crate::{Class, Kind, KINDS};
 
 /// How many children the types of a kind have.
 enum Arity {
@@ -25,13 +24,23 @@ impl Arity {
     }
 }
 
-/// How a type of each kind is written, `T` for a child.
-pub fn type_forms() -> impl Iterator<Item = String> {
-    KINDS.iter().map(|kind| match Arity::of(kind) {
-        Arity::None => kind.text.to_string(),
-        Arity::One => format!("{}(T)", kind.text),
-        Arity::Any => format!("{}(T, ..)", kind.text),
-    })
+impl Kind {
+    /// How a type of the kind is written in a grammar's text, `T` for a child.
+    ///
+    /// ```
+    /// use route_record::{Kind, KINDS};
+    ///
+    /// assert_eq!(KINDS[Kind::UINT32 as usize].form(), "u32");
+    /// assert_eq!(KINDS[Kind::TUPLE as usize].form(), "tuple(T, ..)");
+    /// ```
+    pub fn form(&self) -> String {
+        let children = match Arity::of(self) {
+            Arity::None => "",
+            Arity::One => "(T)",
+            Arity::Any => "(T, ..)",
+        };
+        format!("{}{children}", self.text)
+    }
 }
 
 fn kind_of(text: &str) -> Option<&'static Kind> {
@@ -40,7 +49,7 @@ fn kind_of(text: &str) -> Option<&'static Kind> {
 
 /// The nodes of the grammar that these tokens give. The root reaches all of them, since each
 /// definition is used by an item behind it.
-pub fn parse_types(tokens: Tokens) -> Result<Nodes, TextError> {
+pub fn parse(tokens: Tokens) -> Result<Nodes, TextError> {
     let mut parser = Parser {
         tokens,
         nodes: Vec::new(),
@@ -197,140 +206,5 @@ impl<'a> Parser<'a> {
                 found: "none".to_string(),
             }),
         }
-    }
-}
-
-#[cfg(test)]
-mod tests {
-    use super::*;
-
-    fn words(text: &str) -> Vec<u32> {
-        parse_types(Tokens::of(text)).unwrap().words()
-    }
-
-    fn error(text: &str) -> String {
-        match parse_types(Tokens::of(text)) {
-            Ok(nodes) => panic!("{text:?} gives {:?}", nodes.words()),
-            Err(error) => error.to_string(),
-        }
-    }
-
-    #[test]
-    fn the_grammars_of_the_bench_examples() {
-        let case_a = [3, 4, 0, 2, 1, 0, 0, 5, 0, 0, 2, 1, 2];
-        assert_eq!(words("tuple(u32, bytes)"), case_a);
-        assert_eq!(words("constant"), [1, 0, 0, 0, 0]);
-        let case_c = [2, 3, 0, 1, 0, 0, 0, 1, 1];
-        assert_eq!(words("array(constant)"), case_c);
-        assert_eq!(words("union()"), [1, 8, 0, 0, 0]);
-        assert_eq!(words("u32s"), [1, 6, 0, 0, 0]);
-    }
-
-    #[test]
-    fn every_kind_is_written_by_its_form() {
-        for (kind, form) in KINDS.iter().zip(type_forms()) {
-            let text = form.replace("..", "T").replace('T', "u32");
-            assert_eq!(words(&text)[1], kind.number, "{text}");
-        }
-        assert_eq!(type_forms().count(), KINDS.len());
-    }
-
-    #[test]
-    fn a_name_is_one_node_and_a_kind_one_at_each_use() {
-        let pair = [2, 4, 0, 2, 1, 0, 0, 2, 1, 1];
-        assert_eq!(words("n = u32; tuple(n, n)"), pair);
-        let two = [3, 4, 0, 2, 1, 0, 0, 1, 0, 0, 2, 1, 2];
-        assert_eq!(words("tuple(u32, u32)"), two);
-        assert_eq!(words("n = u32; m = n; tuple(n, m)"), pair);
-        assert_eq!(words("n = u32; n"), [1, 1, 0, 0, 0]);
-    }
-
-    #[test]
-    fn definitions_need_no_separator() {
-        let expected = words("a = u32; b = array(a); tuple(a, b)");
-        for text in [
-            "a = u32\nb = array(a)\ntuple(a, b)\n",
-            "a=u32;b=array(a);tuple(a,b)",
-            "a = u32 b = array(a) tuple(a, b)",
-            "a # the first\n=\nu32\r\n;b = array\n(a)\ntuple(\n  a, # a\n  b\n)",
-        ] {
-            assert_eq!(words(text), expected, "{text:?}");
-        }
-    }
-
-    #[test]
-    fn errors_of_types() {
-        let a_type = "a kind or a name defined before";
-        for (text, position, expected, found) in [
-            ("tuple(u32,\n      bytes x)", "2:13", "')' or ','", "'x'"),
-            ("array(u32, u32)", "1:10", "')'", "','"),
-            ("array()", "1:7", a_type, "')'"),
-            ("tuple(u32,)", "1:11", a_type, "')'"),
-            ("tuple(,)", "1:7", a_type, "','"),
-            ("tuple u32", "1:7", "'('", "'u32'"),
-            ("union", "1:6", "'('", "the end of the text"),
-            ("union(u32", "1:10", "')' or ','", "the end of the text"),
-            ("u32()", "1:4", "the end of the text", "'('"),
-            ("tuple(u32())", "1:10", "')' or ','", "'('"),
-            ("u32 u32", "1:5", "the end of the text", "'u32'"),
-            ("u32;", "1:4", "the end of the text", "';'"),
-            ("U32", "1:1", a_type, "'U32'"),
-            ("tuple(größe, 3)", "1:7", a_type, "'größe'"),
-            ("tuple(u32, 3)", "1:12", a_type, "'3'"),
-            ("\u{feff}u32", "1:1", a_type, "'\\u{feff}'"),
-            ("", "1:1", a_type, "the end of the text"),
-        ] {
-            let error_of = format!("{position}: expected {expected}, found {found}");
-            assert_eq!(error(text), error_of, "{text:?}");
-        }
-    }
-
-    #[test]
-    fn errors_of_definitions() {
-        let a_type = "a kind or a name defined before";
-        for (text, position, expected, found) in [
-            ("a = u32", "1:8", a_type, "the end of the text"),
-            ("a = a; a", "1:5", a_type, "'a'"),
-            ("a = b; b = u32; tuple(a, b)", "1:5", a_type, "'b'"),
-            ("a = ; a", "1:5", a_type, "';'"),
-            ("a = u32;; a", "1:9", a_type, "';'"),
-            ("a; a = u32", "1:1", a_type, "'a'"),
-            ("u32 a = u32", "1:5", "the end of the text", "'a'"),
-            ("\n u32 = u64 u32", "2:2", "a name that is no kind", "'u32'"),
-            (
-                "ä = u32; ä = u64; ä",
-                "1:10",
-                "a name other than that of 1:1",
-                "'ä'",
-            ),
-            (
-                "a = u32\nu64",
-                "1:1",
-                "a use of 'a' behind its definition",
-                "none",
-            ),
-            (
-                "a = u32\nc = a\nb = a\nu64",
-                "2:1",
-                "a use of 'c' behind its definition",
-                "none",
-            ),
-        ] {
-            let error_of = format!("{position}: expected {expected}, found {found}");
-            assert_eq!(error(text), error_of, "{text:?}");
-        }
-    }
-
-    #[test]
-    fn a_text_may_be_nested_deeper_than_calls_can() {
-        let depth = 100_000;
-        let text = format!("{}u32{}", "array(".repeat(depth), ")".repeat(depth));
-        let words = words(&text);
-        assert_eq!(words.len(), 2 + 3 * (depth + 1) + depth);
-        assert_eq!(words[0] as usize, depth + 1);
-        let end = error(&text[..text.len() - 1]);
-        let position = text.len();
-        let expected = "expected ')', found the end of the text";
-        assert_eq!(end, format!("1:{position}: {expected}"));
     }
 }

@@ -6,6 +6,7 @@ mod answer;
 mod arguments;
 mod commands;
 mod help;
+mod hex;
 mod source;
 mod tree;
 

@@ -2,8 +2,6 @@
 
 use std::ops::RangeInclusive;
 
-use route::sections;
-
 use crate::answer::Stop;
 use crate::arguments::Arguments;
 use crate::tree::tree;
@@ -91,7 +89,7 @@ pub static COMMANDS: [Command; 5] = [
 fn check(arguments: &Arguments) -> Result<String, Stop> {
     let grammar = arguments.grammar()?;
     let counts = if arguments.records.is_empty() {
-        let [nodes, _, child_words, _] = sections(grammar.words());
+        let [nodes, _, child_words, _] = grammar.sections();
         format!("nodes {}, child words {}", nodes[0], child_words[0])
     } else {
         let parsed = grammar.check_whole(&arguments.record(0)?)?;
@@ -124,7 +122,7 @@ fn size(arguments: &Arguments) -> Result<String, Stop> {
 
 fn words(arguments: &Arguments) -> Result<String, Stop> {
     let grammar = arguments.grammar()?;
-    let [node_count, nodes, child_word_count, child_words] = sections(grammar.words());
+    let [node_count, nodes, child_word_count, child_words] = grammar.sections();
     let lines = [node_count]
         .into_iter()
         .chain(nodes.chunks(3))

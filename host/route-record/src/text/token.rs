@@ -1,6 +1,6 @@
 //! The tokens of a grammar's text.
 
-use crate::text::{quote, Position, TextError};
+use super::error::{quote, Position, TextError};
 
 /// A name, a number or a single other character. At the text's end it is empty.
 #[derive(Clone, Copy, Debug)]
@@ -110,67 +110,5 @@ impl<'a> Tokens<'a> {
         self.position = self.position.behind(passed);
         self.rest = rest;
         passed
-    }
-}
-
-#[cfg(test)]
-mod tests {
-    use super::*;
-
-    fn tokens(text: &str) -> Vec<String> {
-        let mut tokens = Tokens::of(text);
-        let mut list = Vec::new();
-        loop {
-            let token = tokens.take();
-            list.push(format!("{} {}", token.position, token.text));
-            if token.is_end() {
-                return list;
-            }
-        }
-    }
-
-    #[test]
-    fn names_numbers_and_single_characters() {
-        assert_eq!(
-            tokens("ab_1(0x2F,\tü)==%"),
-            [
-                "1:1 ab_1", "1:5 (", "1:6 0x2F", "1:10 ,", "1:12 ü", "1:13 )", "1:14 =", "1:15 =",
-                "1:16 %", "1:17 "
-            ]
-        );
-    }
-
-    #[test]
-    fn comments_and_white_space_are_no_tokens() {
-        assert_eq!(tokens(" # x\n#\n\r\n a#b"), ["4:2 a", "4:5 "]);
-        assert_eq!(tokens("a\n"), ["1:1 a", "2:1 "]);
-        assert_eq!(tokens(""), ["1:1 "]);
-    }
-
-    #[test]
-    fn a_peek_takes_nothing() {
-        let mut tokens = Tokens::of("a b");
-        assert_eq!((tokens.peek().text, tokens.peek().text), ("a", "a"));
-        assert!(!tokens.take_if("b") && tokens.take_if("a") && tokens.take_if("b"));
-        assert!(tokens.take().is_end() && tokens.take().is_end());
-    }
-
-    #[test]
-    fn names_and_numbers_are_told_by_their_first_character() {
-        let class = |text| {
-            (
-                Tokens::of(text).peek().is_name(),
-                Tokens::of(text).peek().is_number(),
-            )
-        };
-        for (text, expected) in [
-            ("u32", (true, false)),
-            ("_", (true, false)),
-            ("3x", (false, true)),
-            ("(", (false, false)),
-            ("", (false, false)),
-        ] {
-            assert_eq!(class(text), expected, "{text:?}");
-        }
     }
 }

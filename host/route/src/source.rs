@@ -6,10 +6,10 @@ use std::fs::File;
 use std::io::{self, Read};
 use std::path::PathBuf;
 
-use route::{decode, describe_word, parse_grammar, parse_hex, TextError};
-use route_record::{Grammar, Place, MAX_BYTES};
+use route_record::{Grammar, GrammarError, TextError, MAX_BYTES};
 
 use crate::answer::Stop;
+use crate::hex::{decode, parse_hex};
 
 /// Where a grammar or a record comes from.
 #[derive(PartialEq)]
@@ -39,23 +39,26 @@ impl Source {
         }
     }
 
-    /// The grammar that the source holds. If its table is refused, the answer also says what the
-    /// word at the refusal's place is: who wrote types never saw the words.
+    /// The grammar that the source holds.
     pub fn grammar(&self) -> Result<Grammar, Stop> {
-        let words = self.parse(&self.bytes(u64::MAX)?, parse_grammar)?;
-        Grammar::check(&words).map_err(|refusal| match refusal.place {
-            Place::Word(word) => {
-                let description = describe_word(&words, word);
-                Stop::Refused(format!("{refusal}\n{description}\n"))
+        let bytes = self.bytes(u64::MAX)?;
+        let text = decode(&bytes).map_err(|error| self.wrong(error))?;
+        text.parse().map_err(|error| match error {
+            GrammarError::Refused { refusal, word } => {
+                Stop::Refused(format!("{refusal}\n{word}\n"))
             }
-            _ => refusal.into(),
+            GrammarError::Text(error) => self.wrong(error),
         })
     }
 
     /// The record that the source holds, as its bytes or in hexadecimal digits.
     pub fn record(&self, hex: bool) -> Result<Vec<u8>, Stop> {
         match hex {
-            true => self.parse(&self.bytes(u64::MAX)?, parse_hex),
+            true => {
+                let bytes = self.bytes(u64::MAX)?;
+                let record = decode(&bytes).and_then(parse_hex);
+                record.map_err(|error| self.wrong(error))
+            }
             // One more than the library accepts, so that it refuses them.
             false => self.bytes(MAX_BYTES as u64 + 1),
         }
@@ -75,8 +78,8 @@ impl Source {
         read.map_err(fault).map(|_| bytes)
     }
 
-    fn parse<T>(&self, bytes: &[u8], parser: fn(&str) -> Result<T, TextError>) -> Result<T, Stop> {
-        let parsed = decode(bytes).and_then(parser);
-        parsed.map_err(|error| Stop::Failed(format!("{self}:{error}\n")))
+    /// The source's text is wrong.
+    fn wrong(&self, error: TextError) -> Stop {
+        Stop::Failed(format!("{self}:{error}\n"))
     }
 }
