@@ -1,8 +1,6 @@
 //! Making a value for writing: its rows and its store.
 
-use std::cell::Cell;
-use std::marker::PhantomData;
-use std::mem;
+use std::{fmt, mem};
 
 use crate::{calls, Kind, Refusal, Value, ROW_WORDS};
 
@@ -18,19 +16,16 @@ use crate::{calls, Kind, Refusal, Value, ROW_WORDS};
 ///     });
 /// })?;
 ///
-/// let tuple_of_u32_and_bytes = Grammar::check(&[3, 4, 0, 2, 1, 0, 0, 5, 0, 0, 2, 1, 2])?;
+/// let grammar = "tuple(u32, bytes)".parse::<Grammar>()?;
 /// let record = [7, 0, 0, 0, 2, 0, 0, 0, 0, 0, 0, 0, 0x41, 0x42];
-/// assert_eq!(tuple_of_u32_and_bytes.marshall_vec(&value)?, record);
-/// # Ok::<(), route_record::Refusal>(())
+/// assert_eq!(grammar.marshall_vec(&value)?, record);
+/// # Ok::<(), Box<dyn std::error::Error>>(())
 /// ```
-#[derive(Debug)]
-pub struct Builder<'b> {
+pub struct Builder {
     rows: Vec<u64>,
     store: Vec<u8>,
     /// How many children the value whose children are being made has so far.
     children: u64,
-    /// A lifetime of its own for each builder, so that none is put in another's place.
-    own: PhantomData<Cell<&'b ()>>,
 }
 
 impl Value<'_> {
@@ -49,12 +44,11 @@ impl Value<'_> {
     /// assert_eq!(refusal.number, 13);
     /// # Ok::<(), route_record::Refusal>(())
     /// ```
-    pub fn build(make: impl for<'b> FnOnce(&mut Builder<'b>)) -> Result<Value<'static>, Refusal> {
+    pub fn build(make: impl FnOnce(&mut Builder)) -> Result<Value<'static>, Refusal> {
         let mut builder = Builder {
             rows: Vec::new(),
             store: Vec::new(),
             children: 0,
-            own: PhantomData,
         };
         make(&mut builder);
         let Builder { rows, store, .. } = builder;
@@ -63,7 +57,7 @@ impl Value<'_> {
     }
 }
 
-impl<'b> Builder<'b> {
+impl Builder {
     /// A constant.
     pub fn constant(&mut self) {
         self.row(Kind::CONSTANT, 0, 0);
@@ -80,13 +74,13 @@ impl<'b> Builder<'b> {
     }
 
     /// An array whose elements the closure makes.
-    pub fn array(&mut self, elements: impl FnOnce(&mut Builder<'b>)) {
+    pub fn array(&mut self, elements: impl FnOnce(&mut Builder)) {
         let (word2, count) = self.parent(Kind::ARRAY, elements);
         self.rows[word2] = count;
     }
 
     /// A tuple whose fields the closure makes.
-    pub fn tuple(&mut self, fields: impl FnOnce(&mut Builder<'b>)) {
+    pub fn tuple(&mut self, fields: impl FnOnce(&mut Builder)) {
         let (word2, count) = self.parent(Kind::TUPLE, fields);
         self.rows[word2] = count;
     }
@@ -112,7 +106,7 @@ impl<'b> Builder<'b> {
     }
 
     /// The case of this tag of a union, whose one value the closure makes.
-    pub fn tagged_union(&mut self, tag: u64, value: impl FnOnce(&mut Builder<'b>)) {
+    pub fn tagged_union(&mut self, tag: u64, value: impl FnOnce(&mut Builder)) {
         let (word2, _) = self.parent(Kind::TAGGED_UNION, value);
         self.rows[word2] = tag;
     }
@@ -126,7 +120,7 @@ impl<'b> Builder<'b> {
     /// Puts the row of a value with children and the rows that the closure makes; gives where the
     /// row's word 2 stands and how many children were made. The span is 0, which no value has, until
     /// the children are made.
-    fn parent(&mut self, kind: u32, children: impl FnOnce(&mut Builder<'b>)) -> (usize, u64) {
+    fn parent(&mut self, kind: u32, children: impl FnOnce(&mut Builder)) -> (usize, u64) {
         let start = self.rows.len();
         self.rows.extend([kind.into(), 0, 0, 0]);
         let siblings = mem::take(&mut self.children);
@@ -149,6 +143,14 @@ impl<'b> Builder<'b> {
         self.store.resize(place + count * width, 0);
         pack(&mut self.store[place..]).expect("the store has room for the numbers");
         self.row(kind, count as u64, place as u64);
+    }
+}
+
+/// The counts of rows and bytes made so far, which may be many.
+impl fmt::Debug for Builder {
+    fn fmt(&self, f: &mut fmt::Formatter) -> fmt::Result {
+        let (rows, bytes) = (self.rows.len() / ROW_WORDS, self.store.len());
+        write!(f, "Builder(rows {rows}, bytes of the store {bytes})")
     }
 }
 
@@ -199,7 +201,7 @@ mod tests {
     }
 
     /// The refusal of what the closure makes.
-    fn refusal(make: impl for<'b> FnOnce(&mut Builder<'b>)) -> (u64, Place) {
+    fn refusal(make: impl FnOnce(&mut Builder)) -> (u64, Place) {
         let refusal = Value::build(make).unwrap_err();
         (refusal.number, refusal.place)
     }
