@@ -1,32 +1,33 @@
 //! Values: sound rows with their store, and their rows as a tree.
 
 use std::borrow::Cow;
+use std::fmt;
+use std::hash::{Hash, Hasher};
 use std::iter::FusedIterator;
+use std::ops::Range;
 
-use crate::kind::{Class, Kind, KINDS};
-use crate::{calls, Refusal, ROW_WORDS};
+use crate::{calls, Class, Kind, Refusal, KINDS, ROW_WORDS};
 
 /// A value: rows that stand for one, and the store that their arrays lie in.
 ///
 /// ```
-/// use route_record::{Contents, Grammar};
+/// use route_record::Grammar;
 ///
-/// let tuple_of_u32_and_bytes = Grammar::check(&[3, 4, 0, 2, 1, 0, 0, 5, 0, 0, 2, 1, 2])?;
+/// let grammar = "tuple(u32, bytes)".parse::<Grammar>()?;
 /// let record = [7, 0, 0, 0, 2, 0, 0, 0, 0, 0, 0, 0, 0x41, 0x42];
-/// let value = tuple_of_u32_and_bytes.demarshall_vec(&record)?;
+/// let value = grammar.demarshall_vec(&record)?;
 /// assert_eq!(value.size(), 14);
 ///
 /// let fields: Vec<_> = value.root().children().collect();
 /// assert_eq!(fields.len(), 2);
-/// assert!(matches!(fields[0].contents(), Contents::Number(7)));
-/// let Contents::Elements(elements) = fields[1].contents() else { unreachable!() };
-/// assert_eq!(elements.bytes(), b"AB");
+/// assert_eq!(fields[0].number(), Some(7));
+/// assert_eq!(fields[1].elements().unwrap().bytes(), b"AB");
 ///
 /// let depths: Vec<_> = value.rows().map(|(depth, row)| (depth, row.kind().text)).collect();
 /// assert_eq!(depths, [(0, "tuple"), (1, "u32"), (1, "bytes")]);
-/// # Ok::<(), route_record::Refusal>(())
+/// # Ok::<(), Box<dyn std::error::Error>>(())
 /// ```
-#[derive(Clone, Debug)]
+#[derive(Clone)]
 pub struct Value<'a> {
     rows: Cow<'a, [u64]>,
     store: Cow<'a, [u8]>,
@@ -102,13 +103,37 @@ impl<'a> Value<'a> {
         }
     }
 
+    /// The value with rows and store of its own.
+    ///
+    /// ```
+    /// use route_record::{Grammar, Refusal, Value};
+    ///
+    /// fn read(grammar: &Grammar, record: Vec<u8>) -> Result<Value<'static>, Refusal> {
+    ///     Ok(grammar.demarshall_vec(&record)?.into_owned())
+    /// }
+    /// let value = read(&Grammar::check(&[1, 1, 0, 0, 0])?, vec![7, 0, 0, 0])?;
+    /// assert_eq!(value.root().number(), Some(7));
+    /// # Ok::<(), Refusal>(())
+    /// ```
+    pub fn into_owned(self) -> Value<'static> {
+        Value::read(self.rows.into_owned(), self.store.into_owned())
+    }
+
     fn row(&self, index: usize) -> Row<'_> {
         Row { value: self, index }
     }
 }
 
+/// The counts of rows and bytes, which may be many.
+impl fmt::Debug for Value<'_> {
+    fn fmt(&self, f: &mut fmt::Formatter) -> fmt::Result {
+        let (rows, bytes) = (self.row_count(), self.store.len());
+        write!(f, "Value(rows {rows}, bytes of the store {bytes})")
+    }
+}
+
 /// A row of a value, and so the value that starts with it.
-#[derive(Clone, Copy, Debug)]
+#[derive(Clone, Copy)]
 pub struct Row<'v> {
     value: &'v Value<'v>,
     index: usize,
@@ -139,9 +164,13 @@ impl<'v> Row<'v> {
             Class::Array => Contents::Array(self.children()),
             Class::Tuple => Contents::Tuple(self.children()),
             Class::Elements { width } => {
-                let (place, count) = (words[3] as usize, words[2] as usize);
-                let bytes = &self.value.store[place..][..count * width];
-                Contents::Elements(Elements { bytes, width })
+                let (start, count) = (words[3] as usize, words[2] as usize);
+                let bytes = &self.value.store[start..][..count * width];
+                Contents::Elements(Elements {
+                    bytes,
+                    start,
+                    width,
+                })
             }
             Class::Union => Contents::Case {
                 tag: words[2],
@@ -150,19 +179,62 @@ impl<'v> Row<'v> {
         }
     }
 
+    /// The number, of a row that is one.
+    pub fn number(&self) -> Option<u64> {
+        match self.contents() {
+            Contents::Number(number) => Some(number),
+            _ => None,
+        }
+    }
+
+    /// The elements, of a row whose elements lie packed in the store.
+    pub fn elements(&self) -> Option<Elements<'v>> {
+        match self.contents() {
+            Contents::Elements(elements) => Some(elements),
+            _ => None,
+        }
+    }
+
+    /// The tag and the value, of a case of a union.
+    pub fn case(&self) -> Option<(u64, Row<'v>)> {
+        match self.contents() {
+            Contents::Case { tag, value } => Some((tag, value)),
+            _ => None,
+        }
+    }
+
+    /// The child with this number, from 0 on, if there are more. The children before it are passed
+    /// over one by one.
+    pub fn child(&self, number: usize) -> Option<Row<'v>> {
+        self.children().nth(number)
+    }
+
     /// The rows of the children: the elements of an array, the fields of a tuple, the value of a
     /// case; none of another kind.
     pub fn children(&self) -> Children<'v> {
+        let left = match self.kind().class {
+            Class::Array | Class::Tuple => self.words()[2] as usize,
+            Class::Union => 1,
+            _ => 0,
+        };
         Children {
             value: self.value,
             next: self.index + 1,
-            end: self.end(),
+            left,
         }
     }
 
     /// The first row behind the value.
     fn end(&self) -> usize {
         self.index + self.words()[1] as usize
+    }
+}
+
+/// The row's number, kind and words, and no other row.
+impl fmt::Debug for Row<'_> {
+    fn fmt(&self, f: &mut fmt::Formatter) -> fmt::Result {
+        let (index, kind, words) = (self.index, self.kind().text, self.words());
+        write!(f, "Row({index}: {kind} {words:?})")
     }
 }
 
@@ -189,10 +261,12 @@ pub enum Contents<'v> {
     },
 }
 
-/// The numbers of an array that lies packed in the store.
-#[derive(Clone, Copy, Debug, PartialEq, Eq)]
+/// The numbers of an array that lies packed in the store. Equal where bytes and width are,
+/// wherever they lie.
+#[derive(Clone, Copy)]
 pub struct Elements<'v> {
     bytes: &'v [u8],
+    start: usize,
     width: usize,
 }
 
@@ -200,6 +274,22 @@ impl<'v> Elements<'v> {
     /// The packed bytes, a part of the store.
     pub fn bytes(&self) -> &'v [u8] {
         self.bytes
+    }
+
+    /// Where the packed bytes lie in the store.
+    ///
+    /// ```
+    /// use route_record::Value;
+    ///
+    /// let value = Value::check(&[6, 1, 1, 3], 1, &[0, 0, 0, 0x78, 0x56, 0x34, 0x12])?;
+    /// let elements = value.root().elements().unwrap();
+    /// assert_eq!(elements.range(), 3..7);
+    /// assert_eq!(elements.bytes(), &value.store()[3..7]);
+    /// assert!(elements.numbers().eq([305_419_896]));
+    /// # Ok::<(), route_record::Refusal>(())
+    /// ```
+    pub fn range(&self) -> Range<usize> {
+        self.start..self.start + self.bytes.len()
     }
 
     /// The bytes of one number: 1, 4 or 8.
@@ -218,15 +308,6 @@ impl<'v> Elements<'v> {
     }
 
     /// The numbers, as the library unpacks them.
-    ///
-    /// ```
-    /// use route_record::{Contents, Value};
-    ///
-    /// let value = Value::check(&[6, 1, 1, 0], 1, &[0x78, 0x56, 0x34, 0x12])?;
-    /// let Contents::Elements(elements) = value.root().contents() else { unreachable!() };
-    /// assert!(elements.numbers().eq([305_419_896]));
-    /// # Ok::<(), route_record::Refusal>(())
-    /// ```
     pub fn numbers(&self) -> impl Iterator<Item = u64> + 'v {
         let (bytes, width) = (self.bytes, self.width);
         (0..bytes.len()).step_by(width).map(move |index| {
@@ -240,28 +321,61 @@ impl<'v> Elements<'v> {
     }
 }
 
+impl PartialEq for Elements<'_> {
+    fn eq(&self, other: &Elements) -> bool {
+        (self.bytes, self.width) == (other.bytes, other.width)
+    }
+}
+
+impl Eq for Elements<'_> {}
+
+impl Hash for Elements<'_> {
+    fn hash<H: Hasher>(&self, state: &mut H) {
+        (self.bytes, self.width).hash(state);
+    }
+}
+
+/// Width and place, and no element.
+impl fmt::Debug for Elements<'_> {
+    fn fmt(&self, f: &mut fmt::Formatter) -> fmt::Result {
+        write!(
+            f,
+            "Elements(width {}, bytes {:?})",
+            self.width,
+            self.range()
+        )
+    }
+}
+
 /// The rows of a value's children, in order.
 #[derive(Clone, Debug)]
 pub struct Children<'v> {
     value: &'v Value<'v>,
     next: usize,
-    end: usize,
+    left: usize,
 }
 
 impl<'v> Iterator for Children<'v> {
     type Item = Row<'v>;
 
     fn next(&mut self) -> Option<Row<'v>> {
-        let child = (self.next < self.end).then(|| self.value.row(self.next))?;
+        self.left = self.left.checked_sub(1)?;
+        let child = self.value.row(self.next);
         self.next = child.end();
         Some(child)
     }
+
+    fn size_hint(&self) -> (usize, Option<usize>) {
+        (self.left, Some(self.left))
+    }
 }
+
+impl ExactSizeIterator for Children<'_> {}
 
 impl FusedIterator for Children<'_> {}
 
 /// All rows of a value with their depths.
-#[derive(Clone, Debug)]
+#[derive(Clone)]
 pub struct Rows<'v> {
     value: &'v Value<'v>,
     next: usize,
@@ -286,3 +400,9 @@ impl<'v> Iterator for Rows<'v> {
 }
 
 impl FusedIterator for Rows<'_> {}
+
+impl fmt::Debug for Rows<'_> {
+    fn fmt(&self, f: &mut fmt::Formatter) -> fmt::Result {
+        write!(f, "Rows(next {} of {:?})", self.next, self.value)
+    }
+}

@@ -29,7 +29,7 @@ fn describe(row: &Row) -> String {
     match row.contents() {
         Contents::Number(number) => format!("{kind} {number}"),
         Contents::Array(children) | Contents::Tuple(children) => {
-            format!("{kind} of {}", children.count())
+            format!("{kind} of {}", children.len())
         }
         Contents::Elements(elements) => format!("{kind} of {}", list(&elements)),
         Contents::Case { tag, .. } => format!("{kind} tag {tag}"),
