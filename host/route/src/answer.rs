@@ -1,20 +1,24 @@
-//! Exit statuses, and what is said where a command has no answer to print.
+//! Exit statuses, and what is said where a command does not end with status 0.
 
 use route_record::{Refusal, SameRouteRefusal};
 
-/// The status of a command that was done.
+/// The status of a command that was done; of `same`, that the routes are the same.
 pub const DONE: u8 = 0;
 /// The status of a refusal by the library.
 pub const REFUSED: u8 = 1;
 /// The status of a command line, file or text that the tool can do nothing with.
 pub const FAILED: u8 = 2;
+/// The status of `same` where the routes are different.
+pub const DIFFERENT: u8 = 3;
 
-/// Why a command ended early, in lines to print.
+/// Why a command does not end with status 0, in lines to print.
 pub enum Stop {
     /// The library refused. That is an answer to what was asked, so it goes to standard output.
     Refused(String),
     /// Nothing could be asked. This goes to standard error.
     Failed(String),
+    /// The routes are different. A script that asks whether they are the same takes it for no.
+    Different,
 }
 
 impl From<Refusal> for Stop {

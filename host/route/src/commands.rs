@@ -59,7 +59,7 @@ pub static COMMANDS: [Command; 5] = [
         count: 2..=2,
         takes_index: false,
         records: "FIRST SECOND",
-        summary: "Says whether two records are of the same route.",
+        summary: "Says whether two records are of the same route, and so does the status.",
         example: "echo 07000000 >first.hex; echo 08000000 | route same -g u32 --hex first.hex -",
         printed: "different\n",
         run: same,
@@ -107,9 +107,10 @@ fn show_tree(arguments: &Arguments) -> Result<String, Stop> {
 fn same(arguments: &Arguments) -> Result<String, Stop> {
     let grammar = arguments.grammar()?;
     let (first, second) = (arguments.record(0)?, arguments.record(1)?);
-    let same = grammar.same_route(&first, &second)?;
-    let answer = if same { "same\n" } else { "different\n" };
-    Ok(answer.to_string())
+    match grammar.same_route(&first, &second)? {
+        true => Ok("same\n".to_string()),
+        false => Err(Stop::Different),
+    }
 }
 
 fn size(arguments: &Arguments) -> Result<String, Stop> {

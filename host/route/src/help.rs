@@ -21,13 +21,14 @@ Options:
     -V, --version         the version
 
 Exit status:
-    0    done
+    0    done; for same, the same route
     1    refused; standard output gives the refusal, its place and its meaning
     2    bad usage, an unreadable file or a wrong text; standard error says what
 ";
 
 /// The help for a command, or for all.
 pub fn text(command: Option<&Command>) -> String {
+    3    for same, different routes
     let commands: String = match command {
         Some(command) => entry(command),
         None => COMMANDS.iter().map(entry).collect(),

@@ -15,7 +15,7 @@ use std::ffi::OsString;
 use std::io::{self, ErrorKind, Write};
 use std::process::ExitCode;
 
-use answer::{Stop, DONE, FAILED, REFUSED};
+use answer::{Stop, DIFFERENT, DONE, FAILED, REFUSED};
 use arguments::Request;
 
 const VERSION: &str = concat!("route ", env!("CARGO_PKG_VERSION"), "\n");
@@ -25,6 +25,7 @@ fn main() -> ExitCode {
     match answer_to(&arguments) {
         Ok(text) => print(&text, DONE),
         Err(Stop::Refused(text)) => print(&text, REFUSED),
+        Err(Stop::Different) => print("different\n", DIFFERENT),
         Err(Stop::Failed(text)) => fail(&text),
     }
 }

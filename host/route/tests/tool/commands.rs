@@ -103,14 +103,14 @@ fn tree_cuts_long_arrays_and_says_their_count() {
 }
 
 #[test]
-fn same_has_a_word_for_each_answer() {
+fn same_has_a_word_and_a_status_for_each_answer() {
     let folder = folder("same");
     let first = &file(&folder, "first", RECORD);
     let other = &file(&folder, "other", [&[8], &RECORD[1..]].concat());
     let same = |second: &str, stdin: &[u8]| route(&["same", "-g", TYPES, first, second], stdin);
     assert_eq!(same(first, b""), printed(0, "same\n"));
     assert_eq!(same("-", &RECORD), printed(0, "same\n"));
-    assert_eq!(same(other, b""), printed(0, "different\n"));
+    assert_eq!(same(other, b""), printed(3, "different\n"));
     let cut = |record: &str| {
         let refusal = refused(9, Place::Byte(4)).stdout;
         printed(1, &format!("the {record} record: {refusal}"))
