@@ -1,7 +1,7 @@
 //! The command line.
 
 use std::ffi::{OsStr, OsString};
-use std::slice;
+use std::slice::Iter;
 
 use route_record::Grammar;
 
@@ -23,8 +23,12 @@ pub struct Arguments {
     pub records: Vec<Source>,
     /// Whether the records are hexadecimal digits.
     pub hex: bool,
-    /// Where the value starts.
-    pub index: usize,
+    /// Where the value starts, if that was given.
+    pub index: Option<usize>,
+    /// Whether all elements are to be shown.
+    pub all: bool,
+    /// The name of an array in C, if one is wanted.
+    pub c: Option<String>,
 }
 
 impl Arguments {
@@ -43,8 +47,12 @@ impl Arguments {
 struct Given<'a> {
     help: bool,
     hex: bool,
-    grammar: Option<String>,
+    all: bool,
+    grammar: Option<&'a str>,
     index: Option<usize>,
+    c: Option<&'a str>,
+    /// The options by name.
+    options: Vec<&'a str>,
     names: Vec<&'a OsString>,
 }
 
@@ -85,29 +93,16 @@ fn command(name: &OsStr) -> Result<&'static Command, Stop> {
 impl<'a> Given<'a> {
     fn parse(arguments: &'a [OsString]) -> Result<Given<'a>, Stop> {
         let mut given = Given::default();
-        let mut arguments = arguments.iter();
-        while let Some(argument) = arguments.next() {
+        let mut rest = arguments.iter();
+        while let Some(argument) = rest.next() {
             match argument.to_str() {
-                Some("-h" | "--help") => given.help = true,
-                Some("--hex") => given.hex = true,
-                Some(option @ ("-g" | "--grammar")) => {
-                    let text = value_of(option, &mut arguments)?.to_string();
-                    if given.grammar.replace(text).is_some() {
-                        return Err(misused("the grammar is given twice"));
-                    }
-                }
-                Some(option @ "--index") => {
-                    let value = value_of(option, &mut arguments)?;
-                    let fault = || {
-                        misused(&format!(
-                            "{option} wants a number below 2^64, not '{value}'"
-                        ))
-                    };
-                    given.index = Some(value.parse().map_err(|_| fault())?);
-                }
-                Some("--") => given.names.extend(arguments.by_ref()),
+                Some("--") => given.names.extend(rest.by_ref()),
                 Some(option) if option.starts_with('-') && option != "-" => {
-                    return Err(misused(&format!("there is no option '{option}'")));
+                    given.take(option, &mut rest)?;
+                }
+                None if argument.as_encoded_bytes().starts_with(b"-") => {
+                    let option = argument.to_string_lossy();
+                    return Err(misused(&format!("the option '{option}' is not UTF-8")));
                 }
                 _ => given.names.push(argument),
             }
@@ -115,23 +110,65 @@ impl<'a> Given<'a> {
         Ok(given)
     }
 
+    /// Takes an option, whose value is `-gTEXT`, `--grammar=TEXT` or the argument behind it.
+    fn take(&mut self, whole: &'a str, rest: &mut Iter<'a, OsString>) -> Result<(), Stop> {
+        let (option, attached) = match (whole.split_once('='), whole.strip_prefix("-g")) {
+            (Some((option, value)), None) => (option, Some(value)),
+            (_, Some(value)) if !value.is_empty() => ("-g", Some(value)),
+            _ => (whole, None),
+        };
+        let mut value = || attached.map_or_else(|| value_behind(option, rest), Ok);
+        match (option, attached) {
+            ("-h" | "--help", None) => self.help = true,
+            ("--hex", None) => self.hex = true,
+            ("--all", None) => self.all = true,
+            ("-g" | "--grammar", _) => {
+                if self.grammar.replace(value()?).is_some() {
+                    return Err(misused("the grammar is given twice"));
+                }
+            }
+            ("--index", _) => {
+                let value = value()?;
+                let fault = format!("{option} wants a number below 2^64, not '{value}'");
+                self.index = Some(value.parse().map_err(|_| misused(&fault))?);
+            }
+            ("--c", _) => {
+                let name = value()?;
+                if !is_c_name(name) {
+                    let fault = format!("{option} wants a name in C, not '{name}'");
+                    return Err(misused(&fault));
+                }
+                self.c = Some(name);
+            }
+            _ => return Err(misused(&format!("there is no option '{whole}'"))),
+        }
+        self.options.push(option);
+        Ok(())
+    }
+
     /// What the command is given, if it takes this.
     fn arguments_of(self, command: &Command) -> Result<Arguments, Stop> {
         let fault = |fault: &str| Err(misused(&format!("{fault}: {}", command.usage())));
         let mut sources = self.names.into_iter().map(|name| Source::of(name));
-        let Some(grammar) = self.grammar.map(Source::Text).or_else(|| sources.next()) else {
+        let text = self.grammar.map(|text| Source::Text(text.to_string()));
+        let Some(grammar) = text.or_else(|| sources.next()) else {
             return fault("the grammar is missing");
         };
         let records: Vec<Source> = sources.collect();
         let is_stdin = |source: &&Source| **source == Source::StandardInput;
         let stdin_uses = records.iter().chain([&grammar]).filter(is_stdin).count();
         let (count, (least, most)) = (records.len(), command.count.clone().into_inner());
-        let stray_index = self.index.is_some() && !command.takes_index;
+        let is_stray = |option: &&&str| {
+            let is_of = |command: &Command| command.options.contains(option);
+            COMMANDS.iter().any(is_of) && !is_of(command)
+        };
+        if let Some(option) = self.options.iter().find(is_stray) {
+            return fault(&format!("{option} is for another command"));
+        }
         let faults = [
             (count < least, "a record is missing"),
             (count > most, "there are too many arguments"),
             (self.hex && count == 0, "--hex is for records"),
-            (stray_index, "--index is for another command"),
             (stdin_uses > 1, "standard input can be only one of them"),
         ];
         if let Some((_, words)) = faults.iter().find(|(is_so, _)| *is_so) {
@@ -141,15 +178,22 @@ impl<'a> Given<'a> {
             grammar,
             records,
             hex: self.hex,
-            index: self.index.unwrap_or(0),
+            index: self.index,
+            all: self.all,
+            c: self.c.map(str::to_string),
         })
     }
 }
 
 /// The argument behind an option.
-fn value_of<'a>(option: &str, rest: &mut slice::Iter<'a, OsString>) -> Result<&'a str, Stop> {
+fn value_behind<'a>(option: &str, rest: &mut Iter<'a, OsString>) -> Result<&'a str, Stop> {
     let value = rest.next();
     let value = value.ok_or_else(|| misused(&format!("{option} wants a value")))?;
     let text = value.to_str();
     text.ok_or_else(|| misused(&format!("the value of {option} is not UTF-8")))
+}
+
+fn is_c_name(name: &str) -> bool {
+    let is_part = |c: char| c.is_ascii_alphanumeric() || c == '_';
+    name.chars().all(is_part) && name.starts_with(|c: char| !c.is_ascii_digit())
 }

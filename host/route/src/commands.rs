@@ -4,14 +4,15 @@ use std::ops::RangeInclusive;
 
 use crate::answer::Stop;
 use crate::arguments::Arguments;
-use crate::tree::tree;
+use crate::tree::{tree, SHOWN};
 
 /// A command: what it takes, what the help says of it, and what it does.
 pub struct Command {
     pub name: &'static str,
     /// How many records it takes.
     pub count: RangeInclusive<usize>,
-    pub takes_index: bool,
+    /// The options that not every command takes.
+    pub options: &'static [&'static str],
     /// What it takes behind the grammar, as the help writes it.
     pub records: &'static str,
     pub summary: &'static str,
@@ -37,7 +38,7 @@ pub static COMMANDS: [Command; 5] = [
     Command {
         name: "check",
         count: 0..=1,
-        takes_index: false,
+        options: &[],
         records: "[RECORD]",
         summary: "Says whether the grammar is accepted, or the whole record under it.",
         example: "echo 07000000 | route check -g u32 --hex -",
@@ -47,9 +48,9 @@ pub static COMMANDS: [Command; 5] = [
     Command {
         name: "tree",
         count: 1..=1,
-        takes_index: false,
-        records: "RECORD",
-        summary: "Shows the record's value, a line for each row, and where each value starts.",
+        options: &["--index", "--all"],
+        records: "RECORD [--index I] [--all]",
+        summary: "Shows a line for each row of the value, and where each value starts.",
         example: "echo 07000000 0200000000000000 4142 | route tree -g 'tuple(u32, bytes)' --hex -",
         printed: "byte  0  tuple of 2\nbyte  0    u32 7\nbyte  4    bytes of 2: 41 42\n",
         run: show_tree,
@@ -57,7 +58,7 @@ pub static COMMANDS: [Command; 5] = [
     Command {
         name: "same",
         count: 2..=2,
-        takes_index: false,
+        options: &[],
         records: "FIRST SECOND",
         summary: "Says whether two records are of the same route, and so does the status.",
         example: "echo 07000000 >first.hex; echo 08000000 | route same -g u32 --hex first.hex -",
@@ -67,7 +68,7 @@ pub static COMMANDS: [Command; 5] = [
     Command {
         name: "size",
         count: 1..=1,
-        takes_index: true,
+        options: &["--index"],
         records: "RECORD [--index I]",
         summary: "Gives the size of the value that starts at byte I. Bytes may follow it.",
         example: "echo ffff 07000000 ff | route size -g u32 --hex - --index 2",
@@ -77,11 +78,13 @@ pub static COMMANDS: [Command; 5] = [
     Command {
         name: "words",
         count: 0..=0,
-        takes_index: false,
-        records: "",
-        summary: "Prints the words of the grammar's table, for an array in C or Rust.",
-        example: "route words -g 'tuple(u32, bytes)'",
-        printed: "3,\n4, 0, 2,\n1, 0, 0,\n5, 0, 0,\n2,\n1, 2,\n",
+        options: &["--c"],
+        records: "[--c NAME]",
+        summary: "Prints the words of the grammar's table, or with --c an array in C of them.",
+        example: "route words -g 'tuple(u32, bytes)' --c route_grammar",
+        printed:
+            "static const uint32_t route_grammar[] = {\n    3,\n    4, 0, 2,\n    1, 0, 0,\n    \
+                  5, 0, 0,\n    2,\n    1, 2,\n};\n",
         run: words,
     },
 ];
@@ -101,7 +104,12 @@ fn check(arguments: &Arguments) -> Result<String, Stop> {
 fn show_tree(arguments: &Arguments) -> Result<String, Stop> {
     let grammar = arguments.grammar()?;
     let record = arguments.record(0)?;
-    Ok(tree(&grammar.demarshall_vec(&record)?))
+    let value = match arguments.index {
+        Some(index) => grammar.parse_val_vec(&record, index)?.0,
+        None => grammar.demarshall_vec(&record)?,
+    };
+    let shown = if arguments.all { usize::MAX } else { SHOWN };
+    Ok(tree(&value, arguments.index.unwrap_or(0), shown))
 }
 
 fn same(arguments: &Arguments) -> Result<String, Stop> {
@@ -116,9 +124,12 @@ fn same(arguments: &Arguments) -> Result<String, Stop> {
 fn size(arguments: &Arguments) -> Result<String, Stop> {
     let grammar = arguments.grammar()?;
     let record = arguments.record(0)?;
-    let (value, _) = grammar.parse_val_vec(&record, arguments.index)?;
-    let (rows, size) = (value.rows().count(), value.size());
-    Ok(format!("rows {rows}, bytes {size}\n"))
+    let (value, _) = grammar.parse_val_vec(&record, arguments.index.unwrap_or(0))?;
+    Ok(format!(
+        "rows {}, bytes {}\n",
+        value.row_count(),
+        value.size()
+    ))
 }
 
 fn words(arguments: &Arguments) -> Result<String, Stop> {
@@ -129,9 +140,14 @@ fn words(arguments: &Arguments) -> Result<String, Stop> {
         .chain(nodes.chunks(3))
         .chain([child_word_count])
         .chain(child_words.chunks(16));
+    let indent = if arguments.c.is_some() { "    " } else { "" };
     let line = |words: &[u32]| {
         let words: Vec<String> = words.iter().map(u32::to_string).collect();
-        words.join(", ") + ",\n"
+        format!("{indent}{},\n", words.join(", "))
     };
-    Ok(lines.map(line).collect())
+    let lines: String = lines.map(line).collect();
+    Ok(match &arguments.c {
+        Some(name) => format!("static const uint32_t {name}[] = {{\n{lines}}};\n"),
+        None => lines,
+    })
 }

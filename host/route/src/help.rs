@@ -14,9 +14,13 @@ Or it is the words of the grammar's table, decimal or 0x.., separated by white
 space or commas.
 
 Options:
-    -g, --grammar TEXT    the grammar itself; there is no argument GRAMMAR then
+    -g, --grammar TEXT    the grammar itself; there is no argument GRAMMAR then.
+                          Also -gTEXT and --grammar=TEXT
     --hex                 records are hexadecimal digits; white space is ignored
-    --index I             the byte where the value starts, 0 if not given
+    --index I             the byte where the value starts; bytes may follow it.
+                          Without it size starts at 0 and tree reads it whole
+    --all                 all elements of arrays, not the first 16 of each
+    --c NAME              the definition of an array in C
     -h, --help            this help; behind a command, the help for it
     -V, --version         the version
 
@@ -24,22 +28,26 @@ Exit status:
     0    done; for same, the same route
     1    refused; standard output gives the refusal, its place and its meaning
     2    bad usage, an unreadable file or a wrong text; standard error says what
+    3    for same, different routes
 ";
 
 /// The help for a command, or for all.
 pub fn text(command: Option<&Command>) -> String {
-    3    for same, different routes
     let commands: String = match command {
         Some(command) => entry(command),
         None => COMMANDS.iter().map(entry).collect(),
     };
-    let forms = KINDS.iter().map(Kind::form).collect::<Vec<_>>().join(", ");
+    let (with_children, without): (Vec<String>, Vec<String>) = KINDS
+        .iter()
+        .map(Kind::form)
+        .partition(|form| form.contains('('));
+    let forms = format!("{},\n    {}", without.join(", "), with_children.join(", "));
     format!(
         "\
 Checks, shows and compares route records.
 
 {commands}\
-Arguments are files; one of them may be -, standard input. A record is raw bytes.
+Arguments are files; one may be -, standard input. A record is raw bytes.
 A grammar is a type, where T is again a type:
     {forms}
 {NOTES}"

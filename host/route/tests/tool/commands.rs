@@ -29,6 +29,8 @@ fn a_grammar_and_a_record_come_from_files_or_standard_input() {
         check(&[grammar, "--hex", "-"], HEX.as_bytes());
         check(&["-g", text, record], b"");
         check(&[record, "--grammar", text], b"");
+        check(&[record, &format!("-g{text}")], b"");
+        check(&[&format!("--grammar={text}"), record], b"");
         check(&["-g", text, "--hex", "--", hex], b"");
     }
 }
@@ -72,13 +74,13 @@ byte 75    u64 7
 }
 
 /// What the tree of an array of the numbers from 0 on says behind the count.
-fn elements(grammar: &str, width: usize, count: u8) -> String {
+fn elements(grammar: &str, width: usize, count: u8, options: &[&str]) -> String {
     let mut record = u64::from(count).to_le_bytes().to_vec();
     for number in 0..count {
         record.push(number);
         record.resize(record.len() + width - 1, 0);
     }
-    let line = route(&["tree", "-g", grammar, "-"], &record).stdout;
+    let line = route(&[&["tree", "-g", grammar, "-"], options].concat(), &record).stdout;
     let (_, elements) = line
         .split_once(&format!("{grammar} of {count}"))
         .expect(&line);
@@ -86,19 +88,26 @@ fn elements(grammar: &str, width: usize, count: u8) -> String {
 }
 
 #[test]
-fn tree_cuts_long_arrays_and_says_their_count() {
-    let bytes = ": 00 01 02 03 04 05 06 07 08 09 0a 0b 0c 0d 0e 0f";
-    let numbers = ": 0 1 2 3 4 5 6 7 8 9 10 11 12 13 14 15";
-    for (grammar, width, all) in [
-        ("bytes", 1, bytes),
-        ("u32s", 4, numbers),
-        ("u64s", 8, numbers),
-    ] {
-        let elements = |count| elements(grammar, width, count);
-        assert_eq!(elements(0), "\n");
-        assert_eq!(elements(16), format!("{all}\n"));
-        assert_eq!(elements(17), format!("{all} and 1 more\n"));
-        assert_eq!(elements(255), format!("{all} and 239 more\n"));
+fn tree_cuts_long_arrays_unless_all_is_asked_for() {
+    for (grammar, width) in [("bytes", 1), ("u32s", 4), ("u64s", 8)] {
+        let numbers = |count: u8| {
+            let number = |n| {
+                if width == 1 {
+                    format!("{n:02x}")
+                } else {
+                    format!("{n}")
+                }
+            };
+            (0..count).map(number).collect::<Vec<_>>().join(" ")
+        };
+        let first = numbers(16);
+        let cut = |count| elements(grammar, width, count, &[]);
+        assert_eq!(cut(0), "\n");
+        assert_eq!(cut(16), format!(": {first}\n"));
+        assert_eq!(cut(17), format!(": {first} and 1 more\n"));
+        assert_eq!(cut(255), format!(": {first} and 239 more\n"));
+        let all = elements(grammar, width, 255, &["--all"]);
+        assert_eq!(all, format!(": {}\n", numbers(255)));
     }
 }
 
@@ -136,6 +145,18 @@ fn size_starts_at_the_index_and_ignores_what_follows() {
 }
 
 #[test]
+fn tree_starts_at_the_index_and_ignores_what_follows() {
+    let record = [&[0xff; 98], &RECORD[..], &[0xee]].concat();
+    let tree = |index: &str| route(&["tree", "-g", TYPES, "-", index], &record);
+    let rows = "byte  98  tuple of 2\nbyte  98    u32 7\nbyte 102    bytes of 2: 41 42\n";
+    assert_eq!(tree("--index=98"), printed(0, rows));
+    assert_eq!(tree("--index=99"), refused(9, Place::Byte(103)));
+    assert_eq!(tree("--index=114"), refused(7, Place::Byte(114)));
+    let whole = route(&["tree", "-g", TYPES, "-"], &record[98..]);
+    assert_eq!(whole, refused(11, Place::Byte(14)));
+}
+
+#[test]
 fn words_print_a_table_that_is_read_again() {
     for text in [TYPES, WORDS] {
         assert_eq!(route(&["words", "-g", text], b""), printed(0, WORDS));
@@ -164,4 +185,9 @@ fn words_of_many_children_take_several_lines() {
     assert_eq!(route(&["words", "-g", &text], b""), printed(0, &words));
     let no_child = route(&["words", "-g", "u32"], b"");
     assert_eq!(no_child, printed(0, "1,\n1, 0, 0,\n0,\n"));
+    let array = "static const uint32_t _u32[] = {\n    1,\n    1, 0, 0,\n    0,\n};\n";
+    assert_eq!(
+        route(&["words", "-gu32", "--c", "_u32"], b""),
+        printed(0, array)
+    );
 }

@@ -33,9 +33,15 @@ fn commands_and_options_that_are_none() {
             "--index wants a number below 2^64, not '-1'",
         ),
         (
-            "size --index 1.5",
+            "size --index=1.5",
             "--index wants a number below 2^64, not '1.5'",
         ),
+        ("tree --all=1", "there is no option '--all=1'"),
+        ("tree -gu32 --grammar=u64", "the grammar is given twice"),
+        ("words --c", "--c wants a value"),
+        ("words --c 3x", "--c wants a name in C, not '3x'"),
+        ("words --c=", "--c wants a name in C, not ''"),
+        ("words --c=a-b", "--c wants a name in C, not 'a-b'"),
     ] {
         assert_misused(line, fault);
     }
@@ -44,9 +50,9 @@ fn commands_and_options_that_are_none() {
 #[test]
 fn arguments_that_a_command_does_not_take() {
     let check = "route check GRAMMAR [RECORD]";
-    let tree = "route tree GRAMMAR RECORD";
+    let tree = "route tree GRAMMAR RECORD [--index I] [--all]";
     let same = "route same GRAMMAR FIRST SECOND";
-    let words = "route words GRAMMAR";
+    let words = "route words GRAMMAR [--c NAME]";
     for (line, fault, usage) in [
         ("check", "the grammar is missing", check),
         ("tree g", "a record is missing", tree),
@@ -56,7 +62,9 @@ fn arguments_that_a_command_does_not_take() {
         ("words -g u32 g", "there are too many arguments", words),
         ("words g --hex", "--hex is for records", words),
         ("check g --hex", "--hex is for records", check),
-        ("tree g r --index 0", "--index is for another command", tree),
+        ("check g --index 0", "--index is for another command", check),
+        ("same g r r --all", "--all is for another command", same),
+        ("tree g r --c n", "--c is for another command", tree),
         ("tree - -", "standard input can be only one of them", tree),
         (
             "same -g u32 - -",
@@ -119,6 +127,9 @@ fn bytes_that_are_not_utf_8() {
         OsStr::from_bytes(b"\xff"),
     ];
     let fault = "route: the value of -g is not UTF-8\nTry 'route help'.\n";
+    assert_eq!(route(&text, b""), failed(fault));
+    let text = [OsStr::new("check"), OsStr::from_bytes(b"-g\xff")];
+    let fault = "route: the option '-g\u{fffd}' is not UTF-8\nTry 'route help'.\n";
     assert_eq!(route(&text, b""), failed(fault));
 
     let name = OsStr::from_bytes(b"\xff.grammar");
