@@ -13,6 +13,25 @@
 //!
 //! The library allocates nothing, keeps nothing between calls and starts no thread: calls from
 //! several threads at once are fine. It uses less than 1 MiB of stack.
+//!
+//! # In another project
+//!
+//! ```toml
+//! [dependencies]
+//! route-record = { path = "where/the/repository/is/host/route-record" }
+//! ```
+//!
+//! It links `libroute_c.a`, which `rt staticlib route_c`, run in the repository's root, builds in
+//! `target/staticlib`. An archive that lies elsewhere is found by the variable
+//! `ROUTE_RECORD_LIB_DIR`, its folder, which may stand under `[env]` in the project's
+//! `.cargo/config.toml`. `cargo check` and `cargo doc` need no archive.
+//!
+//! # Where it runs
+//!
+//! On x86-64 Linux, which the archive is built for; a build for another target stops and says so.
+//! Firmware is kept out by that, and by the stack: reading and comparing take less than 64 KiB, but
+//! what walks rows, so writing, up to 1 MiB. The library itself needs no allocator and no operating
+//! system; these bindings use `std`.
 
 #![deny(missing_docs, unsafe_code)]
 
