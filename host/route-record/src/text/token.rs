@@ -3,11 +3,10 @@
 use super::error::{quote, Position, TextError};
 
 /// A name, a number or a single other character. At the text's end it is empty.
-#[derive(Clone, Copy, Debug)]
+#[derive(Clone, Copy)]
 pub struct Token<'a> {
-    /// The characters.
     pub text: &'a str,
-    /// Where they start.
+    /// Where it starts.
     pub position: Position,
 }
 
@@ -38,77 +37,64 @@ impl Token<'_> {
     }
 }
 
-/// The tokens of the rest of a text.
-#[derive(Clone)]
+/// The tokens of a text that are not taken yet. The end can be taken again and again.
 pub struct Tokens<'a> {
-    rest: &'a str,
-    position: Position,
+    list: Vec<Token<'a>>,
+    next: usize,
 }
 
 impl<'a> Tokens<'a> {
-    /// The tokens of a text.
+    /// The tokens of a text. White space and comments, from `#` to the line's end, are none.
     pub fn of(text: &'a str) -> Tokens<'a> {
-        Tokens {
-            rest: text,
-            position: Position::START,
+        let (mut list, mut rest, mut position) = (Vec::new(), text, Position::START);
+        while let Some(first) = rest.chars().next() {
+            let until = |is_end: fn(char) -> bool| rest.find(is_end).unwrap_or(rest.len());
+            let (length, is_token) = match first {
+                '#' => (until(|c| c == '\n'), false),
+                _ if first.is_whitespace() => (until(|c| !c.is_whitespace()), false),
+                _ => (until(|c| !c.is_alphanumeric() && c != '_'), true),
+            };
+            let (text, behind) = rest.split_at(length.max(first.len_utf8()));
+            if is_token {
+                list.push(Token { text, position });
+            }
+            position = position.behind(text);
+            rest = behind;
         }
+        let text = rest;
+        list.push(Token { text, position });
+        Tokens { list, next: 0 }
+    }
+
+    /// The tokens to come, one of them at least.
+    pub fn ahead(&self) -> &[Token<'a>] {
+        &self.list[self.next..]
     }
 
     /// The next token, which stays the next one.
     pub fn peek(&self) -> Token<'a> {
-        self.clone().take()
+        self.list[self.next]
     }
 
     /// Takes the next token.
     pub fn take(&mut self) -> Token<'a> {
-        self.skip_blanks();
-        let position = self.position;
-        let other = self.rest.chars().next().map_or(0, char::len_utf8);
-        let length = match self.until(|c| !c.is_alphanumeric() && c != '_') {
-            0 => other,
-            word => word,
-        };
-        let text = self.advance(length);
-        Token { text, position }
+        let token = self.peek();
+        self.next += usize::from(!token.is_end());
+        token
     }
 
     /// Takes the next token if it is this one.
     pub fn take_if(&mut self, text: &str) -> bool {
         let found = self.peek().text == text;
-        if found {
-            self.take();
-        }
+        self.next += usize::from(found);
         found
     }
 
     /// Takes the next token, which is to be this one.
     pub fn expect(&mut self, text: &str) -> Result<(), TextError> {
-        let token = self.take();
-        if token.text != text {
-            return Err(token.unexpected(&quote(text)));
+        match self.take_if(text) {
+            true => Ok(()),
+            false => Err(self.peek().unexpected(&quote(text))),
         }
-        Ok(())
-    }
-
-    /// Passes over white space and over comments, from `#` to the line's end.
-    fn skip_blanks(&mut self) {
-        self.advance(self.until(|c| !c.is_whitespace()));
-        while self.rest.starts_with('#') {
-            self.advance(self.until(|c| c == '\n'));
-            self.advance(self.until(|c| !c.is_whitespace()));
-        }
-    }
-
-    /// The bytes before the first such character.
-    fn until(&self, is_end: fn(char) -> bool) -> usize {
-        self.rest.find(is_end).unwrap_or(self.rest.len())
-    }
-
-    /// Passes over this many bytes and gives them.
-    fn advance(&mut self, bytes: usize) -> &'a str {
-        let (passed, rest) = self.rest.split_at(bytes);
-        self.position = self.position.behind(passed);
-        self.rest = rest;
-        passed
     }
 }

@@ -7,24 +7,16 @@ use super::table::{Node, Nodes};
 use super::token::{Token, Tokens};
 use crate::{Class, Kind, KINDS};
 
-/// How many children the types of a kind have.
-enum Arity {
-    None,
-    One,
-    Any,
-}
-
-impl Arity {
-    fn of(kind: &Kind) -> Arity {
-        match kind.class {
-            Class::Array => Arity::One,
-            Class::Tuple | Class::Union => Arity::Any,
-            _ => Arity::None,
+impl Kind {
+    /// The fewest and the most children of the kind's types.
+    fn child_counts(&self) -> (usize, usize) {
+        match self.class {
+            Class::Array => (1, 1),
+            Class::Tuple | Class::Union => (0, usize::MAX),
+            _ => (0, 0),
         }
     }
-}
 
-impl Kind {
     /// How a type of the kind is written in a grammar's text, `T` for a child.
     ///
     /// ```
@@ -34,10 +26,10 @@ impl Kind {
     /// assert_eq!(KINDS[Kind::TUPLE as usize].form(), "tuple(T, ..)");
     /// ```
     pub fn form(&self) -> String {
-        let children = match Arity::of(self) {
-            Arity::None => "",
-            Arity::One => "(T)",
-            Arity::Any => "(T, ..)",
+        let children = match self.child_counts() {
+            (_, 0) => "",
+            (_, 1) => "(T)",
+            _ => "(T, ..)",
         };
         format!("{}{children}", self.text)
     }
@@ -93,8 +85,7 @@ struct Parser<'a> {
 
 impl<'a> Parser<'a> {
     fn is_definition(&self) -> bool {
-        let mut ahead = self.tokens.clone();
-        ahead.take().is_name() && ahead.take().text == "="
+        matches!(self.tokens.ahead(), [name, sign, ..] if name.is_name() && sign.text == "=")
     }
 
     /// Reads `name = type`, and a `;` if there is one.
@@ -154,16 +145,10 @@ impl<'a> Parser<'a> {
             kind,
             children: Vec::new(),
         };
-        let is_whole = match Arity::of(kind) {
-            Arity::None => true,
-            Arity::One => {
-                self.tokens.expect("(")?;
-                false
-            }
-            Arity::Any => {
-                self.tokens.expect("(")?;
-                self.tokens.take_if(")")
-            }
+        let (fewest, most) = kind.child_counts();
+        let is_whole = most == 0 || {
+            self.tokens.expect("(")?;
+            fewest == 0 && self.tokens.take_if(")")
         };
         Ok(match is_whole {
             true => Beginning::Whole(self.add(node)),
@@ -174,11 +159,11 @@ impl<'a> Parser<'a> {
     /// Reads what stands behind a child: `)`, or `,` where a further one may follow.
     fn child_follows(&mut self, parent: &Kind) -> Result<bool, TextError> {
         let token = self.tokens.take();
-        match (token.text, Arity::of(parent)) {
+        match (token.text, parent.child_counts()) {
             (")", _) => Ok(false),
-            (",", Arity::Any) => Ok(true),
-            (_, Arity::Any) => Err(token.unexpected("')' or ','")),
-            _ => Err(token.unexpected("')'")),
+            (_, (_, 1)) => Err(token.unexpected("')'")),
+            (",", _) => Ok(true),
+            _ => Err(token.unexpected("')' or ','")),
         }
     }
 
