@@ -161,45 +161,6 @@ mod tests {
     use super::*;
     use crate::{Grammar, Place, MAX_BYTES, MAX_ROWS};
 
-    #[test]
-    fn every_kind_at_once() {
-        let value = Value::build(|value| {
-            value.tuple(|fields| {
-                fields.constant();
-                fields.uint32(1);
-                fields.uint64(2);
-                fields.array(|elements| {
-                    elements.tagged_union(1, |value| value.uint32(3));
-                    elements.tagged_union(0, |value| value.tuple(|_| ()));
-                });
-                fields.byte_array(&[4, 5]);
-                fields.uint32_array(&[6]);
-                fields.uint64_array(&[7, 8]);
-            });
-        });
-        let value = value.unwrap();
-        let rows = [
-            [4, 12, 7, 0],
-            [0, 1, 0, 0],
-            [1, 1, 1, 0],
-            [2, 1, 2, 0],
-            [3, 5, 2, 0],
-            [8, 2, 1, 0],
-            [1, 1, 3, 0],
-            [8, 2, 0, 0],
-            [4, 1, 0, 0],
-            [5, 1, 2, 0],
-            [6, 1, 1, 2],
-            [7, 1, 2, 6],
-        ];
-        assert_eq!(value.row_words(), rows.concat());
-        let store = [
-            4, 5, 6, 0, 0, 0, 7, 0, 0, 0, 0, 0, 0, 0, 8, 0, 0, 0, 0, 0, 0, 0,
-        ];
-        assert_eq!(value.store(), store);
-        assert_eq!(value.size(), 4 + 8 + (8 + 12 + 8) + 10 + 12 + 24);
-    }
-
     /// The refusal of what the closure makes.
     fn refusal(make: impl FnOnce(&mut Builder)) -> (u64, Place) {
         let refusal = Value::build(make).unwrap_err();

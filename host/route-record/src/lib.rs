@@ -1,5 +1,6 @@
 //! Safe bindings of the proved route-record library. They pass slices to it and hand back its
-//! answers; no answer is decided here. A value's tree is read off rows that the library accepted.
+//! answers; no answer is decided here. A value's tree is read off rows that the library accepted,
+//! and a grammar's text becomes words that the library checks.
 //!
 //! A [`Grammar`] is a table of words that passed its check. It reads a record into a [`Value`],
 //! whose [`Row`]s are a tree, and writes a value as its record. [`Value::build`] makes a value

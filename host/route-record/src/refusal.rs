@@ -167,6 +167,8 @@ impl Answer {
 
 #[cfg(test)]
 mod tests {
+    use std::panic::catch_unwind;
+
     use super::*;
 
     fn answer(number: u64, place_kind: u64) -> Answer {
@@ -180,13 +182,9 @@ mod tests {
     }
 
     #[test]
-    fn number_0_is_accepted_with_its_values() {
+    fn number_0_is_accepted_and_each_place_kind_has_its_place() {
         let accepted = answer(0, 0).into_result().unwrap();
         assert_eq!((accepted.first, accepted.second), (6, 7));
-    }
-
-    #[test]
-    fn each_place_kind_has_its_place() {
         for (kind, place) in [(1, Place::Word(5)), (2, Place::Byte(5)), (3, Place::Row(5))] {
             let refusal = answer(9, kind).into_result().unwrap_err();
             assert_eq!(refusal, Refusal { number: 9, place });
@@ -194,14 +192,9 @@ mod tests {
     }
 
     #[test]
-    #[should_panic(expected = "gave refusal 9 a place of kind 0")]
-    fn a_refusal_without_place_is_a_fault() {
-        let _ = answer(9, 0).into_result();
-    }
-
-    #[test]
-    #[should_panic(expected = "gave refusal 9 a place of kind 4")]
-    fn a_place_of_unknown_kind_is_a_fault() {
-        let _ = answer(9, 4).into_result();
+    fn a_refusal_without_a_place_of_known_kind_is_a_fault() {
+        for kind in [0, 4, u64::MAX] {
+            assert!(catch_unwind(|| answer(9, kind).into_result()).is_err());
+        }
     }
 }

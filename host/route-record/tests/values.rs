@@ -4,7 +4,7 @@
 use std::thread;
 
 use route_record::{
-    Contents, Grammar, Place, Refusal, Row, Value, KINDS, MAX_BYTES, MAX_ROWS, REFUSALS, ROW_WORDS,
+    Grammar, Place, Refusal, Value, KINDS, MAX_BYTES, MAX_ROWS, REFUSALS, ROW_WORDS,
 };
 
 fn grammar() -> Grammar {
@@ -24,40 +24,20 @@ fn record() -> Vec<u8> {
     parts.concat()
 }
 
-/// A value as text, from its tree.
-fn text(row: Row) -> String {
-    let all = |rows: &mut dyn Iterator<Item = Row<'_>>| {
-        let texts: Vec<_> = rows.map(text).collect();
-        texts.join(" ")
-    };
-    match row.contents() {
-        Contents::Constant => "constant".to_string(),
-        Contents::Number(number) => number.to_string(),
-        Contents::Array(mut elements) => format!("[{}]", all(&mut elements)),
-        Contents::Tuple(mut fields) => format!("({})", all(&mut fields)),
-        Contents::Elements(elements) => format!("{:?}", elements.numbers().collect::<Vec<_>>()),
-        Contents::Case { tag, value } => format!("{tag}:{}", text(value)),
-        other => panic!("{other:?} is of no kind"),
-    }
-}
-
 #[test]
-fn the_tree_of_a_value_and_its_rows_in_preorder() {
+fn the_rows_in_preorder_with_their_depths() {
     let record = record();
     let value = grammar().demarshall_vec(&record).unwrap();
-    let expected = "(7 [0:[65, 66] 1:[1, 9223372036854775808]] ())";
-    assert_eq!(text(value.root()), expected);
-
-    let rows = value.rows().map(|(depth, row)| format!("{depth}{row:?}"));
+    let rows = value.rows().map(|(depth, row)| format!("{depth} {row:?}"));
     let expected = [
-        "0Row(0: tuple [4, 8, 3, 0])",
-        "1Row(1: u32 [1, 1, 7, 0])",
-        "1Row(2: array [3, 5, 2, 0])",
-        "2Row(3: union [8, 2, 0, 0])",
-        "3Row(4: bytes [5, 1, 2, 28])",
-        "2Row(5: union [8, 2, 1, 0])",
-        "3Row(6: u64s [7, 1, 2, 46])",
-        "1Row(7: tuple [4, 1, 0, 0])",
+        "0 Row(0: tuple [4, 8, 3, 0])",
+        "1 Row(1: u32 [1, 1, 7, 0])",
+        "1 Row(2: array [3, 5, 2, 0])",
+        "2 Row(3: union [8, 2, 0, 0])",
+        "3 Row(4: bytes [5, 1, 2, 28])",
+        "2 Row(5: union [8, 2, 1, 0])",
+        "3 Row(6: u64s [7, 1, 2, 46])",
+        "1 Row(7: tuple [4, 1, 0, 0])",
     ];
     assert_eq!(rows.collect::<Vec<_>>(), expected);
 }

@@ -51,55 +51,38 @@ pub fn same_route(grammar: &[u32], first: &[u8], second: &[u8]) -> Result<bool, 
 
 #[cfg(test)]
 mod tests {
+    use std::panic::catch_unwind;
+
     use super::*;
     use crate::{Place, Refusal};
 
-    fn accepted(first: u64) -> Answer {
+    fn answer(number: u64, first: u64, second: u64) -> Answer {
         Answer {
-            number: 0,
-            place_kind: 0,
-            place: 0,
-            first,
-            second: 0,
-        }
-    }
-
-    fn refused(record: u64) -> Answer {
-        Answer {
-            number: 9,
+            number,
             place_kind: 2,
             place: 4,
-            first: 0,
-            second: record,
+            first,
+            second,
         }
     }
 
     #[test]
-    fn no_is_0_and_yes_is_1() {
-        assert_eq!(is_same(accepted(0)), Ok(false));
-        assert_eq!(is_same(accepted(1)), Ok(true));
-    }
-
-    #[test]
-    fn each_record_has_its_number() {
+    fn yes_and_no_and_each_record_have_their_number() {
+        assert_eq!(is_same(answer(0, 0, 0)), Ok(false));
+        assert_eq!(is_same(answer(0, 1, 0)), Ok(true));
         let refusal = Refusal {
             number: 9,
             place: Place::Byte(4),
         };
-        assert_eq!(is_same(refused(0)), Err(SameRouteRefusal::Grammar(refusal)));
-        assert_eq!(is_same(refused(1)), Err(SameRouteRefusal::First(refusal)));
-        assert_eq!(is_same(refused(2)), Err(SameRouteRefusal::Second(refusal)));
+        let of_record = |record| is_same(answer(9, 0, record)).unwrap_err();
+        assert_eq!(of_record(0), SameRouteRefusal::Grammar(refusal));
+        assert_eq!(of_record(1), SameRouteRefusal::First(refusal));
+        assert_eq!(of_record(2), SameRouteRefusal::Second(refusal));
     }
 
     #[test]
-    #[should_panic(expected = "gave 2 for yes or no")]
-    fn another_number_for_yes_or_no_is_a_fault() {
-        let _ = is_same(accepted(2));
-    }
-
-    #[test]
-    #[should_panic(expected = "named record 3")]
-    fn a_third_record_is_a_fault() {
-        let _ = is_same(refused(3));
+    fn another_number_for_yes_or_no_or_a_record_is_a_fault() {
+        assert!(catch_unwind(|| is_same(answer(0, 2, 0))).is_err());
+        assert!(catch_unwind(|| is_same(answer(9, 0, 3))).is_err());
     }
 }

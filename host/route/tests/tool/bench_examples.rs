@@ -2,82 +2,59 @@
 
 use route_record::Place;
 
-use crate::run::{printed, refused, refused_grammar, route};
+use crate::run::{printed, refused, refused_grammar, route, Run};
 
-/// Checks the tree of a record under both forms of a grammar.
-fn assert_tree(words: &str, types: &str, record: &str, tree: &str) {
-    let rows = tree.lines().count();
-    let bytes = record.split_whitespace().collect::<String>().len() / 2;
-    let accepted = format!("accepted: rows {rows}, bytes {bytes}\n");
-    let size = format!("rows {rows}, bytes {bytes}\n");
-    for grammar in [words, types] {
-        let answer = |command| route(&[command, "-g", grammar, "--hex", "-"], record.as_bytes());
-        assert_eq!(answer("tree"), printed(0, tree), "{grammar}");
-        assert_eq!(answer("check"), printed(0, &accepted), "{grammar}");
-        assert_eq!(answer("size"), printed(0, &size), "{grammar}");
+const A: [&str; 2] = ["3, 4 0 2, 1 0 0, 5 0 0, 2, 1 2", "tuple(u32, bytes)"];
+const B: [&str; 2] = ["1, 0 0 0, 0", "constant"];
+const C: [&str; 2] = ["2, 3 0 1, 0 0 0, 1, 1", "array(constant)"];
+const D: [&str; 2] = ["1, 8 0 0, 0", "union()"];
+const E: [&str; 2] = ["1, 6 0 0, 0", "u32s"];
+
+/// Runs a command under both forms of a grammar, which give the same.
+fn both([words, types]: [&str; 2], command: &str, record: &str) -> Run {
+    let run = |grammar| route(&[command, "-g", grammar, "--hex", "-"], record.as_bytes());
+    let by_types = run(types);
+    assert_eq!(run(words), by_types, "{command}, {types}, {record}");
+    by_types
+}
+
+#[test]
+fn accepted_records() {
+    let a = "byte  0  tuple of 2\nbyte  0    u32 7\nbyte  4    bytes of 2: 41 42\n";
+    let c = "byte 0  array of 3\nbyte 8    constant\nbyte 8    constant\nbyte 8    constant\n";
+    let e = "byte  0  u32s of 1: 305419896\n";
+    for (grammar, record, rows, bytes, tree) in [
+        (A, "07000000 0200000000000000 4142", 3, 14, a),
+        (B, "", 1, 0, "byte 0  constant\n"),
+        (C, "0300000000000000", 4, 8, c),
+        (E, "0100000000000000 78563412", 1, 12, e),
+    ] {
+        let size = format!("rows {rows}, bytes {bytes}\n");
+        assert_eq!(both(grammar, "tree", record), printed(0, tree));
+        assert_eq!(both(grammar, "size", record), printed(0, &size));
+        let accepted = printed(0, &format!("accepted: {size}"));
+        assert_eq!(both(grammar, "check", record), accepted);
     }
 }
 
-/// Checks the refusal of a record at a byte under both forms of a grammar.
-fn assert_refused(words: &str, types: &str, record: &str, number: u64, byte: u64) {
-    for grammar in [words, types] {
+#[test]
+fn refused_records() {
+    for (grammar, record, number, byte) in [
+        (A, "07000000 0200000000000000 41", 9, 4),
+        (C, "ffffffffffffffff", 8, 0),
+        (C, "03000000000000", 9, 0),
+        (D, "0000000000000000", 10, 0),
+        (D, "", 9, 0),
+        (E, "0000000000000040 78563412", 9, 0),
+    ] {
         for command in ["tree", "check", "size"] {
-            let got = route(&[command, "-g", grammar, "--hex", "-"], record.as_bytes());
             let refusal = refused(number, Place::Byte(byte));
-            assert_eq!(got, refusal, "{command}, {grammar}, {record}");
+            assert_eq!(both(grammar, command, record), refusal);
         }
     }
-}
-
-#[test]
-fn a() {
-    let (words, types) = ("3, 4 0 2, 1 0 0, 5 0 0, 2, 1 2", "tuple(u32, bytes)");
-    assert_tree(
-        words,
-        types,
-        "07000000 0200000000000000 4142",
-        "byte  0  tuple of 2\nbyte  0    u32 7\nbyte  4    bytes of 2: 41 42\n",
-    );
-    assert_refused(words, types, "07000000 0200000000000000 41", 9, 4);
-}
-
-#[test]
-fn b() {
-    let (words, types) = ("1, 0 0 0, 0", "constant");
-    assert_tree(words, types, "", "byte 0  constant\n");
-    let whole = route(&["check", "-g", types, "-"], b"\0");
-    assert_eq!(whole, refused(11, Place::Byte(0)));
-    let tree = route(&["tree", "-g", words, "-"], b"\0");
-    assert_eq!(tree, refused(11, Place::Byte(0)));
-}
-
-#[test]
-fn c() {
-    let (words, types) = ("2, 3 0 1, 0 0 0, 1, 1", "array(constant)");
-    let tree = "byte 0  array of 3\nbyte 8    constant\nbyte 8    constant\nbyte 8    constant\n";
-    assert_tree(words, types, "0300000000000000", tree);
-    assert_refused(words, types, "ffffffffffffffff", 8, 0);
-    assert_refused(words, types, "03000000000000", 9, 0);
-}
-
-#[test]
-fn d() {
-    let (words, types) = ("1, 8 0 0, 0", "union()");
-    assert_refused(words, types, "0000000000000000", 10, 0);
-    assert_refused(words, types, "", 9, 0);
-}
-
-#[test]
-fn e() {
-    let (words, types) = ("1, 6 0 0, 0", "u32s");
-    let tree = "byte  0  u32s of 1: 305419896\n";
-    assert_tree(words, types, "0100000000000000 78563412", tree);
-    assert_refused(words, types, "0000000000000040 78563412", 9, 0);
-}
-
-/// A table of this many constants.
-fn constants(n: usize) -> String {
-    format!("{n}\n{}0\n", "0 0 0\n".repeat(n))
+    for command in ["tree", "check"] {
+        assert_eq!(both(B, command, "00"), refused(11, Place::Byte(0)));
+    }
 }
 
 #[test]
@@ -86,6 +63,7 @@ fn f() {
     let got = route(&["check", "-g", "1, 4 0 1, 1, 0"], b"");
     assert_eq!(got, refused_grammar(5, 5, child));
 
+    let constants = |n| format!("{n}\n{}0\n", "0 0 0\n".repeat(n));
     let got = route(&["check", "-"], constants(256).as_bytes());
     assert_eq!(got, printed(0, "accepted: nodes 256, child words 0\n"));
 

@@ -1,8 +1,10 @@
 //! Every command, with files, standard input and both forms of grammar and record.
 
+use std::process::Command;
+
 use route_record::Place;
 
-use crate::run::{file, folder, printed, refused, route};
+use crate::run::{file, folder, printed, refused, route, run};
 
 const TYPES: &str = "# case A\nroute = tuple(u32, bytes)\nroute\n";
 const WORDS: &str = "3,\n4, 0, 2,\n1, 0, 0,\n5, 0, 0,\n2,\n1, 2,\n";
@@ -185,9 +187,17 @@ fn words_of_many_children_take_several_lines() {
     assert_eq!(route(&["words", "-g", &text], b""), printed(0, &words));
     let no_child = route(&["words", "-g", "u32"], b"");
     assert_eq!(no_child, printed(0, "1,\n1, 0, 0,\n0,\n"));
-    let array = "static const uint32_t _u32[] = {\n    1,\n    1, 0, 0,\n    0,\n};\n";
-    assert_eq!(
-        route(&["words", "-gu32", "--c", "_u32"], b""),
-        printed(0, array)
+}
+
+/// A C compiler takes what the example of the help shows.
+#[test]
+fn words_are_an_array_in_c() {
+    let array = route(&["words", "-gtuple(u32, bytes)", "--c", "_a1"], b"").stdout;
+    let program = format!(
+        "#include <stdint.h>\n{array}_Static_assert(sizeof _a1 == 13 * 4, \"\");\n\
+         int main(void) {{ return _a1[0] != 3; }}\n"
     );
+    let mut compiler = Command::new("cc");
+    compiler.args(["-std=c11", "-Wall", "-Werror", "-fsyntax-only", "-xc", "-"]);
+    assert_eq!(run(&mut compiler, program.as_bytes()), printed(0, ""));
 }

@@ -130,9 +130,3 @@ fn version() {
         assert_eq!(route(&[ask], b""), printed(0, &version));
     }
 }
-
-#[test]
-fn a_tree_is_cut_by_head() {
-    let line = "printf 'ff0f000000000000' | route tree -g 'array(constant)' --hex - | head -n 1";
-    assert_eq!(typed(line, "head"), printed(0, "byte 0  array of 4095\n"));
-}
