@@ -1,6 +1,8 @@
 //! The C interface (`host/c/route_record.h`) behind functions that take slices. All `unsafe` of this
 //! crate is the one block here.
 
+use std::mem::size_of;
+
 /// `route_answer` of the header.
 #[repr(C)]
 #[derive(Debug)]
@@ -11,6 +13,9 @@ pub struct Answer {
     pub first: u64,
     pub second: u64,
 }
+
+// The sizes that the header asserts, of `route_answer` and of `size_t`.
+const _: () = assert!(size_of::<Answer>() == 40 && size_of::<usize>() == 8);
 
 /// Declares a C call and the function of the same parameters that makes it. A slice among the
 /// parameters is a pointer and a length of the C call. The parameters are taken one by one: `[..]`

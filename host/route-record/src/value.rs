@@ -203,7 +203,7 @@ impl<'v> Row<'v> {
         }
     }
 
-    /// The child with this number, from 0 on, if there are more. The children before it are passed
+    /// The child with this number, from 0 on, if there is one. The children before it are passed
     /// over one by one.
     pub fn child(&self, number: usize) -> Option<Row<'v>> {
         self.children().nth(number)
@@ -338,12 +338,8 @@ impl Hash for Elements<'_> {
 /// Width and place, and no element.
 impl fmt::Debug for Elements<'_> {
     fn fmt(&self, f: &mut fmt::Formatter) -> fmt::Result {
-        write!(
-            f,
-            "Elements(width {}, bytes {:?})",
-            self.width,
-            self.range()
-        )
+        let (width, range) = (self.width, self.range());
+        write!(f, "Elements(width {width}, bytes {range:?})")
     }
 }
 
