@@ -1,6 +1,6 @@
 -- The walk's definition as the code takes it: it does not depend on the depth, and what is left of the children decides the whole.
 use mathlib.Core.Path.{_≡_, refl, ap, sym, _∙_}
-use mathlib.Core.Bool.{Bool, true, false, _&&_}
+use mathlib.Core.Bool.{Bool, true, false, _&&_, _||_}
 use mathlib.Core.Logic.{_↔_}
 use mathlib.Core.List.{List}
 use Prim.Native.Nat.{ℕ, zero, suc, _+_, _-_, _*_, _≤_, _<_, zero-le}
@@ -8,7 +8,7 @@ use native.Mathlib.Numerals.{add-one}
 use native.Mathlib.Omega.{arith}
 use lib.ListN.{length}
 use lib.Dec.{leb, ltb, eqb}
-use borrow.Author.Tests.{lt-ltb, le-ltb, ltb-true, le-leb, lt-leb, eq-eqb, ne-eqb}
+use borrow.Author.Tests.{lt-ltb, le-ltb, ltb-true, ltb-false, le-leb, lt-leb, eq-eqb, ne-eqb}
 use Rattle.refusal.specs.Outcome.{Outcome, accepted, refused, bind, test, map, Reason, reason, byte, row}
 use Rattle.refusal.proofs.Outcome.{Post, holds, fails, post-reflects, post-accepted, map-map, test-true, test-false}
 use Rattle.refusal.proofs.Tests.{and-true, next-key, reflects-leb, reflects-ltb, reflects-and}
@@ -124,6 +124,11 @@ module _ (t s : List ℕ) where
   abbrev pub childrenOf : ℕ → ℕ → ℕ → ℕ → Outcome Reason Vals
   childrenOf i end count j = walkChildren t (walkRow t s end) i end count j
 
+  -- no children fill no rows
+  pub children-none : (parent end i : ℕ) → i ≡ end → childrenOf parent end 0 i ≡ accepted vnil
+  unfolding walkChildren
+  children-none parent end i h = test-true _ _ (eq-eqb i end h)
+
   -- a row, then its children
   pub walk-row : (end i : ℕ) → i < end → walkRow t s end i ≡ bind (checkRow (rowAt t i) (length s) i end) (λ count. map (rowValue (kindOf (rowAt t i .kind)) (rowAt t i) s) (childrenOf i (i + rowAt t i .span) count (suc i)))
   unfolding walkTo
@@ -167,6 +172,27 @@ module _ (t s : List ℕ) (parent end left i : ℕ) (h : 0 < left) where
         go : (x : Outcome Reason Val) (y : Outcome Reason Vals) → accepted tt ≡ ends x → ends (bind x (λ v. map (vcons v) y)) ≡ ends y
         go (accepted v) y q = map-map _ _ y
         go (refused f) y q = let z : _≡_ {A = ℕ} 0 1 = cc in absurd (omega arith)
+
+or-false : (a b : Bool) → (a || b) ≡ false → (a ≡ false) × (b ≡ false)
+or-false true b h = let z : _≡_ {A = ℕ} 0 1 = cc in absurd (omega arith)
+or-false false b h = (refl, h)
+
+-- a row that wants no children and has no rows behind its own
+pub childless : (t s : List ℕ) (i count next : ℕ) → i < next → (ltb 0 count || ltb (i + 1) next) ≡ false → accepted tt ≡ ends (childrenOf t s i next count (i + 1))
+childless t s i count next l h =
+    let q = or-false (ltb 0 count) (ltb (i + 1) next) h in
+    let e : count ≡ 0 = omega (arith, ltb-false 0 count (q .0)) in
+    rw e (sym (ap ends (children-none t s i next (i + 1) (omega (arith, ltb-false (i + 1) next (q .1))))))
+
+-- one child that fills all rows comes to what it comes to as a row
+pub only-child : (t s : List ℕ) (parent end : ℕ) → 0 < end → rowAt t 0 .span ≡ end → ends (childrenOf t s parent end 1 0) ≡ ends (walkRow t s end 0)
+only-child t s parent end h e =
+    let n : childrenOf t s parent end 0 (0 + rowAt t 0 .span) ≡ accepted vnil = children-none t s parent end (0 + rowAt t 0 .span) (omega arith) in
+    ap ends (here t s parent end 1 0 (omega arith) h) ∙ rw n (go (walkRow t s end 0))
+  where
+    go : (x : Outcome Reason Val) → ends (bind x (λ v. accepted (vcons v vnil))) ≡ ends x
+    go (accepted v) = refl
+    go (refused f) = refl
 
 pub children-done : (t s : List ℕ) (parent end left i : ℕ) → left ≤ 0 → test (eqb i end) (reason 13 (row parent)) accepted ≡ ends (childrenOf t s parent end left i)
 unfolding walkChildren

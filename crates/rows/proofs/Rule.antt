@@ -23,7 +23,7 @@ use Rattle.tables.specs.Row.{rowWidth, Row, rowAt}
 use Rattle.rows.specs.Layout.{ownRow}
 use Rattle.rows.specs.Walk.{keepsRule, withinStore, childCount, rowValue, checkRow, walkChildren, walkTo, walkRow, walk}
 use Rattle.rows.specs.Rule.{RowOf, StandFor, StandForAll, TableOf}
-use Rattle.rows.proofs.Laws.{Gives, gives-map, row-eq, Passed, row-post, childrenOf, walk-row, reflects-rows}
+use Rattle.rows.proofs.Laws.{Gives, gives-map, row-eq, Passed, row-post, childrenOf, children-none, walk-row, reflects-rows}
 
 -- ---- from the rows to the walk
 
@@ -49,10 +49,6 @@ module _ (t s : List ℕ) where
   pub row-span : (v : Val) (i : ℕ) → StandFor t s i v → rowAt t i .span ≡ rowCount v
   row-span v i h = ap (λ (r : Row). r .span) (own-row v i h) ∙ own-span v (rowAt t i .word3)
 
-  children-none : (parent end i : ℕ) → i ≡ end → childrenOf t s parent end 0 i ≡ accepted vnil
-  unfolding walkChildren
-  children-none parent end i h = test-true _ _ (eq-eqb i end h)
-
   children-more : (parent end count i n : ℕ) (v : Val) (vs : Vals) → i < end → rowAt t i .span ≡ n → walkRow t s end i ≡ accepted v → childrenOf t s parent end count (i + n) ≡ accepted vs → childrenOf t s parent end (suc count) i ≡ accepted (vcons v vs)
   unfolding walkChildren
   children-more parent end count i n v vs h e a b = test-true _ _ (lt-ltb i end h) ∙ rw (a, e, b)
@@ -73,23 +69,23 @@ module _ (t s : List ℕ) where
     unfolding StandFor ownRow rowValue rowCount TypedVal kindOf kinds
 
     pub stands-walk : (v : Val) (i end : ℕ) → TypedVal v → i + rowCount v ≤ end → StandFor t s i v → walkRow t s end i ≡ accepted v
-    stands-walk VConstant i end d h st = passes i end {vs = vnil} st refl (omega arith) h refl refl (children-none i (i + 1) (suc i) (omega arith))
-    stands-walk (VNumber k n) i end d h st = passes i end {vs = vnil} st (number-kind k) (omega arith) h (rw (lt-ltb n (256 ^ width k) d)) refl (children-none i (i + 1) (suc i) (omega arith))
+    stands-walk VConstant i end d h st = passes i end {vs = vnil} st refl (omega arith) h refl refl (children-none t s i (i + 1) (suc i) (omega arith))
+    stands-walk (VNumber k n) i end d h st = passes i end {vs = vnil} st (number-kind k) (omega arith) h (rw (lt-ltb n (256 ^ width k) d)) refl (children-none t s i (i + 1) (suc i) (omega arith))
     stands-walk (VArray vs) i end d h st = passes i end (st .0) refl (omega arith) h refl refl (stands-children vs i (suc i) (i + rowCount (VArray vs)) d (omega arith) (st .1))
     stands-walk (VTuple vs) i end d h st = passes i end (st .0) refl (omega arith) h refl refl (stands-children vs i (suc i) (i + rowCount (VTuple vs)) d (omega arith) (st .1))
     stands-walk (VNumberArray k ns) i end d h st =
         let w = elementWidth k in
         let place = rowAt t i .word3 in
         let e : unpackLittleEndianSeq w (take (w * length ns) (drop place s)) (length ns) ≡ ns = ap (λ (l : List ℕ). unpackLittleEndianSeq w l (length ns)) (st .1 .bytes ∙ sym (append-nil (packLittleEndianSeq w ns))) ∙ unpackSeq-packSeq w ns [] d in
-        passes i end {vs = vnil} (st .0) (elements-kind k) (omega arith) h refl (le-leb (place + w * length ns) (length s) (st .1 .within)) (children-none i (i + 1) (suc i) (omega arith)) ∙ rw e
+        passes i end {vs = vnil} (st .0) (elements-kind k) (omega arith) h refl (le-leb (place + w * length ns) (length s) (st .1 .within)) (children-none t s i (i + 1) (suc i) (omega arith)) ∙ rw e
     stands-walk (VCase c v) i end d h st =
         passes i end (st .0) refl (omega arith) h refl refl
         (children-more i (i + rowCount (VCase c v)) 0 (suc i) (rowCount v) v vnil (omega (arith, rowCount-positive v)) (row-span v (suc i) (st .1))
         (stands-walk v (suc i) (i + rowCount (VCase c v)) (d .1) (omega arith) (st .1))
-        (children-none i (i + rowCount (VCase c v)) (suc i + rowCount v) (omega arith)))
+        (children-none t s i (i + rowCount (VCase c v)) (suc i + rowCount v) (omega arith)))
 
     pub stands-children : (vs : Vals) (parent i end : ℕ) → TypedVals vs → i + rowCounts vs ≡ end → StandForAll t s i vs → childrenOf t s parent end (length (seqV vs)) i ≡ accepted vs
-    stands-children vnil parent i end d h st = children-none parent end i (omega arith)
+    stands-children vnil parent i end d h st = children-none t s parent end i (omega arith)
     stands-children (vcons v vs) parent i end d h st =
         children-more parent end (length (seqV vs)) i (rowCount v) v vs (omega (arith, rowCount-positive v)) (row-span v i (st .0))
         (stands-walk v i end (d .0) (omega arith) (st .0))

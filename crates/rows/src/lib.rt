@@ -1,9 +1,9 @@
 // Value rows: the walk over a row table, the size of the value that its rows stand for, and where an array lies in the store.
 ghost use mathlib.Core.Path.{_≡_};
-ghost use mathlib.Core.Bool.{_&&_};
+ghost use mathlib.Core.Bool.{_&&_, _||_};
 ghost use Prim.Native.Nat.{ℕ, _+_, _*_, _≤_, _<_};
 ghost use lib.ListN.{length};
-ghost use lib.Dec.{leb};
+ghost use lib.Dec.{leb, ltb};
 ghost use Rattle.refusal.specs.Outcome.{accepted, refused, test, map, reason, row as atRow};
 ghost use Rattle.refusal.specs.Meaning.{outcomeOf};
 ghost use Rattle.value.specs.Kinds.{kindOf};
@@ -139,12 +139,31 @@ fn check_row(rows: &[u64], store: &[u8], row: usize, end: usize) -> Wanted
     }
 }
 
-// The children that a row wants, which are to fill its span. Its calls nest once for each level, of which 4,096 rows have 4,096 at most.
-fn check_children(rows: &[u64], store: &[u8], parent: usize, count: u64, end: usize) -> Answer
-    requires { ⌜ (parent < end) × (rowWidth * end ≤ length (now rows)) ⌝ }
-    ensures { λ r. ⌜ outcomeOf r ≡ map (λ _. tt) (walkChildren (now (rows .entry)) (walkRow (now (rows .entry)) (now (store .entry)) end) parent end count (parent + 1)) ⌝ }
+// Whether a row wants children or has rows behind its own, up to `next`.
+fn is_parent(wanted: u64, row: usize, next: usize) -> bool
+    requires { ⌜ row < next ⌝ }
+    ensures { λ r. ⌜ r ≡ (ltb 0 wanted || ltb (row + 1) next) ⌝ }
 {
-    let mut i = parent + 1;
+    if 0 < wanted {
+        return true;
+    }
+    row + 1 < next
+}
+
+// The children that a row wants, from row `first` on, which are to fill the rows up to `end`. A child is called for where it is a
+// parent itself: calls nest once for each level, of which 4,096 rows have 4,096 at most.
+fn check_children(
+    rows: &[u64],
+    store: &[u8],
+    parent: usize,
+    first: usize,
+    count: u64,
+    end: usize,
+) -> Answer
+    requires { ⌜ (first ≤ end) × (rowWidth * end ≤ length (now rows)) ⌝ }
+    ensures { λ r. ⌜ outcomeOf r ≡ map (λ _. tt) (walkChildren (now (rows .entry)) (walkRow (now (rows .entry)) (now (store .entry)) end) parent end count first) ⌝ }
+{
+    let mut i = first;
     let mut left = count;
     while 0 < left {
         if end <= i {
@@ -154,8 +173,10 @@ fn check_children(rows: &[u64], store: &[u8], parent: usize, count: u64, end: us
             Wanted::Refused(r) => return Answer::Refused(r),
             Wanted::Children(inner) => {
                 let next = i + span_at(rows, i) as usize;
-                if let Answer::Refused(r) = check_children(rows, store, i, inner, next) {
-                    return Answer::Refused(r);
+                if is_parent(inner, i, next) {
+                    if let Answer::Refused(r) = check_children(rows, store, i, i + 1, inner, next) {
+                        return Answer::Refused(r);
+                    }
                 }
                 i = next;
             }
@@ -178,7 +199,7 @@ fn count_holds(rows: &[u64], n: usize) -> bool
     ROW_WIDTH * n <= rows.len()
 }
 
-// 6, 12, then the walk from the root, which reaches to n exactly: 13 and 14. No table is assumed sound.
+// 6, 12, then the root, the only child of a table, which reaches to n exactly: 13 and 14. No table is assumed sound.
 pub fn check_rows(rows: &[u64], n: usize, store: &[u8]) -> Answer
     ensures { λ r. ⌜ outcomeOf r ≡ map (λ _. tt) (walk (now (rows .entry)) n (now (store .entry))) ⌝ }
 {
@@ -191,10 +212,7 @@ pub fn check_rows(rows: &[u64], n: usize, store: &[u8]) -> Answer
     if span_at(rows, 0) != n as u64 {
         return Answer::Refused(refusal::at_row(refusal::ROW_MALFORMED, 0));
     }
-    match check_row(rows, store, 0, n) {
-        Wanted::Refused(r) => Answer::Refused(r),
-        Wanted::Children(count) => check_children(rows, store, 0, count, n),
-    }
+    check_children(rows, store, 0, 0, 1, n)
 }
 
 // A row's own bytes, without its children's.

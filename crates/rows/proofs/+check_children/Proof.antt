@@ -1,5 +1,6 @@
 -- The rows up to the end fall with each level; the loop's invariant: what is left of the children from row i on decides the whole.
-use mathlib.Core.Path.{_≡_, refl, ap, _∙_}
+use mathlib.Core.Path.{_≡_, refl, ap, sym, _∙_}
+use mathlib.Core.Logic.{⊎-elim}
 use Prim.Native.Nat.{ℕ, _+_, _-_, _≤_, _<_}
 use native.Mathlib.Omega.{arith}
 use lib.ListN.{length}
@@ -9,7 +10,7 @@ use Rattle.refusal.proofs.Meaning.{done, stopped}
 use Rattle.refusal.specs.Meaning.{outcomeOf}
 use Rattle.tables.specs.Row.{rowAt}
 use Rattle.rows.specs.Walk.{checkRow, walkRow}
-use Rattle.rows.proofs.Laws.{ends, Passed, row-passed, childrenOf, row-refused, row-accepted, child-missing, child-refused, child-accepted, children-done}
+use Rattle.rows.proofs.Laws.{ends, Passed, row-passed, childrenOf, row-refused, row-accepted, child-missing, child-refused, child-accepted, childless, children-done}
 use Rattle.rows.proofs.Meaning.{children, wanted-refused}
 use borrow.Author.Needs.{needs}
 use borrow.Fn.Kinds.{In}
@@ -20,12 +21,13 @@ use Rattle.rows.proofs.+check_children.Lts-check_children as lts
 use Rattle.refusal.proofs.accept_if.Reads as accept-if-reads
 use Rattle.refusal.proofs.at_row.Reads as at-row-reads
 use Rattle.rows.proofs.check_row.Reads as check-row-reads
+use Rattle.rows.proofs.is_parent.Reads as is-parent-reads
 use Rattle.rows.proofs.span_at.Reads as span-at-reads
 use Rattle.rows.proofs.+check_children.{statement}
 use Rattle.rows.proofs.+check_children.Tie.{close}
 
 abbrev μ : Measures 2 kinds.ps ℕ
-μ κs a = a .1 .1 .1 .1 .0 - a .1 .1 .0
+μ κs a = a .1 .1 .1 .1 .1 .0 - a .1 .1 .1 .0
 
 abbrev here : ℕ → In 2 kinds.ps
 here t = and 2 kinds.ps (is 2 kinds.ps μ t) check-children.Pre
@@ -34,16 +36,13 @@ abbrev below : ℕ → In 2 kinds.ps
 below t = and 2 kinds.ps (falls 2 kinds.ps _<_ μ t) check-children.Pre
 
 abbrev calls : ℕ → lts.Claims
-calls t = (at-row-reads.Asked, at-row-reads.Learnt, check-row-reads.Asked, check-row-reads.Learnt, span-at-reads.Asked, span-at-reads.Learnt, below t, check-children.Post, accept-if-reads.Asked, accept-if-reads.Learnt)
+calls t = (at-row-reads.Asked, at-row-reads.Learnt, check-row-reads.Asked, check-row-reads.Learnt, span-at-reads.Asked, span-at-reads.Learnt, is-parent-reads.Asked, is-parent-reads.Learnt, below t, check-children.Post, accept-if-reads.Asked, accept-if-reads.Learnt)
 
 abbrev Inv-loop : lts.InvT-loop
-Inv-loop rows store parent count end i₀ left₀ i left = (parent < i) × (i ≤ end) × (ends (childrenOf rows store parent end left i) ≡ ends (childrenOf rows store parent end count (parent + 1)))
+Inv-loop rows store parent first count end i₀ left₀ i left = (first ≤ i) × (i ≤ end) × (ends (childrenOf rows store parent end left i) ≡ ends (childrenOf rows store parent end count first))
 
 abbrev μ-loop : lts.MeasureT-loop
-μ-loop rows store parent count end i₀ left₀ i left = left
-
-add-i : (t : ℕ) → lts.Need-add-i (calls t) (here t) check-children.Post Inv-loop μ-loop
-add-i t c = search needs
+μ-loop rows store parent first count end i₀ left₀ i left = left
 
 loop-holds : (t : ℕ) → lts.Need-loop-holds (calls t) (here t) check-children.Post Inv-loop μ-loop
 loop-holds t c = (omega arith, omega arith, refl)
@@ -90,28 +89,52 @@ reach : (t : ℕ) (c : lts.After-span-at (calls t) (here t) check-children.Post 
 reach t c = row-passed _ _ _ _ _ (passed t c)
 
 -- and it comes to what its own children come to
+own-children : (t : ℕ) (c : lts.After-span-at (calls t) (here t) check-children.Post Inv-loop μ-loop) →
+    let a = c .before .before .before .before .before .before .before .before .before .before .args in
+    let i = c .before .before .before .before .before .before .before .loop .i in
+    ends (childrenOf (a .rows .now) (a .store .now) i (i + c .span-at .result) (c .before .before .inner .given .0 .0) (i + 1)) ≡ ends (walkRow (a .rows .now) (a .store .now) (a .end) i)
+own-children t c =
+    let a = c .before .before .before .before .before .before .before .before .before .before .args in
+    let i = c .before .before .before .before .before .before .before .loop .i in
+    ap (λ (n : ℕ). ends (childrenOf (a .rows .now) (a .store .now) i (i + n) (c .before .before .inner .given .0 .0) (i + 1))) (c .span-at .ensures) ∙ row-accepted (a .rows .now) (a .store .now) (a .end) i (omega arith) (passed t c)
+
 walked : (t : ℕ) (c : lts.After-check-children (calls t) (here t) check-children.Post Inv-loop μ-loop) →
-    let a = c .before .before .before .before .before .before .before .before .before .before .before .args in
-    let i = c .before .before .before .before .before .before .before .before .loop .i in
-    outcomeOf (c .check-children .result) ≡ ends (walkRow (a .rows .now) (a .store .now) (a .end) i)
-walked t c =
-    let a = c .before .before .before .before .before .before .before .before .before .before .before .args in
-    let i = c .before .before .before .before .before .before .before .before .loop .i in
-    c .check-children .ensures ∙ ap (λ (n : ℕ). ends (childrenOf (a .rows .now) (a .store .now) i (i + n) (c .before .before .before .inner .given .0 .0) (i + 1))) (c .before .span-at .ensures) ∙ row-accepted (a .rows .now) (a .store .now) (a .end) i (omega arith) (passed t (c .before))
+    let a = c .before .before .before .before .before .before .before .before .before .before .before .before .before .args in
+    outcomeOf (c .check-children .result) ≡ ends (walkRow (a .rows .now) (a .store .now) (a .end) (c .before .before .before .before .before .before .before .before .before .before .loop .i))
+walked t c = c .check-children .ensures ∙ own-children t (c .before .before .before)
+
+-- of a row that is no parent there is no more
+alone : (t : ℕ) (c : lts.Else2 (calls t) (here t) check-children.Post Inv-loop μ-loop) →
+    let a = c .before .before .before .before .before .before .before .before .before .before .before .before .args in
+    accepted tt ≡ ends (walkRow (a .rows .now) (a .store .now) (a .end) (c .before .before .before .before .before .before .before .before .before .loop .i))
+alone t c =
+    let a = c .before .before .before .before .before .before .before .before .before .before .before .before .args in
+    let i = c .before .before .before .before .before .before .before .before .before .loop .i in
+    let d = c .before .before in
+    childless (a .rows .now) (a .store .now) i (d .before .before .inner .given .0 .0) (i + d .span-at .result) (omega (arith, reach t d .some, d .span-at .ensures)) (sym (c .before .is-parent .ensures) ∙ c .if2 .left) ∙ own-children t d
 
 add-next : (t : ℕ) → lts.Need-add-next (calls t) (here t) check-children.Post Inv-loop μ-loop
 add-next t c = omega (arith, reach t c .reach, c .span-at .ensures, c .before .before .before .before .before .before .before .before .before .before .fits .end)
 
+is-parent-requires : (t : ℕ) → lts.Need-is-parent-requires (calls t) (here t) check-children.Post Inv-loop μ-loop
+is-parent-requires t c κs = omega (arith, reach t c .some, c .span-at .ensures)
+
+add-check-children : (t : ℕ) → lts.Need-add-check-children (calls t) (here t) check-children.Post Inv-loop μ-loop
+add-check-children t c = search needs
+
 check-children-requires : (t : ℕ) → lts.Need-check-children-requires (calls t) (here t) check-children.Post Inv-loop μ-loop
-check-children-requires t c κs = (omega (arith, reach t c .some, reach t c .reach, c .span-at .ensures), (omega (arith, reach t c .some, c .span-at .ensures), omega (arith, reach t c .reach, c .span-at .ensures)))
+check-children-requires t c κs =
+    let p = reach t (c .before .before) in
+    let e = c .before .before .span-at .ensures in
+    (omega (arith, p .some, p .reach), (omega (arith, p .some), omega (arith, p .reach)))
 
 enum-known-r-2 : (t : ℕ) → lts.Need-enum-known-r-2 (calls t) (here t) check-children.Post Inv-loop μ-loop
 enum-known-r-2 t c = search needs
 
 returns-3 : (t : ℕ) → lts.Need-returns-3 (calls t) (here t) check-children.Post Inv-loop μ-loop
 returns-3 t c =
-    let a = c .before .before .before .before .before .before .before .before .before .before .before .before .before .before .args in
-    let l = c .before .before .before .before .before .before .before .before .before .before .before .loop in
+    let a = c .before .before .before .before .before .before .before .before .before .before .before .before .before .before .before .before .args in
+    let l = c .before .before .before .before .before .before .before .before .before .before .before .before .before .loop in
     child-refused (a .rows .now) (a .store .now) (a .parent) (a .end) (l .left) (l .i) (omega arith) (omega arith) (stopped (c .before .r2 .given .1) (walked t (c .before .before .before))) ∙ l .inv .2
 
 enum-told : (t : ℕ) → lts.Need-enum-told (calls t) (here t) check-children.Post Inv-loop μ-loop
@@ -123,16 +146,30 @@ sub-left t c = search needs
 loop-less : (t : ℕ) → lts.Need-loop-less (calls t) (here t) check-children.Post Inv-loop μ-loop
 loop-less t c = search needs
 
+-- behind the branch the child is accepted, by its children or without any
+child : (t : ℕ) (c : lts.Joined2 (calls t) (here t) check-children.Post Inv-loop μ-loop) →
+    let a = c .before .before .before .before .before .before .before .before .before .before .before .before .args in
+    let i = c .before .before .before .before .before .before .before .before .before .loop .i in
+    (c .if2 .i ≡ i + rowAt (a .rows .now) i .span) × (accepted tt ≡ ends (walkRow (a .rows .now) (a .store .now) (a .end) i))
+child t c =
+    let a = c .before .before .before .before .before .before .before .before .before .before .before .before .args in
+    let i = c .before .before .before .before .before .before .before .before .before .loop .i in
+    let e = c .before .before .span-at .ensures in
+    ⊎-elim
+    (λ w. (w .4 ∙ ap (λ (n : ℕ). i + n) e, done (w .3 .given .1) (walked t record { before = record { before = c .before; if2 = w .0 }; check-children = w .1 })))
+    (λ w. (w .1 ∙ ap (λ (n : ℕ). i + n) e, alone t record { before = c .before; if2 = w .0 }))
+    (c .if2 .came)
+
 loop-again : (t : ℕ) → lts.Need-loop-again (calls t) (here t) check-children.Post Inv-loop μ-loop
 loop-again t c =
-    let a = c .before .before .before .before .before .before .before .before .before .before .before .before .before .args in
-    let l = c .before .before .before .before .before .before .before .before .before .before .loop in
-    let p = reach t (c .before .before .before) in
-    let e = c .before .before .before .span-at .ensures in (
+    let a = c .before .before .before .before .before .before .before .before .before .before .before .before .args in
+    let l = c .before .before .before .before .before .before .before .before .before .loop in
+    let p = reach t (c .before .before) in
+    let w = child t c in (
       omega (arith, p .some),
-      omega (arith, p .reach, e),
-      ap (λ (n : ℕ). ends (childrenOf (a .rows .now) (a .store .now) (a .parent) (a .end) (l .left - 1) (l .i + n))) e
-          ∙ child-accepted (a .rows .now) (a .store .now) (a .parent) (a .end) (l .left) (l .i) (omega arith) (omega arith) (done (c .enum-told .given .1) (walked t (c .before .before))) ∙ l .inv .2,
+      omega (arith, p .reach),
+      ap (λ (n : ℕ). ends (childrenOf (a .rows .now) (a .store .now) (a .parent) (a .end) (l .left - 1) n)) (w .0)
+          ∙ child-accepted (a .rows .now) (a .store .now) (a .parent) (a .end) (l .left) (l .i) (omega arith) (omega arith) (w .1) ∙ l .inv .2,
     )
 
 at-row-requires-2 : (t : ℕ) → lts.Need-at-row-requires-2 (calls t) (here t) check-children.Post Inv-loop μ-loop
@@ -153,7 +190,6 @@ pub +check-children-spec : {M : Type 1} → statement M
     check-children.Post
     Inv-loop
     μ-loop
-    (add-i t)
     (loop-holds t)
     (at-row-requires t)
     (returns t)
@@ -163,6 +199,8 @@ pub +check-children-spec : {M : Type 1} → statement M
     (enum-known-inner t)
     (span-at-requires t)
     (add-next t)
+    (is-parent-requires t)
+    (add-check-children t)
     (check-children-requires t)
     (enum-known-r-2 t)
     (returns-3 t)

@@ -1,15 +1,14 @@
--- Each way out decides one of the tests; the walk from the root decides the rest.
+-- Each way out decides one of the tests; the root, as the only child, decides the rest.
 use mathlib.Core.Path.{_≡_, ap, sym, _∙_}
 use mathlib.Core.Bool.{true}
-use Prim.Native.Nat.{ℕ, _+_, _*_, _≤_, _<_}
+use Prim.Native.Nat.{_*_, _≤_, _<_}
 use native.Mathlib.Omega.{arith}
 use lib.ListN.{length}
 use borrow.Author.Tests.{not-true, not-false}
 use Rattle.refusal.specs.Outcome.{refused}
 use Rattle.tables.specs.Row.{rowWidth, rowAt}
 use Rattle.rows.specs.Walk.{countHolds}
-use Rattle.rows.proofs.Laws.{ends, childrenOf, row-refused, row-accepted, reflects-rows, store-long, rows-missing, root-short, root-walk}
-use Rattle.rows.proofs.Meaning.{children, wanted-refused}
+use Rattle.rows.proofs.Laws.{reflects-rows, only-child, store-long, rows-missing, root-short, root-walk}
 use borrow.Author.Needs.{needs}
 use Rattle.rows.proofs.check_rows.Statement.{statement}
 use Rattle.rows.proofs.check_rows.Tie as tie
@@ -51,34 +50,15 @@ returns-3 c =
     let a = c .before .before .before .before .before .before .before .before .args in
     ap refused (c .at-row2 .ensures) ∙ root-short (a .rows .now) (a .n) (a .store .now) (c .before .before .before .before .before .if1 .left) (counted (c .before .before .before)) (λ e. omega (arith, c .before .if3 .taken, c .before .before .span-at .ensures, e))
 
-check-row-requires : tie.Need-check-row-requires
-check-row-requires c κs = let h = there (c .before .before) in (omega arith, omega arith)
-
-enum-known-r : tie.Need-enum-known-r
-enum-known-r c = search needs
-
-enum-known-count : tie.Need-enum-known-count
-enum-known-count c = search needs
-
 check-children-requires : tie.Need-check-children-requires
-check-children-requires c κs = let h = there (c .before .before .before .before .before .before) in (omega arith, omega arith)
+check-children-requires c κs = let h = there (c .before .before) in (omega arith, omega arith)
 
 returns-4 : tie.Need-returns-4
 returns-4 c =
-    let a = c .before .before .before .before .before .before .before .before .before .before .before .args in
-    let d = c .before .before .before .before .before .before in
-    row-refused (a .rows .now) (a .store .now) (a .n) 0 (there d .0) (wanted-refused (c .before .r .given .1) (c .before .before .before .check-row .ensures))
-    ∙ root-walk (a .rows .now) (a .n) (a .store .now) (c .before .before .before .before .before .before .before .before .if1 .left) (counted d) (sym (c .before .before .before .before .before .span-at .ensures) ∙ c .before .before .before .before .if3 .left)
-
-returns-5 : tie.Need-returns-5
-returns-5 c =
-    let a = c .before .before .before .before .before .before .before .before .before .before .before .before .args in
-    let d = c .before .before .before .before .before .before .before in
-    let e : rowAt (a .rows .now) 0 .span ≡ a .n = sym (c .before .before .before .before .before .before .span-at .ensures) ∙ c .before .before .before .before .before .if3 .left in
-    let z : 0 + rowAt (a .rows .now) 0 .span ≡ a .n = omega arith in
-    c .check-children .ensures ∙ ap (λ (n : ℕ). ends (childrenOf (a .rows .now) (a .store .now) 0 n (c .before .before .count .given .0 .0) (0 + 1))) (sym z)
-    ∙ row-accepted (a .rows .now) (a .store .now) (a .n) 0 (there d .0) (children (c .before .before .count .given .1) (c .before .before .before .before .check-row .ensures))
-    ∙ root-walk (a .rows .now) (a .n) (a .store .now) (c .before .before .before .before .before .before .before .before .before .if1 .left) (counted d) e
+    let a = c .before .before .before .before .before .before .before .before .args in
+    let d = c .before .before .before in
+    let e : rowAt (a .rows .now) 0 .span ≡ a .n = sym (c .before .before .span-at .ensures) ∙ c .before .if3 .left in
+    c .check-children .ensures ∙ only-child (a .rows .now) (a .store .now) 0 (a .n) (there d .0) e ∙ root-walk (a .rows .now) (a .n) (a .store .now) (c .before .before .before .before .before .if1 .left) (counted d) e
 
 pub check-rows-spec : {M : Type 1} → statement M
 check-rows-spec =
@@ -92,9 +72,5 @@ check-rows-spec =
     span-at-requires
     at-row-requires-2
     returns-3
-    check-row-requires
-    enum-known-r
-    enum-known-count
     check-children-requires
-    returns-4
-    returns-5)
+    returns-4)
