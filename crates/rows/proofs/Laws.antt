@@ -3,7 +3,7 @@ use mathlib.Core.Path.{_≡_, refl, ap, sym, _∙_}
 use mathlib.Core.Bool.{Bool, true, false, _&&_, _||_}
 use mathlib.Core.Logic.{_↔_}
 use mathlib.Core.List.{List}
-use Prim.Native.Nat.{ℕ, zero, suc, _+_, _-_, _*_, _≤_, _<_, zero-le}
+use Prim.Native.Nat.{ℕ, zero, suc, _+_, _-_, _*_, _≤_, _<_}
 use native.Mathlib.Numerals.{add-one}
 use native.Mathlib.Omega.{arith}
 use lib.ListN.{length}
@@ -11,7 +11,7 @@ use lib.Dec.{leb, ltb, eqb}
 use borrow.Author.Tests.{lt-ltb, le-ltb, ltb-true, ltb-false, le-leb, lt-leb, eq-eqb, ne-eqb}
 use Rattle.refusal.specs.Outcome.{Outcome, accepted, refused, bind, test, map, Reason, reason, byte, row}
 use Rattle.refusal.proofs.Outcome.{Post, holds, fails, post-reflects, post-accepted, map-map, test-true, test-false}
-use Rattle.refusal.proofs.Tests.{and-true, next-key, reflects-leb, reflects-ltb, reflects-and}
+use Rattle.refusal.proofs.Tests.{and-true, NoneBelow, none-below, reflects-leb, reflects-ltb, reflects-and}
 use Rattle.value.specs.Kinds.{Kind, kinds, kindOf, other}
 use Rattle.value.proofs.KindLaws.{kind-other}
 use Rattle.value.specs.Tree.{Val, Vals, vnil, vcons}
@@ -41,13 +41,10 @@ bind-same k l (fails e q) h = refl
 
 -- ---- a row by itself
 
--- what the last arm of a match on 0 to 8 knows
-abbrev pub NoneOf : ℕ → Type 0
-NoneOf k = ((((((((((Unit {0}) × (k ≡ 0 → ⊥)) × (k ≡ 1 → ⊥)) × (k ≡ 2 → ⊥)) × (k ≡ 3 → ⊥)) × (k ≡ 4 → ⊥)) × (k ≡ 5 → ⊥)) × (k ≡ 6 → ⊥)) × (k ≡ 7 → ⊥)) × (k ≡ 8 → ⊥))
-
-pub none-of : (k : ℕ) → NoneOf k → kindOf k ≡ other
+-- in the last arm of a match on 0 to 8
+pub none-of : (k : ℕ) → NoneBelow 9 k → kindOf k ≡ other
 unfolding kinds
-none-of k r = kind-other k (next-key (next-key (next-key (next-key (next-key (next-key (next-key (next-key (next-key zero-le (r .0 .0 .0 .0 .0 .0 .0 .0 .1)) (r .0 .0 .0 .0 .0 .0 .0 .1)) (r .0 .0 .0 .0 .0 .0 .1)) (r .0 .0 .0 .0 .0 .1)) (r .0 .0 .0 .0 .1)) (r .0 .0 .0 .1)) (r .0 .0 .1)) (r .0 .1)) (r .1))
+none-of k r = kind-other k (none-below 9 k r)
 
 pub row-eq : (r : Row) {k n a b : ℕ} → r .kind ≡ k → r .span ≡ n → r .word2 ≡ a → r .word3 ≡ b → r ≡ record { kind = k; span = n; word2 = a; word3 = b }
 row-eq r p q x y = rw (← p, ← q, ← x, ← y)
@@ -79,7 +76,7 @@ pub by-kind : {A : Type 0} (f : Kind → A) {m k : ℕ} {x : A} → m ≡ k → 
 by-kind f e h = h ∙ ap (λ (n : ℕ). f (kindOf n)) (sym e)
 
 -- in its last arm
-pub by-other : {A : Type 0} (f : Kind → A) {m : ℕ} {x : A} → NoneOf m → x ≡ f other → x ≡ f (kindOf m)
+pub by-other : {A : Type 0} (f : Kind → A) {m : ℕ} {x : A} → NoneBelow 9 m → x ≡ f other → x ≡ f (kindOf m)
 by-other f {m} n h = h ∙ ap f (sym (none-of m n))
 
 -- in an arm of the row's match: the span reaches, and the kind's rule is decided

@@ -7,20 +7,13 @@ ghost use lib.Dec.{leb, ltb};
 ghost use Rattle.refusal.specs.Outcome.{accepted, refused, test, map, reason, row as atRow};
 ghost use Rattle.refusal.specs.Meaning.{outcomeOf};
 ghost use Rattle.value.specs.Kinds.{kindOf};
-ghost use Rattle.tables.specs.Row.{rowWidth, rowAt};
+ghost use Rattle.tables.specs.Row.{rowAt};
 ghost use Rattle.rows.specs.Walk.{checkRow, walkChildren, walkRow, countHolds, walk};
 ghost use Rattle.rows.specs.Size.{computeSizeOf, AtMost, mostOwnSize, sizeAt, sizeFrom};
 ghost use Rattle.rows.specs.Locate.{lookUp, elementsPart, locateArray, PartOf};
 ghost use Rattle.rows.specs.Meaning.{wanted, sizeOf, located};
 use refusal::Answer;
 use refusal::Refusal;
-
-// The words of a row.
-const ROW_WIDTH: usize = 4;
-
-const MOST_ROWS: usize = 4096;
-
-const MOST_BYTES: usize = 1048576;
 
 const TWO_TO_32: u64 = 4294967296;
 
@@ -41,34 +34,6 @@ pub enum Located {
     Refused(Refusal),
 }
 
-fn kind_at(rows: &[u64], row: usize) -> u64
-    requires { ⌜ rowWidth * row + rowWidth ≤ length (now rows) ⌝ }
-    ensures { λ r. ⌜ r ≡ rowAt (now (rows .entry)) row .kind ⌝ }
-{
-    rows[ROW_WIDTH * row]
-}
-
-fn span_at(rows: &[u64], row: usize) -> u64
-    requires { ⌜ rowWidth * row + rowWidth ≤ length (now rows) ⌝ }
-    ensures { λ r. ⌜ r ≡ rowAt (now (rows .entry)) row .span ⌝ }
-{
-    rows[ROW_WIDTH * row + 1]
-}
-
-fn word2_at(rows: &[u64], row: usize) -> u64
-    requires { ⌜ rowWidth * row + rowWidth ≤ length (now rows) ⌝ }
-    ensures { λ r. ⌜ r ≡ rowAt (now (rows .entry)) row .word2 ⌝ }
-{
-    rows[ROW_WIDTH * row + 2]
-}
-
-fn word3_at(rows: &[u64], row: usize) -> u64
-    requires { ⌜ rowWidth * row + rowWidth ≤ length (now rows) ⌝ }
-    ensures { λ r. ⌜ r ≡ rowAt (now (rows .entry)) row .word3 ⌝ }
-{
-    rows[ROW_WIDTH * row + 3]
-}
-
 fn both(a: bool, b: bool) -> bool
     ensures { λ r. ⌜ r ≡ (a && b) ⌝ }
 {
@@ -86,17 +51,6 @@ fn span_holds(span: u64, row: usize, end: usize) -> bool
     span <= (end - row) as u64
 }
 
-// Whether count elements of width bytes from the place on end within len bytes. The count is compared and never multiplied.
-fn within(len: u64, place: u64, count: u64, width: u64) -> bool
-    requires { ⌜ 0 < width ⌝ }
-    ensures { λ r. ⌜ r ≡ leb (place + width * count) len ⌝ }
-{
-    if len < place {
-        return false;
-    }
-    count <= (len - place) / width
-}
-
 // 13 where the kind's rule is not kept, then 14 where the elements are not held, else the children that the row wants.
 fn check_rule(kept: bool, held: bool, count: u64, row: usize) -> Wanted
     ensures { λ r. ⌜ wanted r ≡ test kept (reason 13 (atRow row)) (λ _. test held (reason 14 (atRow row)) (λ _. accepted count)) ⌝ }
@@ -112,14 +66,16 @@ fn check_rule(kept: bool, held: bool, count: u64, row: usize) -> Wanted
 
 // A row by itself, which may reach to the end: 13, then 14.
 fn check_row(rows: &[u64], store: &[u8], row: usize, end: usize) -> Wanted
-    requires { ⌜ (row < end) × (rowWidth * end ≤ length (now rows)) ⌝ }
+    requires { ⌜ row ≤ end ⌝ }
     ensures { λ r. ⌜ wanted r ≡ checkRow (rowAt (now (rows .entry)) row) (length (now (store .entry))) row end ⌝ }
 {
-    let kind = kind_at(rows, row);
-    let span = span_at(rows, row);
-    let word2 = word2_at(rows, row);
-    let word3 = word3_at(rows, row);
-    let len = store.len() as u64;
+    let kind = tables::kind_at(rows, row);
+    let span = tables::span_at(rows, row);
+    let word2 = tables::word2_at(rows, row);
+    let word3 = tables::word3_at(rows, row);
+    let start = word3 as usize;
+    let count = word2 as usize;
+    let len = store.len();
     let leaf = span == 1;
     let unused = word3 == 0;
     if !span_holds(span, row, end) {
@@ -131,9 +87,9 @@ fn check_row(rows: &[u64], store: &[u8], row: usize, end: usize) -> Wanted
         2 => check_rule(both(leaf, unused), true, 0, row),
         3 => check_rule(unused, true, word2, row),
         4 => check_rule(unused, true, word2, row),
-        5 => check_rule(leaf, within(len, word3, word2, 1), 0, row),
-        6 => check_rule(leaf, within(len, word3, word2, 4), 0, row),
-        7 => check_rule(leaf, within(len, word3, word2, 8), 0, row),
+        5 => check_rule(leaf, packed::within(len, start, count, 1), 0, row),
+        6 => check_rule(leaf, packed::within(len, start, count, 4), 0, row),
+        7 => check_rule(leaf, packed::within(len, start, count, 8), 0, row),
         8 => check_rule(unused, true, 1, row),
         9.. => Wanted::Refused(refusal::at_row(refusal::ROW_MALFORMED, row)),
     }
@@ -151,7 +107,8 @@ fn is_parent(wanted: u64, row: usize, next: usize) -> bool
 }
 
 // The children that a row wants, from row `first` on, which are to fill the rows up to `end`. A child is called for where it is a
-// parent itself: calls nest once for each level, of which 4,096 rows have 4,096 at most.
+// parent itself: calls nest once for each level, of which 4,096 rows have 4,096 at most. Its span is read beside its other words,
+// so that one test finds them all.
 fn check_children(
     rows: &[u64],
     store: &[u8],
@@ -160,7 +117,7 @@ fn check_children(
     count: u64,
     end: usize,
 ) -> Answer
-    requires { ⌜ (first ≤ end) × (rowWidth * end ≤ length (now rows)) ⌝ }
+    requires { ⌜ first ≤ end ⌝ }
     ensures { λ r. ⌜ outcomeOf r ≡ map (λ _. tt) (walkChildren (now (rows .entry)) (walkRow (now (rows .entry)) (now (store .entry)) end) parent end count first) ⌝ }
 {
     let mut i = first;
@@ -169,10 +126,11 @@ fn check_children(
         if end <= i {
             return Answer::Refused(refusal::at_row(refusal::ROW_MALFORMED, parent));
         }
+        let span = tables::span_at(rows, i) as usize;
         match check_row(rows, store, i, end) {
             Wanted::Refused(r) => return Answer::Refused(r),
             Wanted::Children(inner) => {
-                let next = i + span_at(rows, i) as usize;
+                let next = i + span;
                 if is_parent(inner, i, next) {
                     if let Answer::Refused(r) = check_children(rows, store, i, i + 1, inner, next) {
                         return Answer::Refused(r);
@@ -193,23 +151,23 @@ fn count_holds(rows: &[u64], n: usize) -> bool
     if n == 0 {
         return false;
     }
-    if MOST_ROWS < n {
+    if tables::MOST_ROWS < n {
         return false;
     }
-    ROW_WIDTH * n <= rows.len()
+    tables::ROW_WIDTH * n <= rows.len()
 }
 
 // 6, 12, then the root, the only child of a table, which reaches to n exactly: 13 and 14. No table is assumed sound.
 pub fn check_rows(rows: &[u64], n: usize, store: &[u8]) -> Answer
     ensures { λ r. ⌜ outcomeOf r ≡ map (λ _. tt) (walk (now (rows .entry)) n (now (store .entry))) ⌝ }
 {
-    if MOST_BYTES < store.len() {
+    if tables::MOST_BYTES < store.len() {
         return Answer::Refused(refusal::at_byte(refusal::BYTES_TOO_LONG, 0));
     }
     if !count_holds(rows, n) {
         return Answer::Refused(refusal::at_row(refusal::ROW_COUNT, 0));
     }
-    if span_at(rows, 0) != n as u64 {
+    if tables::span_at(rows, 0) != n as u64 {
         return Answer::Refused(refusal::at_row(refusal::ROW_MALFORMED, 0));
     }
     check_children(rows, store, 0, 0, 1, n)
@@ -217,11 +175,11 @@ pub fn check_rows(rows: &[u64], n: usize, store: &[u8]) -> Answer
 
 // A row's own bytes, without its children's.
 fn own_size(rows: &[u64], row: usize) -> u64
-    requires { ⌜ (rowWidth * row + rowWidth ≤ length (now rows)) × (sizeAt (now rows) row ≤ mostOwnSize) ⌝ }
+    requires { ⌜ sizeAt (now rows) row ≤ mostOwnSize ⌝ }
     ensures { λ r. ⌜ r ≡ sizeAt (now (rows .entry)) row ⌝ }
 {
-    let count = word2_at(rows, row);
-    match kind_at(rows, row) {
+    let count = tables::word2_at(rows, row);
+    match tables::kind_at(rows, row) {
         0 => 0,
         1 => 4,
         2 => 8,
@@ -237,7 +195,7 @@ fn own_size(rows: &[u64], row: usize) -> u64
 
 // GM's `ComputeSeqSum`, over all rows: a value's bytes are its rows' own, one behind the other.
 fn compute_seq_sum(rows: &[u64], n: usize) -> u64
-    requires { ⌜ (n ≤ 4096) × (rowWidth * n ≤ length (now rows)) × ((j : ℕ) → j < n → sizeAt (now rows) j ≤ mostOwnSize) ⌝ }
+    requires { ⌜ (n ≤ 4096) × ((j : ℕ) → j < n → sizeAt (now rows) j ≤ mostOwnSize) ⌝ }
     ensures { λ r. ⌜ r ≡ sizeFrom (now (rows .entry)) 0 n ⌝ }
 {
     let mut sum: u64 = 0;
@@ -277,12 +235,12 @@ fn no_elements(row: usize) -> Located
 
 // The elements of a row in the store; 18 where its kind has none.
 fn elements_at(rows: &[u64], row: usize) -> Located
-    requires { ⌜ (rowWidth * row + rowWidth ≤ length (now rows)) × (sizeAt (now rows) row ≤ mostOwnSize) ⌝ }
+    requires { ⌜ sizeAt (now rows) row ≤ mostOwnSize ⌝ }
     ensures { λ r. ⌜ located r ≡ elementsPart (kindOf (rowAt (now (rows .entry)) row .kind)) (rowAt (now (rows .entry)) row) (reason 18 (atRow row)) ⌝ }
 {
-    let count = word2_at(rows, row) as usize;
-    let start = word3_at(rows, row) as usize;
-    match kind_at(rows, row) {
+    let count = tables::word2_at(rows, row) as usize;
+    let start = tables::word3_at(rows, row) as usize;
+    match tables::kind_at(rows, row) {
         0 => no_elements(row),
         1 => no_elements(row),
         2 => no_elements(row),

@@ -15,7 +15,7 @@ use Rattle.refusal.specs.declared.Refusal.{Refusal}
 use Rattle.refusal.specs.declared.Answer.{Answer}
 use Rattle.refusal.specs.declared.Answer.the-variants.{Accepted, Refused}
 use Rattle.refusal.proofs.Outcome.{test-true}
-use Rattle.refusal.proofs.Tests.{reflects-eqb, reflects-ltb, reflects-and}
+use Rattle.refusal.proofs.Tests.{NoneBelow, reflects-eqb, reflects-ltb, reflects-and}
 use Rattle.refusal.proofs.Meaning.{done, stopped}
 use Rattle.value.specs.Kinds.{numberKind, elementsKind, Number, uint32, uint64, Elements, bytes, uint32s, uint64s, kinds, lastKind, kindOf, other}
 use Rattle.value.specs.Tree.{G, Gs, Val, Vals, VConstant, VNumber, VArray, VTuple, VNumberArray, VCase, vnil, vcons, seqG, seqV, caseAt, rowCount, rowCounts}
@@ -30,7 +30,7 @@ use Rattle.grammar.proofs.Tree.{tree-node, trees-length, trees-at}
 use Rattle.tables.specs.Row.{rowWidth, Row, rowAt}
 use Rattle.rows.specs.Layout.{ownRow}
 use Rattle.rows.specs.Rule.{StandFor, StandForAll}
-use Rattle.rows.proofs.Laws.{NoneOf, none-of}
+use Rattle.rows.proofs.Laws.{none-of}
 use Rattle.rows.proofs.Rule.{own-row, row-span}
 use Rattle.sizing.specs.InGrammar.{kindNumber, elementGrammar, partGrammars, at15, checkInGrammar, checkAllInGrammar, checkEachInGrammar}
 use Rattle.sizing.specs.Checks.{Standing, StandingAll, Checks, ChecksAll, ChildInside}
@@ -104,7 +104,7 @@ module _ (g : List ℕ) (p : Passes g) (k : ℕ) (b : k < nodeCount g) where
   child-above i l e = let x = child-inside g p k b i l in (omega (arith, x .4 .0), omega (arith, x .4 .1), omega (arith, x .2, x .4 .1))
 
 -- the last arm of a match on the kinds is not reached
-pub not-named : (w : ℕ) → NoneOf w → w ≤ lastKind → ⊥
+pub not-named : (w : ℕ) → NoneBelow 9 w → w ≤ lastKind → ⊥
 not-named w r h =
     let n : isNamed other ≡ true = sym (ap isNamed (none-of w r)) ∙ reflects-kind w .0 h in
     let z : _≡_ {A = ℕ} 0 1 = cc in omega arith

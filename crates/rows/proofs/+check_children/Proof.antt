@@ -22,7 +22,7 @@ use Rattle.refusal.proofs.accept_if.Reads as accept-if-reads
 use Rattle.refusal.proofs.at_row.Reads as at-row-reads
 use Rattle.rows.proofs.check_row.Reads as check-row-reads
 use Rattle.rows.proofs.is_parent.Reads as is-parent-reads
-use Rattle.rows.proofs.span_at.Reads as span-at-reads
+use Rattle.tables.proofs.span_at.Reads as span-at-reads
 use Rattle.rows.proofs.+check_children.{statement}
 use Rattle.rows.proofs.+check_children.Tie.{close}
 
@@ -36,7 +36,7 @@ abbrev below : ℕ → In 2 kinds.ps
 below t = and 2 kinds.ps (falls 2 kinds.ps _<_ μ t) check-children.Pre
 
 abbrev calls : ℕ → lts.Claims
-calls t = (at-row-reads.Asked, at-row-reads.Learnt, check-row-reads.Asked, check-row-reads.Learnt, span-at-reads.Asked, span-at-reads.Learnt, is-parent-reads.Asked, is-parent-reads.Learnt, below t, check-children.Post, accept-if-reads.Asked, accept-if-reads.Learnt)
+calls t = (at-row-reads.Asked, at-row-reads.Learnt, span-at-reads.Asked, span-at-reads.Learnt, check-row-reads.Asked, check-row-reads.Learnt, is-parent-reads.Asked, is-parent-reads.Learnt, below t, check-children.Post, accept-if-reads.Asked, accept-if-reads.Learnt)
 
 abbrev Inv-loop : lts.InvT-loop
 Inv-loop rows store parent first count end i₀ left₀ i left = (first ≤ i) × (i ≤ end) × (ends (childrenOf rows store parent end left i) ≡ ends (childrenOf rows store parent end count first))
@@ -64,10 +64,10 @@ enum-known-r t c = search needs
 
 returns-2 : (t : ℕ) → lts.Need-returns-2 (calls t) (here t) check-children.Post Inv-loop μ-loop
 returns-2 t c =
-    let a = c .before .before .before .before .before .before .before .before .before .args in
-    let l = c .before .before .before .before .before .before .loop in
-    child-refused (a .rows .now) (a .store .now) (a .parent) (a .end) (l .left) (l .i) (c .before .before .before .before .before .loop-test .taken) (c .before .before .before .before .if1 .left)
-    (row-refused (a .rows .now) (a .store .now) (a .end) (l .i) (c .before .before .before .before .if1 .left) (wanted-refused (c .before .r .given .1) (c .before .before .before .check-row .ensures))) ∙ l .inv .2
+    let a = c .before .before .before .before .before .before .before .before .before .before .args in
+    let l = c .before .before .before .before .before .before .before .loop in
+    child-refused (a .rows .now) (a .store .now) (a .parent) (a .end) (l .left) (l .i) (c .before .before .before .before .before .before .loop-test .taken) (c .before .before .before .before .before .if1 .left)
+    (row-refused (a .rows .now) (a .store .now) (a .end) (l .i) (c .before .before .before .before .before .if1 .left) (wanted-refused (c .before .r .given .1) (c .before .before .before .check-row .ensures))) ∙ l .inv .2
 
 enum-known-inner : (t : ℕ) → lts.Need-enum-known-inner (calls t) (here t) check-children.Post Inv-loop μ-loop
 enum-known-inner t c = search needs
@@ -75,28 +75,28 @@ enum-known-inner t c = search needs
 span-at-requires : (t : ℕ) → lts.Need-span-at-requires (calls t) (here t) check-children.Post Inv-loop μ-loop
 span-at-requires t c κs = search needs
 
--- a child, behind the read of its span: it passes by itself
-passed : (t : ℕ) (c : lts.After-span-at (calls t) (here t) check-children.Post Inv-loop μ-loop) →
+-- a child that is accepted passes by itself
+passed : (t : ℕ) (c : lts.After-known-told2 (calls t) (here t) check-children.Post Inv-loop μ-loop) →
     let a = c .before .before .before .before .before .before .before .before .before .before .args in
     let i = c .before .before .before .before .before .before .before .loop .i in
-    accepted (c .before .before .inner .given .0 .0) ≡ checkRow (rowAt (a .rows .now) i) (length (a .store .now)) i (a .end)
-passed t c = children (c .before .before .inner .given .1) (c .before .before .before .before .check-row .ensures)
+    accepted (c .before .inner .given .0 .0) ≡ checkRow (rowAt (a .rows .now) i) (length (a .store .now)) i (a .end)
+passed t c = children (c .before .inner .given .1) (c .before .before .before .check-row .ensures)
 
-reach : (t : ℕ) (c : lts.After-span-at (calls t) (here t) check-children.Post Inv-loop μ-loop) →
+reach : (t : ℕ) (c : lts.After-known-told2 (calls t) (here t) check-children.Post Inv-loop μ-loop) →
     let a = c .before .before .before .before .before .before .before .before .before .before .args in
     let i = c .before .before .before .before .before .before .before .loop .i in
-    Passed (rowAt (a .rows .now) i) (length (a .store .now)) i (a .end) (c .before .before .inner .given .0 .0)
+    Passed (rowAt (a .rows .now) i) (length (a .store .now)) i (a .end) (c .before .inner .given .0 .0)
 reach t c = row-passed _ _ _ _ _ (passed t c)
 
 -- and it comes to what its own children come to
-own-children : (t : ℕ) (c : lts.After-span-at (calls t) (here t) check-children.Post Inv-loop μ-loop) →
+own-children : (t : ℕ) (c : lts.After-known-told2 (calls t) (here t) check-children.Post Inv-loop μ-loop) →
     let a = c .before .before .before .before .before .before .before .before .before .before .args in
     let i = c .before .before .before .before .before .before .before .loop .i in
-    ends (childrenOf (a .rows .now) (a .store .now) i (i + c .span-at .result) (c .before .before .inner .given .0 .0) (i + 1)) ≡ ends (walkRow (a .rows .now) (a .store .now) (a .end) i)
+    ends (childrenOf (a .rows .now) (a .store .now) i (i + c .before .before .before .before .span-at .result) (c .before .inner .given .0 .0) (i + 1)) ≡ ends (walkRow (a .rows .now) (a .store .now) (a .end) i)
 own-children t c =
     let a = c .before .before .before .before .before .before .before .before .before .before .args in
     let i = c .before .before .before .before .before .before .before .loop .i in
-    ap (λ (n : ℕ). ends (childrenOf (a .rows .now) (a .store .now) i (i + n) (c .before .before .inner .given .0 .0) (i + 1))) (c .span-at .ensures) ∙ row-accepted (a .rows .now) (a .store .now) (a .end) i (omega arith) (passed t c)
+    ap (λ (n : ℕ). ends (childrenOf (a .rows .now) (a .store .now) i (i + n) (c .before .inner .given .0 .0) (i + 1))) (c .before .before .before .before .span-at .ensures) ∙ row-accepted (a .rows .now) (a .store .now) (a .end) i (omega arith) (passed t c)
 
 walked : (t : ℕ) (c : lts.After-check-children (calls t) (here t) check-children.Post Inv-loop μ-loop) →
     let a = c .before .before .before .before .before .before .before .before .before .before .before .before .before .args in
@@ -111,13 +111,13 @@ alone t c =
     let a = c .before .before .before .before .before .before .before .before .before .before .before .before .args in
     let i = c .before .before .before .before .before .before .before .before .before .loop .i in
     let d = c .before .before in
-    childless (a .rows .now) (a .store .now) i (d .before .before .inner .given .0 .0) (i + d .span-at .result) (omega (arith, reach t d .some, d .span-at .ensures)) (sym (c .before .is-parent .ensures) ∙ c .if2 .left) ∙ own-children t d
+    childless (a .rows .now) (a .store .now) i (d .before .inner .given .0 .0) (i + d .before .before .before .before .span-at .result) (omega (arith, reach t d .some, d .before .before .before .before .span-at .ensures)) (sym (c .before .is-parent .ensures) ∙ c .if2 .left) ∙ own-children t d
 
 add-next : (t : ℕ) → lts.Need-add-next (calls t) (here t) check-children.Post Inv-loop μ-loop
-add-next t c = omega (arith, reach t c .reach, c .span-at .ensures, c .before .before .before .before .before .before .before .before .before .before .fits .end)
+add-next t c = omega (arith, reach t c .reach, c .before .before .before .before .span-at .ensures, c .before .before .before .before .before .before .before .before .before .before .fits .end)
 
 is-parent-requires : (t : ℕ) → lts.Need-is-parent-requires (calls t) (here t) check-children.Post Inv-loop μ-loop
-is-parent-requires t c κs = omega (arith, reach t c .some, c .span-at .ensures)
+is-parent-requires t c κs = omega (arith, reach t c .some, c .before .before .before .before .span-at .ensures)
 
 add-check-children : (t : ℕ) → lts.Need-add-check-children (calls t) (here t) check-children.Post Inv-loop μ-loop
 add-check-children t c = search needs
@@ -125,8 +125,8 @@ add-check-children t c = search needs
 check-children-requires : (t : ℕ) → lts.Need-check-children-requires (calls t) (here t) check-children.Post Inv-loop μ-loop
 check-children-requires t c κs =
     let p = reach t (c .before .before) in
-    let e = c .before .before .span-at .ensures in
-    (omega (arith, p .some, p .reach), (omega (arith, p .some), omega (arith, p .reach)))
+    let e = c .before .before .before .before .before .before .span-at .ensures in
+    (omega (arith, p .some, p .reach), omega (arith, p .some))
 
 enum-known-r-2 : (t : ℕ) → lts.Need-enum-known-r-2 (calls t) (here t) check-children.Post Inv-loop μ-loop
 enum-known-r-2 t c = search needs
@@ -154,7 +154,7 @@ child : (t : ℕ) (c : lts.Joined2 (calls t) (here t) check-children.Post Inv-lo
 child t c =
     let a = c .before .before .before .before .before .before .before .before .before .before .before .before .args in
     let i = c .before .before .before .before .before .before .before .before .before .loop .i in
-    let e = c .before .before .span-at .ensures in
+    let e = c .before .before .before .before .before .before .span-at .ensures in
     ⊎-elim
     (λ w. (w .4 ∙ ap (λ (n : ℕ). i + n) e, done (w .3 .given .1) (walked t record { before = record { before = c .before; if2 = w .0 }; check-children = w .1 })))
     (λ w. (w .1 ∙ ap (λ (n : ℕ). i + n) e, alone t record { before = c .before; if2 = w .0 }))
@@ -193,11 +193,11 @@ pub +check-children-spec : {M : Type 1} → statement M
     (loop-holds t)
     (at-row-requires t)
     (returns t)
+    (span-at-requires t)
     (check-row-requires t)
     (enum-known-r t)
     (returns-2 t)
     (enum-known-inner t)
-    (span-at-requires t)
     (add-next t)
     (is-parent-requires t)
     (add-check-children t)

@@ -40,7 +40,7 @@ returns-2 c =
     ap refused (c .at-row .ensures) ∙ rows-missing (a .rows .now) (a .n) (a .store .now) (c .before .before .before .if1 .left) (sym (c .before .before .count-holds .ensures) ∙ not-true (c .before .before .count-holds .result) (c .before .if2 .taken))
 
 span-at-requires : tie.Need-span-at-requires
-span-at-requires c κs = omega (arith, there c)
+span-at-requires c κs = search needs
 
 at-row-requires-2 : tie.Need-at-row-requires-2
 at-row-requires-2 c κs = search needs
@@ -51,7 +51,7 @@ returns-3 c =
     ap refused (c .at-row2 .ensures) ∙ root-short (a .rows .now) (a .n) (a .store .now) (c .before .before .before .before .before .if1 .left) (counted (c .before .before .before)) (λ e. omega (arith, c .before .if3 .taken, c .before .before .span-at .ensures, e))
 
 check-children-requires : tie.Need-check-children-requires
-check-children-requires c κs = let h = there (c .before .before) in (omega arith, omega arith)
+check-children-requires c κs = search needs
 
 returns-4 : tie.Need-returns-4
 returns-4 c =

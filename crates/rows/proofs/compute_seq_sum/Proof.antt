@@ -18,12 +18,12 @@ loop-holds : tie.Need-loop-holds Inv-loop μ-loop
 loop-holds c = (omega arith, size-none (c .before .args .rows .now) 0)
 
 own-size-requires : tie.Need-own-size-requires Inv-loop μ-loop
-own-size-requires c κs = (omega arith, c .before .before .before .pre .2 (c .before .loop .i) (c .loop-test .taken))
+own-size-requires c κs = c .before .before .before .pre .1 (c .before .loop .i) (c .loop-test .taken)
 
 add-sum : tie.Need-add-sum Inv-loop μ-loop
 add-sum c =
     let t = c .before .before .before .before .args .rows .now in
-    let small = c .before .before .before .before .pre .2 in
+    let small = c .before .before .before .before .pre .1 in
     let i = c .before .before .loop .i in
     omega (arith, c .own-size .ensures, small i (c .before .loop-test .taken), size-below t (c .before .before .before .before .args .n) i (omega arith) small)
 

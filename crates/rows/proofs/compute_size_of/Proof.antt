@@ -30,7 +30,7 @@ compute-seq-sum-requires : tie.Need-compute-seq-sum-requires
 compute-seq-sum-requires c κs =
     let a = c .before .before .before .before .before .args in
     let h = table c in
-    (h .table .few, h .table .words, table-small (a .rows .now) (a .n) (a .store .now) (h .value) (h .table))
+    (h .table .few, table-small (a .rows .now) (a .n) (a .store .now) (h .value) (h .table))
 
 returns : tie.Need-returns
 returns c =

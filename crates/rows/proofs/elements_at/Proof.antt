@@ -23,7 +23,7 @@ arm : (c : tie.After-kind-at) {k : ℕ} {x : Outcome Reason Part} → c .kind-at
 arm c e h = by-kind (part c) (sym (c .kind-at .ensures) ∙ e) h
 
 small : (c : tie.After-kind-at) {k : ℕ} → c .kind-at .result ≡ k → ownSize (kindOf k) (this c) ≤ mostOwnSize
-small c {k} e = subst (λ (x : ℕ). x ≤ mostOwnSize) (sym (by-kind (λ (x : Kind). ownSize x (this c)) {k = k} (sym (c .kind-at .ensures) ∙ e) refl)) (c .before .before .before .before .pre .1)
+small c {k} e = subst (λ (x : ℕ). x ≤ mostOwnSize) (sym (by-kind (λ (x : Kind). ownSize x (this c)) {k = k} (sym (c .kind-at .ensures) ∙ e) refl)) (c .before .before .before .before .pre)
 
 -- the elements as read
 as-read : (c : tie.After-kind-at) (width : ℕ) {size : ℕ} → size ≡ width * c .before .before .word2-at .result → _≡_ {A = Outcome Reason Part} (accepted (record { start = c .before .word3-at .result; size = size })) (accepted (record { start = this c .word3; size = width * this c .word2 }))

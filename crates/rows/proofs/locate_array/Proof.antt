@@ -1,6 +1,5 @@
 -- A row that was found lies in a table that passed, so the bytes of its array fit.
 use mathlib.Core.Path.{ap, sym, _∙_}
-use native.Mathlib.Omega.{arith}
 use Rattle.refusal.specs.Outcome.{Outcome, bind, Reason, reason, row}
 use Rattle.refusal.proofs.Meaning.{done, stopped}
 use Rattle.value.specs.Kinds.{kindOf}
@@ -31,7 +30,7 @@ elements-at-requires : tie.Need-elements-at-requires
 elements-at-requires c κs =
     let a = c .before .before .before .before .before .args in
     let h = row-found c in
-    (omega (arith, h .below, h .table .table .words), table-small (a .rows .now) (a .n) (a .store .now) (h .table .value) (h .table .table) (a .row) (h .below))
+    table-small (a .rows .now) (a .n) (a .store .now) (h .table .value) (h .table .table) (a .row) (h .below)
 
 returns : tie.Need-returns
 unfolding locateArray

@@ -21,7 +21,7 @@ arm : (c : tie.After-kind-at) {k x : ℕ} → c .kind-at .result ≡ k → x ≡
 arm c e h = by-kind (size c) (sym (c .kind-at .ensures) ∙ e) h
 
 small : (c : tie.After-kind-at) {k : ℕ} → c .kind-at .result ≡ k → size c (kindOf k) ≤ mostOwnSize
-small c {k} e = subst (λ (x : ℕ). x ≤ mostOwnSize) (sym (arm c {k = k} e refl)) (c .before .before .before .pre .1)
+small c {k} e = subst (λ (x : ℕ). x ≤ mostOwnSize) (sym (arm c {k = k} e refl)) (c .before .before .before .pre)
 
 word2-at-requires : tie.Need-word2-at-requires
 word2-at-requires c κs = search needs
