@@ -33,7 +33,7 @@ use Rattle.rows.specs.Rule.{StandFor, StandForAll}
 use Rattle.rows.proofs.Laws.{none-of}
 use Rattle.rows.proofs.Rule.{own-row, row-span}
 use Rattle.sizing.specs.InGrammar.{kindNumber, elementGrammar, partGrammars, at15, checkInGrammar, checkAllInGrammar, checkEachInGrammar}
-use Rattle.sizing.specs.Checks.{Standing, StandingAll, Checks, ChecksAll, ChildInside}
+use Rattle.sizing.specs.Checks.{Standing, StandingAll, Checks, ChecksAll}
 
 -- ---- the tree of a node by its words
 
@@ -95,9 +95,6 @@ module _ (g : List ℕ) (p : Passes g) (k : ℕ) (b : k < nodeCount g) where
   pub one-child : kindWord g k ≡ 3 → 0 < countWord g k
   unfolding kindOf kinds
   one-child e = let n : countWord g k ≡ 1 = rw e at (node-inside g p k b .3 .0) in omega arith
-
-  pub child-fits : (i : ℕ) → i < countWord g k → ChildInside g k i
-  child-fits i l = let x = child-inside g p k b i l in record { few = x .2; node = x .0; child = x .1 }
 
   -- a child's number is above its node's
   pub child-above : (i : ℕ) → i < countWord g k → {c : ℕ} → c ≡ childWord g (firstWord g k + i) → (k < c) × (c < nodeCount g) × (c < 256)

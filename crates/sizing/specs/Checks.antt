@@ -1,13 +1,12 @@
 -- The contracts of the second walk: over rows that stand for a value, its answer is what `checkInGrammar` says of that value.
 use mathlib.Core.Path.{_≡_}
 use mathlib.Core.List.{List}
-use Prim.Native.Nat.{ℕ, _+_, _*_, _≤_, _<_}
+use Prim.Native.Nat.{ℕ, _+_, _*_, _≤_}
 use lib.ListN.{length}
 use Rattle.refusal.specs.Outcome.{Outcome, Reason}
 use Rattle.refusal.specs.Meaning.{outcomeOf}
 use Rattle.refusal.specs.declared.Answer.{Answer}
 use Rattle.value.specs.Tree.{G, Val, Vals, seqV, rowCount, rowCounts}
-use Rattle.tables.specs.Grammar.{nodeCount, firstWord}
 use Rattle.tables.specs.Row.{rowWidth}
 use Rattle.rows.specs.Rule.{StandFor, StandForAll}
 use Rattle.sizing.specs.InGrammar.{checkInGrammar}
@@ -34,9 +33,3 @@ Checks t i g r = (s : List ℕ) (v : Val) → StandFor t s i v → outcomeOf r �
 -- r is the answer for so many values from row i on, where `check` says what it is to be
 abbrev pub ChecksAll : List ℕ → ℕ → ℕ → (Vals → Outcome Reason (Unit {0})) → Answer → Type 0
 ChecksAll t count i check r = (s : List ℕ) (vs : Vals) → StandForAll t s i vs → length (seqV vs) ≡ count → outcomeOf r ≡ check vs
-
--- child word i of node k lies in the grammar table
-pub record ChildInside (g : List ℕ) (k i : ℕ) : Type 0 where
-  pub few : nodeCount g ≤ 256
-  pub node : 3 + 3 * k < length g
-  pub child : 2 + 3 * nodeCount g + (firstWord g k + i) < length g

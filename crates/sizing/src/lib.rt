@@ -1,72 +1,19 @@
 // Sizing: the size of the value that rows with their store stand for, where it may be written by a grammar; or the first refusal.
 ghost use mathlib.Core.Path.{_≡_};
-ghost use Prim.Native.Nat.{_+_, _*_, _≤_, _<_};
-ghost use lib.ListN.{length, getD};
+ghost use Prim.Native.Nat.{_<_};
 ghost use lib.Dec.{leb};
 ghost use Rattle.refusal.specs.Outcome.{accepted, refused, test, map, reason, row as atRow};
 ghost use Rattle.refusal.specs.Meaning.{outcomeOf};
 ghost use Rattle.value.specs.Tree.{SizeOfV};
-ghost use Rattle.tables.specs.Grammar.{nodeCount, firstWord, countWord, childWord};
+ghost use Rattle.tables.specs.Grammar.{nodeCount, firstWord, countWord};
 ghost use Rattle.grammar.specs.Rule.{Passes};
 ghost use Rattle.grammar.specs.Tree.{treeOf, childTrees};
-ghost use Rattle.tables.specs.Row.{rowWidth, rowAt};
 ghost use Rattle.rows.specs.Meaning.{sizeOf};
 ghost use Rattle.sizing.specs.InGrammar.{checkAllInGrammar, checkEachInGrammar};
-ghost use Rattle.sizing.specs.Checks.{Standing, StandingAll, Checks, ChecksAll, ChildInside};
+ghost use Rattle.sizing.specs.Checks.{Standing, StandingAll, Checks, ChecksAll};
 ghost use Rattle.sizing.specs.Writes.{valueOf, marshallValOf};
 use refusal::Answer;
 use rows::SizeOf;
-
-// The words of a row.
-const ROW_WIDTH: usize = 4;
-
-// The bytes of the largest value that is written.
-const MOST_BYTES: u64 = 1048576;
-
-fn kind_at(rows: &[u64], row: usize) -> u64
-    requires { ⌜ rowWidth * row + rowWidth ≤ length (now rows) ⌝ }
-    ensures { λ r. ⌜ r ≡ rowAt (now (rows .entry)) row .kind ⌝ }
-{
-    rows[ROW_WIDTH * row]
-}
-
-fn span_at(rows: &[u64], row: usize) -> u64
-    requires { ⌜ rowWidth * row + rowWidth ≤ length (now rows) ⌝ }
-    ensures { λ r. ⌜ r ≡ rowAt (now (rows .entry)) row .span ⌝ }
-{
-    rows[ROW_WIDTH * row + 1]
-}
-
-fn word2_at(rows: &[u64], row: usize) -> u64
-    requires { ⌜ rowWidth * row + rowWidth ≤ length (now rows) ⌝ }
-    ensures { λ r. ⌜ r ≡ rowAt (now (rows .entry)) row .word2 ⌝ }
-{
-    rows[ROW_WIDTH * row + 2]
-}
-
-// A grammar word as an index or a count.
-fn wide(x: u32) -> usize
-    ensures { λ r. ⌜ r ≡ x ⌝ }
-{
-    x as usize
-}
-
-fn word(words: &[u32], at: usize) -> usize
-    requires { ⌜ at < length (now words) ⌝ }
-    ensures { λ r. ⌜ r ≡ getD (now (words .entry)) at 0 ⌝ }
-{
-    wide(words[at])
-}
-
-// Child i of a node.
-fn child_at(grammar: &[u32], node: usize, i: usize) -> usize
-    requires { ⌜ ChildInside (now grammar) node i ⌝ }
-    ensures { λ r. ⌜ r ≡ childWord (now (grammar .entry)) (firstWord (now (grammar .entry)) node + i) ⌝ }
-{
-    let nodes = word(grammar, 0);
-    let first = word(grammar, 2 + 3 * node);
-    word(grammar, 2 + 3 * nodes + (first + i))
-}
 
 fn not_in_grammar(row: usize) -> Answer
     ensures { λ r. ⌜ outcomeOf r ≡ refused (reason 15 (atRow row)) ⌝ }
@@ -80,17 +27,23 @@ fn check_in_grammar(rows: &[u64], grammar: &[u32], row: usize, node: usize) -> A
     requires { ⌜ Passes (now grammar) × (node < nodeCount (now grammar)) × Standing (now rows) row ⌝ }
     ensures { λ r. ⌜ Checks (now (rows .entry)) row (treeOf (now (grammar .entry)) node) r ⌝ }
 {
-    let kind = kind_at(rows, row);
-    let word2 = word2_at(rows, row);
-    let count = word(grammar, 3 + 3 * node) as u64;
-    if kind != word(grammar, 1 + 3 * node) as u64 {
+    let kind = tables::kind_at(rows, row);
+    let word2 = tables::word2_at(rows, row);
+    let count = tables::word(grammar, 3 + 3 * node) as u64;
+    if kind != tables::word(grammar, 1 + 3 * node) as u64 {
         return not_in_grammar(row);
     }
     match kind {
         0 => Answer::Accepted,
         1 => Answer::Accepted,
         2 => Answer::Accepted,
-        3 => check_all_in_grammar(rows, grammar, row + 1, word2, child_at(grammar, node, 0)),
+        3 => check_all_in_grammar(
+            rows,
+            grammar,
+            row + 1,
+            word2,
+            tables::child_at(grammar, node, 0),
+        ),
         4 => {
             if word2 != count {
                 return not_in_grammar(row);
@@ -108,7 +61,7 @@ fn check_in_grammar(rows: &[u64], grammar: &[u32], row: usize, node: usize) -> A
                 rows,
                 grammar,
                 row + 1,
-                child_at(grammar, node, word2 as usize),
+                tables::child_at(grammar, node, word2 as usize),
             )
         }
         9.. => not_in_grammar(row),
@@ -132,7 +85,7 @@ fn check_all_in_grammar(
         if let Answer::Refused(r) = check_in_grammar(rows, grammar, i, node) {
             return Answer::Refused(r);
         }
-        i += span_at(rows, i) as usize;
+        i += tables::span_at(rows, i) as usize;
         left -= 1;
     }
     Answer::Accepted
@@ -143,15 +96,15 @@ fn check_each_in_grammar(rows: &[u64], grammar: &[u32], row: usize, node: usize)
     requires { ⌜ Passes (now grammar) × (node < nodeCount (now grammar)) × StandingAll (now rows) (countWord (now grammar) node) row ⌝ }
     ensures { λ r. ⌜ ChecksAll (now (rows .entry)) (countWord (now (grammar .entry)) node) row (λ vs. checkEachInGrammar vs (childTrees (now (grammar .entry)) (treeOf (now (grammar .entry))) (firstWord (now (grammar .entry)) node) (countWord (now (grammar .entry)) node)) row) r ⌝ }
 {
-    let count = word(grammar, 3 + 3 * node);
+    let count = tables::word(grammar, 3 + 3 * node);
     let mut i = row;
     let mut k: usize = 0;
     while k < count {
-        let child = child_at(grammar, node, k);
+        let child = tables::child_at(grammar, node, k);
         if let Answer::Refused(r) = check_in_grammar(rows, grammar, i, child) {
             return Answer::Refused(r);
         }
-        i += span_at(rows, i) as usize;
+        i += tables::span_at(rows, i) as usize;
         k += 1;
     }
     Answer::Accepted
@@ -161,7 +114,7 @@ fn check_each_in_grammar(rows: &[u64], grammar: &[u32], row: usize, node: usize)
 fn check_size(size: u64) -> SizeOf
     ensures { λ r. ⌜ sizeOf r ≡ test (leb size 1048576) (reason 16 (atRow 0)) (λ _. accepted size) ⌝ }
 {
-    if MOST_BYTES < size {
+    if tables::MOST_BYTES < size as usize {
         SizeOf::Refused(refusal::at_row(refusal::SIZE_TOO_LARGE, 0))
     } else {
         SizeOf::Size(size)

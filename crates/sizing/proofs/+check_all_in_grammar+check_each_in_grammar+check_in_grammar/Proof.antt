@@ -14,7 +14,7 @@ use Rattle.grammar.proofs.Rule.{node-inside}
 use Rattle.tables.specs.Row.{rowAt}
 use Rattle.sizing.specs.InGrammar.{kindNumber, checkAllInGrammar, checkEachInGrammar}
 use Rattle.sizing.specs.Checks.{StandingAll, Checks}
-use Rattle.sizing.proofs.Walk.{tree-kind, tree-element, tuple-parts, union-parts, tree-parts, part-count, tree-case, one-child, child-fits, child-above, not-named, isParent, arm-other, arm-leaf, arm-array, arm-count, arm-tuple, arm-tag, arm-case, row-inside, elements-stand, fields-stand, case-stands, first-stands, others-stand, next-inside, Left, left-all, left-none, left-stopped, left-next, all-step, each-step, none-step, none-each}
+use Rattle.sizing.proofs.Walk.{tree-kind, tree-element, tuple-parts, union-parts, tree-parts, part-count, tree-case, one-child, child-above, not-named, isParent, arm-other, arm-leaf, arm-array, arm-count, arm-tuple, arm-tag, arm-case, elements-stand, fields-stand, case-stands, first-stands, others-stand, next-inside, Left, left-all, left-none, left-stopped, left-next, all-step, each-step, none-step, none-each}
 use borrow.Author.Needs.{needs}
 use Prim.Native.Nat.{ℕ, _<_}
 use borrow.Fn.Kinds.{In}
@@ -28,12 +28,12 @@ use Rattle.sizing.proofs.+check_all_in_grammar+check_each_in_grammar+ch
 use Rattle.sizing.proofs.check_in_grammar.Reads as check-in-grammar
 use Rattle.sizing.proofs.check_in_grammar.Kinds as check-in-grammar-kinds
 use Rattle.sizing.proofs.+check_all_in_grammar+check_each_in_grammar+check_in_grammar.Lts-check_in_grammar as check-in-grammar-lts
-use Rattle.sizing.proofs.child_at.Reads as child-at-reads
-use Rattle.sizing.proofs.kind_at.Reads as kind-at-reads
+use Rattle.tables.proofs.child_at.Reads as child-at-reads
+use Rattle.tables.proofs.kind_at.Reads as kind-at-reads
 use Rattle.sizing.proofs.not_in_grammar.Reads as not-in-grammar-reads
-use Rattle.sizing.proofs.span_at.Reads as span-at-reads
-use Rattle.sizing.proofs.word.Reads as word-reads
-use Rattle.sizing.proofs.word2_at.Reads as word2-at-reads
+use Rattle.tables.proofs.span_at.Reads as span-at-reads
+use Rattle.tables.proofs.word.Reads as word-reads
+use Rattle.tables.proofs.word2_at.Reads as word2-at-reads
 use Rattle.sizing.proofs.+check_all_in_grammar+check_each_in_grammar+check_in_grammar.{
   statement,
 }
@@ -162,9 +162,7 @@ check-all-in-grammar-span-at-requires : (t : ℕ) → check-all-in-grammar-lts.N
     check-all-in-grammar.Post
     check-all-in-grammar-Inv-loop
     check-all-in-grammar-μ-loop
-check-all-in-grammar-span-at-requires t c κs =
-    let l = c .before .before .before .before .loop in
-    row-inside _ (l .i) (first-stands _ (l .left) (l .i) (c .before .before .before .loop-test .taken) (l .inv .0))
+check-all-in-grammar-span-at-requires t c κs = search needs
 
 check-all-in-grammar-add-i : (t : ℕ) → check-all-in-grammar-lts.Need-add-i (check-all-in-grammar-calls t)
     (check-all-in-grammar-at t)
@@ -250,7 +248,7 @@ check-each-in-grammar-loop-holds t c =
     let g = a .grammar .now in
     let f = firstWord g (a .node) in
     let n = countWord g (a .node) in
-    (omega arith, c .word .ensures, rw (sub-zero n) (c .before .before .before .pre .1 .2), rw (add-zero f, sub-zero n) (left-all (a .rows .now) n (a .row) (λ vs. checkEachInGrammar vs (childTrees g (treeOf g) f n) (a .row))))
+    (omega arith, c .word .ensures .0, rw (sub-zero n) (c .before .before .before .pre .1 .2), rw (add-zero f, sub-zero n) (left-all (a .rows .now) n (a .row) (λ vs. checkEachInGrammar vs (childTrees g (treeOf g) f n) (a .row))))
 
 check-each-in-grammar-child-at-requires :
     (t : ℕ) → check-each-in-grammar-lts.Need-child-at-requires (check-each-in-grammar-calls t)
@@ -258,10 +256,7 @@ check-each-in-grammar-child-at-requires :
     check-each-in-grammar.Post
     check-each-in-grammar-Inv-loop
     check-each-in-grammar-μ-loop
-check-each-in-grammar-child-at-requires t c κs =
-    let a = c .before .before .before .before .before .args in
-    let p = c .before .before .before .before .before .pre .1 in
-    child-fits (a .grammar .now) (p .0) (a .node) (p .1) (c .before .loop .k) (omega (arith, c .before .loop .inv .1))
+check-each-in-grammar-child-at-requires t c κs = search needs
 
 check-each-in-grammar-check-in-grammar-requires :
     (t : ℕ) → check-each-in-grammar-lts.Need-check-in-grammar-requires (check-each-in-grammar-calls t)
@@ -273,7 +268,7 @@ check-each-in-grammar-check-in-grammar-requires t c κs =
     let a = c .before .before .before .before .before .before .args in
     let p = c .before .before .before .before .before .before .pre in
     let l = c .before .before .loop in
-    let x = child-above (a .grammar .now) (p .1 .0) (a .node) (p .1 .1) (l .k) (omega (arith, l .inv .1)) (c .child-at .ensures) in
+    let x = child-above (a .grammar .now) (p .1 .0) (a .node) (p .1 .1) (l .k) (omega (arith, l .inv .1)) (c .child-at .ensures .0) in
     (omega (arith, p .0, x .0, x .2), (p .1 .0, x .1, first-stands _ (countWord (a .grammar .now) (a .node) - l .k) (l .i) (omega (arith, l .inv .1)) (l .inv .2)))
 
 check-each-in-grammar-enum-known-r : (t : ℕ) → check-each-in-grammar-lts.Need-enum-known-r (check-each-in-grammar-calls t)
@@ -296,7 +291,7 @@ check-each-in-grammar-returns t c =
     let n = countWord g (a .node) in
     let h : l .k < n = omega (arith, l .inv .1) in
     let w : Vals → Outcome Reason (Unit {0}) = λ vs. checkEachInGrammar vs (childTrees g (treeOf g) f n) (a .row) in
-    let e = subst (λ (k : ℕ). Checks (a .rows .now) (l .i) (treeOf g k) (c .before .before .before .check-in-grammar .result)) (c .before .before .before .before .child-at .ensures) (c .before .before .before .check-in-grammar .ensures) in
+    let e = subst (λ (k : ℕ). Checks (a .rows .now) (l .i) (treeOf g k) (c .before .before .before .check-in-grammar .result)) (c .before .before .before .before .child-at .ensures .0) (c .before .before .before .check-in-grammar .ensures) in
     left-stopped (a .rows .now) n (a .row) w (n - l .k) (l .i) (λ vs. checkEachInGrammar vs (childTrees g (treeOf g) (f + l .k) (n - l .k)) (l .i)) (l .inv .3) (omega arith) (treeOf g (childWord g (f + l .k))) (λ j vs. checkEachInGrammar vs (childTrees g (treeOf g) (f + (l .k + 1)) (n - (l .k + 1))) j) (each-step g f n (l .k) h (l .i)) (c .before .r .given .1) e
 
 check-each-in-grammar-enum-told : (t : ℕ) → check-each-in-grammar-lts.Need-enum-told (check-each-in-grammar-calls t)
@@ -311,10 +306,7 @@ check-each-in-grammar-span-at-requires : (t : ℕ) → check-each-in-grammar-lts
     check-each-in-grammar.Post
     check-each-in-grammar-Inv-loop
     check-each-in-grammar-μ-loop
-check-each-in-grammar-span-at-requires t c κs =
-    let a = c .before .before .before .before .before .before .before .before .before .args in
-    let l = c .before .before .before .before .before .loop in
-    row-inside _ (l .i) (first-stands _ (countWord (a .grammar .now) (a .node) - l .k) (l .i) (omega (arith, l .inv .1)) (l .inv .2))
+check-each-in-grammar-span-at-requires t c κs = search needs
 
 check-each-in-grammar-add-i : (t : ℕ) → check-each-in-grammar-lts.Need-add-i (check-each-in-grammar-calls t)
     (check-each-in-grammar-at t)
@@ -353,7 +345,7 @@ check-each-in-grammar-loop-again t c =
     let n = countWord g (a .node) in
     let h : l .k < n = omega (arith, l .inv .1) in
     let w : Vals → Outcome Reason (Unit {0}) = λ vs. checkEachInGrammar vs (childTrees g (treeOf g) f n) (a .row) in
-    let e = subst (λ (k : ℕ). Checks (a .rows .now) (l .i) (treeOf g k) (c .before .before .before .check-in-grammar .result)) (c .before .before .before .before .child-at .ensures) (c .before .before .before .check-in-grammar .ensures) in
+    let e = subst (λ (k : ℕ). Checks (a .rows .now) (l .i) (treeOf g k) (c .before .before .before .check-in-grammar .result)) (c .before .before .before .before .child-at .ensures .0) (c .before .before .before .check-in-grammar .ensures) in
     let z : n - (l .k + 1) ≡ n - l .k - 1 = omega arith in
     rw (c .span-at .ensures) (
       omega (arith, l .inv .1),
@@ -381,7 +373,7 @@ abbrev Agreed : ℕ → Type 0
 Agreed t = check-in-grammar-lts.Else1 (check-in-grammar-calls t) (check-in-grammar-at t) check-in-grammar.Post
 
 node-word : (t : ℕ) (c : Agreed t) {k : ℕ} → c .before .before .before .before .kind-at .result ≡ k → let a = c .before .before .before .before .before .before .before .args in kindWord (a .grammar .now) (a .node) ≡ k
-node-word t c e = omega (arith, c .before .word2 .ensures)
+node-word t c e = omega (arith, c .before .word2 .ensures .0)
 
 row-kind : (t : ℕ) (c : Agreed t) {k : ℕ} → c .before .before .before .before .kind-at .result ≡ k → let a = c .before .before .before .before .before .before .before .args in rowAt (a .rows .now) (a .row) .kind ≡ k
 row-kind t c e = sym (c .before .before .before .before .kind-at .ensures) ∙ e
@@ -398,12 +390,10 @@ leaf t c e n s v h =
     arm-leaf (a .rows .now) s (a .row) (treeOf (a .grammar .now) (a .node)) v h (row-kind t c e ∙ sym (tree-is t c e)) (ap isParent (row-kind t c e) ∙ n)
 
 check-in-grammar-kind-at-requires : (t : ℕ) → check-in-grammar-lts.Need-kind-at-requires (check-in-grammar-calls t) (check-in-grammar-at t) check-in-grammar.Post
-check-in-grammar-kind-at-requires t c κs =
-    row-inside _ (c .before .before .args .row) (c .before .before .pre .1 .2)
+check-in-grammar-kind-at-requires t c κs = search needs
 
 check-in-grammar-word2-at-requires : (t : ℕ) → check-in-grammar-lts.Need-word2-at-requires (check-in-grammar-calls t) (check-in-grammar-at t) check-in-grammar.Post
-check-in-grammar-word2-at-requires t c κs =
-    row-inside _ (c .before .before .before .args .row) (c .before .before .before .pre .1 .2)
+check-in-grammar-word2-at-requires t c κs = search needs
 
 check-in-grammar-mul-word : (t : ℕ) → check-in-grammar-lts.Need-mul-word (check-in-grammar-calls t) (check-in-grammar-at t) check-in-grammar.Post
 check-in-grammar-mul-word t c = search needs
@@ -432,18 +422,14 @@ check-in-grammar-returns t c =
     let a = c .before .before .before .before .before .before .before .before .args in
     let p = c .before .before .before .before .before .before .before .before .pre .1 in
     let g = a .grammar .now in
-    λ s v h. c .not-in-grammar .ensures ∙ arm-other (a .rows .now) s (a .row) (treeOf g (a .node)) v h (λ e. c .before .if1 .taken (omega (arith, e, c .before .before .before .before .before .kind-at .ensures, c .before .before .word2 .ensures, tree-kind g (p .0) (a .node) (p .1))))
+    λ s v h. c .not-in-grammar .ensures ∙ arm-other (a .rows .now) s (a .row) (treeOf g (a .node)) v h (λ e. c .before .if1 .taken (omega (arith, e, c .before .before .before .before .before .kind-at .ensures, c .before .before .word2 .ensures .0, tree-kind g (p .0) (a .node) (p .1))))
 
 check-in-grammar-add-check-all-in-grammar :
     (t : ℕ) → check-in-grammar-lts.Need-add-check-all-in-grammar (check-in-grammar-calls t) (check-in-grammar-at t) check-in-grammar.Post
 check-in-grammar-add-check-all-in-grammar t c = search needs
 
 check-in-grammar-child-at-requires : (t : ℕ) → check-in-grammar-lts.Need-child-at-requires (check-in-grammar-calls t) (check-in-grammar-at t) check-in-grammar.Post
-check-in-grammar-child-at-requires t c κs =
-    let a = c .before .before .before .before .before .before .before .before .args in
-    let p = c .before .before .before .before .before .before .before .before .pre .1 in
-    let g = a .grammar .now in
-    child-fits g (p .0) (a .node) (p .1) 0 (one-child g (p .0) (a .node) (p .1) (node-word t (c .before) (c .match .keys4)))
+check-in-grammar-child-at-requires t c κs = search needs
 
 check-in-grammar-check-all-in-grammar-requires :
     (t : ℕ) → check-in-grammar-lts.Need-check-all-in-grammar-requires (check-in-grammar-calls t) (check-in-grammar-at t) check-in-grammar.Post
@@ -453,7 +439,7 @@ check-in-grammar-check-all-in-grammar-requires t c κs =
     let g = a .grammar .now in
     let q = c .before .before in
     let k = c .before .match .keys4 in
-    let x = child-above g (p .0) (a .node) (p .1) 0 (one-child g (p .0) (a .node) (p .1) (node-word t q k)) (c .child-at .ensures) in
+    let x = child-above g (p .0) (a .node) (p .1) 0 (one-child g (p .0) (a .node) (p .1) (node-word t q k)) (c .child-at .ensures .0) in
     (omega (arith, c .before .before .before .before .before .before .before .before .before .pre .0, x .0, x .2), (p .0, x .1, rw (c .before .before .before .before .before .word2-at .ensures) (elements-stand (a .rows .now) (a .row) (p .2) (row-kind t q k))))
 
 check-in-grammar-not-in-grammar-requires-2 :
@@ -467,7 +453,7 @@ check-in-grammar-returns-2 t c =
     let g = a .grammar .now in
     let q = c .before .before .before in
     let k = c .before .before .match .keys5 in
-    λ s v h. c .not-in-grammar2 .ensures ∙ arm-count (a .rows .now) s (a .row) (treeOf g (a .node)) v h (row-kind t q k) (λ e. c .before .if2 .taken (omega (arith, e, c .before .before .before .before .before .before .word2-at .ensures, c .before .before .before .before .before .word .ensures, part-count g (p .0) (a .node) (p .1) tuple-parts (node-word t q k))))
+    λ s v h. c .not-in-grammar2 .ensures ∙ arm-count (a .rows .now) s (a .row) (treeOf g (a .node)) v h (row-kind t q k) (λ e. c .before .if2 .taken (omega (arith, e, c .before .before .before .before .before .before .word2-at .ensures, c .before .before .before .before .before .word .ensures .0, part-count g (p .0) (a .node) (p .1) tuple-parts (node-word t q k))))
 
 check-in-grammar-add-check-each-in-grammar :
     (t : ℕ) → check-in-grammar-lts.Need-add-check-each-in-grammar (check-in-grammar-calls t) (check-in-grammar-at t) check-in-grammar.Post
@@ -481,7 +467,7 @@ check-in-grammar-check-each-in-grammar-requires t c κs =
     let g = a .grammar .now in
     let q = c .before .before in
     let k = c .before .match .keys5 in
-    let e : rowAt (a .rows .now) (a .row) .word2 ≡ countWord g (a .node) = omega (arith, c .before .before .before .before .before .word2-at .ensures, c .before .before .before .before .word .ensures) in
+    let e : rowAt (a .rows .now) (a .row) .word2 ≡ countWord g (a .node) = omega (arith, c .before .before .before .before .before .word2-at .ensures, c .before .before .before .before .word .ensures .0) in
     (omega (arith, c .before .before .before .before .before .before .before .before .before .pre .0, node-inside g (p .0) (a .node) (p .1) .1), (p .0, p .1, rw (← e) (fields-stand (a .rows .now) (a .row) (p .2) (row-kind t q k))))
 
 check-in-grammar-not-in-grammar-requires-3 :
@@ -495,17 +481,13 @@ check-in-grammar-returns-3 t c =
     let g = a .grammar .now in
     let q = c .before .before .before in
     let k = c .before .before .match .keys9 in
-    λ s v h. c .not-in-grammar3 .ensures ∙ arm-tag (a .rows .now) s (a .row) (treeOf g (a .node)) v h (row-kind t q k) (tree-is t q k) (omega (arith, c .before .before .before .before .before .before .word2-at .ensures, c .before .before .before .before .before .word .ensures, part-count g (p .0) (a .node) (p .1) union-parts (node-word t q k)))
+    λ s v h. c .not-in-grammar3 .ensures ∙ arm-tag (a .rows .now) s (a .row) (treeOf g (a .node)) v h (row-kind t q k) (tree-is t q k) (omega (arith, c .before .before .before .before .before .before .word2-at .ensures, c .before .before .before .before .before .word .ensures .0, part-count g (p .0) (a .node) (p .1) union-parts (node-word t q k)))
 
 check-in-grammar-add-check-in-grammar : (t : ℕ) → check-in-grammar-lts.Need-add-check-in-grammar (check-in-grammar-calls t) (check-in-grammar-at t) check-in-grammar.Post
 check-in-grammar-add-check-in-grammar t c = search needs
 
 check-in-grammar-child-at-requires-2 : (t : ℕ) → check-in-grammar-lts.Need-child-at-requires-2 (check-in-grammar-calls t) (check-in-grammar-at t) check-in-grammar.Post
-check-in-grammar-child-at-requires-2 t c κs =
-    let a = c .before .before .before .before .before .before .before .before .before .args in
-    let p = c .before .before .before .before .before .before .before .before .before .pre .1 in
-    let g = a .grammar .now in
-    child-fits g (p .0) (a .node) (p .1) (c .before .before .before .before .before .word2-at .result) (omega (arith, c .before .before .before .before .word .ensures))
+check-in-grammar-child-at-requires-2 t c κs = search needs
 
 check-in-grammar-check-in-grammar-requires :
     (t : ℕ) → check-in-grammar-lts.Need-check-in-grammar-requires (check-in-grammar-calls t) (check-in-grammar-at t) check-in-grammar.Post
@@ -514,7 +496,7 @@ check-in-grammar-check-in-grammar-requires t c κs =
     let p = c .before .before .before .before .before .before .before .before .before .before .pre .1 in
     let g = a .grammar .now in
     let q = c .before .before .before in
-    let x = child-above g (p .0) (a .node) (p .1) (c .before .before .before .before .before .before .word2-at .result) (omega (arith, c .before .before .before .before .before .word .ensures)) (c .child-at2 .ensures) in
+    let x = child-above g (p .0) (a .node) (p .1) (c .before .before .before .before .before .before .word2-at .result) (omega (arith, c .before .before .before .before .before .word .ensures .0)) (c .child-at2 .ensures .0) in
     (omega (arith, c .before .before .before .before .before .before .before .before .before .before .pre .0, x .0, x .2), (p .0, x .1, case-stands (a .rows .now) (a .row) (p .2) (row-kind t q (c .before .before .match .keys9))))
 
 check-in-grammar-not-in-grammar-requires-4 :
@@ -537,7 +519,7 @@ check-in-grammar-returns-7 t c =
     let g = a .grammar .now in
     let q = c .before .before .before in
     let k = c .before .before .match .keys4 in
-    let e = tree-element g (p .0) (a .node) (p .1) (node-word t q k) ∙ ap (treeOf g) (sym (c .before .child-at .ensures)) in
+    let e = tree-element g (p .0) (a .node) (p .1) (node-word t q k) ∙ ap (treeOf g) (sym (c .before .child-at .ensures .0)) in
     λ s v h. arm-array (a .rows .now) s (a .row) (treeOf g (a .node)) v h (row-kind t q k) (tree-is t q k) (sym (c .before .before .before .before .before .before .word2-at .ensures)) e (c .check-all-in-grammar .result) (c .check-all-in-grammar .ensures)
 
 check-in-grammar-returns-8 : (t : ℕ) → check-in-grammar-lts.Need-returns-8 (check-in-grammar-calls t) (check-in-grammar-at t) check-in-grammar.Post
@@ -547,7 +529,7 @@ check-in-grammar-returns-8 t c =
     let g = a .grammar .now in
     let q = c .before .before .before in
     let k = c .before .before .match .keys5 in
-    let e : rowAt (a .rows .now) (a .row) .word2 ≡ countWord g (a .node) = omega (arith, c .before .before .before .before .before .before .word2-at .ensures, c .before .before .before .before .before .word .ensures) in
+    let e : rowAt (a .rows .now) (a .row) .word2 ≡ countWord g (a .node) = omega (arith, c .before .before .before .before .before .before .word2-at .ensures, c .before .before .before .before .before .word .ensures .0) in
     let n = node-word t q k in
     λ s v h. arm-tuple (a .rows .now) s (a .row) (treeOf g (a .node)) v h (row-kind t q k) (tree-is t q k) e (part-count g (p .0) (a .node) (p .1) tuple-parts n) (tree-parts g (p .0) (a .node) (p .1) tuple-parts n) (c .check-each-in-grammar .result) (c .check-each-in-grammar .ensures)
 
@@ -567,9 +549,9 @@ check-in-grammar-returns-12 t c =
     let g = a .grammar .now in
     let q = c .before .before .before .before in
     let k = c .before .before .before .match .keys9 in
-    let l : rowAt (a .rows .now) (a .row) .word2 < countWord g (a .node) = omega (arith, c .before .before .before .before .before .before .before .word2-at .ensures, c .before .before .before .before .before .before .word .ensures) in
+    let l : rowAt (a .rows .now) (a .row) .word2 < countWord g (a .node) = omega (arith, c .before .before .before .before .before .before .before .word2-at .ensures, c .before .before .before .before .before .before .word .ensures .0) in
     let n = node-word t q k in
-    let e = tree-case g (p .0) (a .node) (p .1) n (rowAt (a .rows .now) (a .row) .word2) l ∙ ap (λ (m : ℕ). treeOf g (childWord g (firstWord g (a .node) + m))) (sym (c .before .before .before .before .before .before .before .word2-at .ensures)) ∙ ap (treeOf g) (sym (c .before .child-at2 .ensures)) in
+    let e = tree-case g (p .0) (a .node) (p .1) n (rowAt (a .rows .now) (a .row) .word2) l ∙ ap (λ (m : ℕ). treeOf g (childWord g (firstWord g (a .node) + m))) (sym (c .before .before .before .before .before .before .before .word2-at .ensures)) ∙ ap (treeOf g) (sym (c .before .child-at2 .ensures .0)) in
     λ s v h. arm-case (a .rows .now) s (a .row) (treeOf g (a .node)) v h (row-kind t q k) (tree-is t q k) (omega (arith, l, part-count g (p .0) (a .node) (p .1) union-parts n)) e (c .check-in-grammar .result) (c .check-in-grammar .ensures)
 
 check-in-grammar-returns-13 : (t : ℕ) → check-in-grammar-lts.Need-returns-13 (check-in-grammar-calls t) (check-in-grammar-at t) check-in-grammar.Post
