@@ -38,7 +38,7 @@ use Rattle.admission.proofs.Admission.{admit-grammar, admit-long, admit-index}
 use Rattle.reading.proofs.Calls.{parse-admitted, parse-refused, whole-parse}
 use Rattle.reading.proofs.Bridge.{parse-inside}
 use Rattle.sizing.specs.InGrammar.{checkInGrammar}
-use Rattle.sizing.specs.Writes.{valueOf, marshallValOf}
+use Rattle.sizing.specs.Writes.{valueToWrite, marshallValOf}
 use Rattle.sizing.proofs.InGrammar.{in-grammar-exactly, in-grammar-refused}
 use Rattle.route.specs.Rewriting.{rewriteOf}
 use Rattle.comparing.specs.SameRoute.{NamedReason, ofGrammar, ofFirst, ofSecond, naming, readBoth}
@@ -354,7 +354,7 @@ module _ (g t : List ℕ) (n : ℕ) (s : List ℕ) (len index : ℕ) where
           fails e (subst (WritingRefused g t n s len index) (sym (x .is)) (notInGrammar v p w (λ i. clash (sym q ∙ in-grammar-exactly v (treeOf g 0) 0 .1 i)) (x .at) (omega (arith, x .to)) (q ∙ ap refused (x .is))))
 
   pub marshall-refuses : Refuses (WritingRefused g t n s len index) (marshallValOf g t n s len index)
-  unfolding marshallValOf valueOf room
+  unfolding marshallValOf valueToWrite room
   marshall-refuses =
       refuses refl
       (post-bind _

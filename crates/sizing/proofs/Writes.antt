@@ -25,7 +25,7 @@ use Rattle.rows.specs.declared.SizeOf.the-variants as SizeOf
 use Rattle.rows.proofs.Calls.{Table, passed}
 use Rattle.sizing.specs.InGrammar.{checkInGrammar}
 use Rattle.sizing.specs.Checks.{Standing}
-use Rattle.sizing.specs.Writes.{valueOf, marshallValOf, Writes}
+use Rattle.sizing.specs.Writes.{valueToWrite, marshallValOf, Writes}
 use Rattle.sizing.proofs.InGrammar.{in-grammar-exactly}
 
 -- what a matched answer says of the outcome that it means
@@ -55,22 +55,22 @@ pub table-stands : (t : List ℕ) (n : ℕ) (s : List ℕ) → Table t n s → S
 table-stands t n s h = record { store = s; value = h .value; rows = h .table .rows; within = omega (arith, h .table .words, h .table .count) }
 
 module _ (g t : List ℕ) (n : ℕ) (s : List ℕ) where
-  pub value-grammar : {e : Reason} → refused e ≡ checkGrammar g → refused e ≡ map SizeOfV (valueOf g t n s)
-  unfolding valueOf
+  pub value-grammar : {e : Reason} → refused e ≡ checkGrammar g → refused e ≡ map SizeOfV (valueToWrite g t n s)
+  unfolding valueToWrite
   value-grammar h = rw (← h)
 
   module _ (a : accepted tt ≡ checkGrammar g) where
-    pub value-rows : {e : Reason} → refused e ≡ map SizeOfV (walk t n s) → refused e ≡ map SizeOfV (valueOf g t n s)
-    unfolding valueOf
+    pub value-rows : {e : Reason} → refused e ≡ map SizeOfV (walk t n s) → refused e ≡ map SizeOfV (valueToWrite g t n s)
+    unfolding valueToWrite
     value-rows h = rw (← a, map-refused SizeOfV (walk t n s) (sym h))
 
     module _ (h : Table t n s) where
-      pub value-refused : {e : Reason} → refused e ≡ checkInGrammar (h .value) (treeOf g 0) 0 → refused e ≡ map SizeOfV (valueOf g t n s)
-      unfolding valueOf
+      pub value-refused : {e : Reason} → refused e ≡ checkInGrammar (h .value) (treeOf g 0) 0 → refused e ≡ map SizeOfV (valueToWrite g t n s)
+      unfolding valueToWrite
       value-refused c = rw (← a, h .walked, ← c)
 
-      pub value-size : accepted tt ≡ checkInGrammar (h .value) (treeOf g 0) 0 → {size : ℕ} → size ≡ SizeOfV (h .value) → test (leb size 1048576) (reason 16 (row 0)) (λ _. accepted size) ≡ map SizeOfV (valueOf g t n s)
-      unfolding valueOf
+      pub value-size : accepted tt ≡ checkInGrammar (h .value) (treeOf g 0) 0 → {size : ℕ} → size ≡ SizeOfV (h .value) → test (leb size 1048576) (reason 16 (row 0)) (λ _. accepted size) ≡ map SizeOfV (valueToWrite g t n s)
+      unfolding valueToWrite
       value-size c z = rw (z, ← a, h .walked, ← c) (go (leb (SizeOfV (h .value)) 1048576))
         where
           go : (b : Bool) → test b (reason 16 (row 0)) (λ _. accepted (SizeOfV (h .value))) ≡ map SizeOfV (test b (reason 16 (row 0)) (λ _. accepted (h .value)))
@@ -78,14 +78,14 @@ module _ (g t : List ℕ) (n : ℕ) (s : List ℕ) where
           go false = refl
 
   module _ (len index : ℕ) where
-    pub write-refused : {e : Reason} → refused e ≡ map SizeOfV (valueOf g t n s) → refused e ≡ map SizeOfV (marshallValOf g t n s len index)
+    pub write-refused : {e : Reason} → refused e ≡ map SizeOfV (valueToWrite g t n s) → refused e ≡ map SizeOfV (marshallValOf g t n s len index)
     unfolding marshallValOf
-    write-refused h = rw (map-refused SizeOfV (valueOf g t n s) (sym h))
+    write-refused h = rw (map-refused SizeOfV (valueToWrite g t n s) (sym h))
 
     -- room decided: 1 is the width of a byte
-    pub write-room : {size : ℕ} → accepted size ≡ map SizeOfV (valueOf g t n s) → (o : Outcome Reason (Unit {0})) → o ≡ room len index (1 * size) → map (λ _. size) o ≡ map SizeOfV (marshallValOf g t n s len index)
+    pub write-room : {size : ℕ} → accepted size ≡ map SizeOfV (valueToWrite g t n s) → (o : Outcome Reason (Unit {0})) → o ≡ room len index (1 * size) → map (λ _. size) o ≡ map SizeOfV (marshallValOf g t n s len index)
     unfolding marshallValOf
-    write-room {size} h o e = go (valueOf g t n s) h
+    write-room {size} h o e = go (valueToWrite g t n s) h
       where
         go : (x : Outcome Reason Val) → accepted size ≡ map SizeOfV x → map (λ _. size) o ≡ map SizeOfV (bind x (λ v. map (λ _. v) (room len index (SizeOfV v))))
         go (accepted v) q =
@@ -97,14 +97,14 @@ module _ (g t : List ℕ) (n : ℕ) (s : List ℕ) where
 
 module _ (g t : List ℕ) (n : ℕ) (s : List ℕ) (len index : ℕ) where
   pub write-accepted : (v : Val) → Writes g t n s len index v → marshallValOf g t n s len index ≡ accepted v
-  unfolding valueOf marshallValOf
+  unfolding valueToWrite marshallValOf
   write-accepted v w =
       rw (grammar-exactly g .1 (w .grammar), w .rows, in-grammar-exactly v (treeOf g 0) 0 .1 (w .inGrammar), le-leb (SizeOfV v) 1048576 (w .small), room-test len index (SizeOfV v), le-leb (index + SizeOfV v) len (w .room))
 
   pub accepted-writes : (v : Val) → marshallValOf g t n s len index ≡ accepted v → Writes g t n s len index v
-  unfolding valueOf marshallValOf
+  unfolding valueToWrite marshallValOf
   accepted-writes v h =
-      let a = bind-accepted (valueOf g t n s) _ h in
+      let a = bind-accepted (valueToWrite g t n s) _ h in
       let b = bind-accepted (checkGrammar g) _ (a .1) in
       let c = bind-accepted (walk t n s) _ (b .2) in
       let d = bind-accepted (checkInGrammar (c .0) (treeOf g 0) 0) _ (c .2) in

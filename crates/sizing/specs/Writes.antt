@@ -13,8 +13,8 @@ use Rattle.rows.specs.Walk.{walk}
 use Rattle.sizing.specs.InGrammar.{checkInGrammar}
 
 -- the value to be written: 1 to 5 of the grammar, 6 and 12 to 14 of the rows, 15, then 16
-unfoldable pub valueOf : List ℕ → List ℕ → ℕ → List ℕ → Outcome Reason Val
-valueOf g t n s =
+unfoldable pub valueToWrite : List ℕ → List ℕ → ℕ → List ℕ → Outcome Reason Val
+valueToWrite g t n s =
     bind (checkGrammar g) (λ _.
     bind (walk t n s) (λ v.
     bind (checkInGrammar v (treeOf g 0) 0) (λ _.
@@ -22,7 +22,7 @@ valueOf g t n s =
 
 -- GM's `MarshallVal` at an index of an output of len bytes: the value, where it has room; 17 where it has not
 unfoldable pub marshallValOf : List ℕ → List ℕ → ℕ → List ℕ → ℕ → ℕ → Outcome Reason Val
-marshallValOf g t n s len index = bind (valueOf g t n s) (λ v. map (λ _. v) (room len index (SizeOfV v)))
+marshallValOf g t n s len index = bind (valueToWrite g t n s) (λ v. map (λ _. v) (room len index (SizeOfV v)))
 
 -- when v is written: nothing is to be refused (`write-exactly` of proofs/)
 pub record Writes (g t : List ℕ) (n : ℕ) (s : List ℕ) (len index : ℕ) (v : Val) : Type 0 where

@@ -11,7 +11,7 @@ ghost use Rattle.grammar.specs.Tree.{treeOf, childTrees};
 ghost use Rattle.rows.specs.Meaning.{sizeOf};
 ghost use Rattle.sizing.specs.InGrammar.{checkAllInGrammar, checkEachInGrammar};
 ghost use Rattle.sizing.specs.Checks.{Standing, StandingAll, Checks, ChecksAll};
-ghost use Rattle.sizing.specs.Writes.{valueOf, marshallValOf};
+ghost use Rattle.sizing.specs.Writes.{valueToWrite, marshallValOf};
 use refusal::Answer;
 use rows::SizeOf;
 
@@ -123,7 +123,7 @@ fn check_size(size: u64) -> SizeOf
 
 // GM's `ComputeSizeOf` of a value that may be written: 1 to 6, 12 to 14, 15, then 16.
 fn size_of_value(grammar: &[u32], rows: &[u64], n: usize, store: &[u8]) -> SizeOf
-    ensures { λ r. ⌜ sizeOf r ≡ map SizeOfV (valueOf (now (grammar .entry)) (now (rows .entry)) n (now (store .entry))) ⌝ }
+    ensures { λ r. ⌜ sizeOf r ≡ map SizeOfV (valueToWrite (now (grammar .entry)) (now (rows .entry)) n (now (store .entry))) ⌝ }
 {
     match grammar::check_grammar(grammar) {
         Answer::Refused(r) => SizeOf::Refused(r),
