@@ -107,7 +107,7 @@ own-fits v row p capacity h = rw (length-rowsOf v p) (omega arith)
 node-tree : (g : List ℕ) (node : ℕ) → Node g node → (w : ℕ) (k : Kind) → kindWord g node ≡ w → kindOf w ≡ k → treeOf g node ≡ nodeTree k (childTrees g (treeOf g) (firstWord g node) (countWord g node))
 node-tree g node n w k e f = tree-node g (n .passes) node (n .below) ∙ ap (λ (x : Kind). nodeTree x (childTrees g (treeOf g) (firstWord g node) (countWord g node))) (ap kindOf e ∙ f)
 
--- Kinds that are read at once.
+-- The claimed row, then the body.
 
 module _ (g : List ℕ) (node : ℕ) (d entry : List ℕ) (s t : CodeState) (n : Node g node) (ready : Ready d entry s) (c : Claimed s t) where
   -- reading the node is reading its body behind the claimed row
@@ -123,21 +123,6 @@ module _ (g : List ℕ) (node : ℕ) (d entry : List ℕ) (s t : CodeState) (n :
       whole (body (treeOf g node) refl)
       (subst (λ (p : ℕ). Reads rowsOf (readBody (s .capacity) d (treeOf g node) (stateOf t)) (s .capacity) (s .begun) p entry r exit) (c .at)
       (subst (λ (m : ℕ). Reads rowsOf (readBody m d (treeOf g node) (stateOf t)) m (s .begun) (t .at) entry r exit) (c .capacity) h))
-
-  pub arm-constant : {r : CodeStep} {exit : List ℕ} → kindWord g node ≡ 0 → r ≡ Next t → exit ≡ laid entry (s .begun) (0 ∷ 1 ∷ 0 ∷ 0 ∷ []) → Reads rowsOf (readVal (s .capacity) d (treeOf g node) (stateOf s)) (s .capacity) (s .begun) (s .at) entry r exit
-  unfolding readBody nodeTree rowsOf ownRow rowCount
-  arm-constant e q h = rw q (whole (body GConstant (node-tree g node n 0 constant e (other-kinds .0))) (reads-next t VConstant refl (c .capacity) h))
-
-  pub arm-number : (k : Number) {x : Reading ℕ} {r : CodeStep} {exit : List ℕ} → kindWord g node ≡ numberKind k → x ≡ takeNumber d (width k) (stateOf t) → Reads rowsOf (give (VNumber k) x) (s .capacity) (s .begun) (s .at) entry r exit → Reads rowsOf (readVal (s .capacity) d (treeOf g node) (stateOf s)) (s .capacity) (s .begun) (s .at) entry r exit
-  unfolding readBody nodeTree
-  arm-number k e q h = whole (body (GNumber k) (node-tree g node n (numberKind k) (number k) e (number-kind k)) ∙ ap (give (VNumber k)) (sym q)) h
-
-  pub arm-elements : (k : Elements) {r : CodeStep} {exit : List ℕ} → kindWord g node ≡ elementsKind k → Reads rowsOf (give (VNumberArray k) (takeNumbers d (elementWidth k) (stateOf t))) (t .capacity) (s .begun) (t .at) entry r exit → Reads rowsOf (readVal (s .capacity) d (treeOf g node) (stateOf s)) (s .capacity) (s .begun) (s .at) entry r exit
-  unfolding readBody nodeTree
-  arm-elements k {r} {exit} e h =
-      whole (body (GNumberArray k) (node-tree g node n (elementsKind k) (elementsClass k) e (elements-kind k)))
-      (subst (λ (p : ℕ). Reads rowsOf (give (VNumberArray k) (takeNumbers d (elementWidth k) (stateOf t))) (s .capacity) (s .begun) p entry r exit) (c .at)
-      (subst (λ (m : ℕ). Reads rowsOf (give (VNumberArray k) (takeNumbers d (elementWidth k) (stateOf t))) m (s .begun) (t .at) entry r exit) (c .capacity) h))
 
 -- Arrays, tuples and cases.
 
@@ -157,6 +142,20 @@ module _ {g d entry : List ℕ} {node w row : ℕ} {s : CodeState} (p : Parent g
 
   body-tree : (x : G) → treeOf g node ≡ x → readBody (s .capacity) d (treeOf g node) (stateOf s) ≡ readBody (s .capacity) d x (stateOf s)
   body-tree x e = ap (λ (y : G). readBody (s .capacity) d y (stateOf s)) e
+
+  -- Kinds that are read at once.
+
+  pub leaf-constant : w ≡ 0 → {r : CodeStep} {exit : List ℕ} → r ≡ Next s → exit ≡ laid entry row (0 ∷ 1 ∷ 0 ∷ 0 ∷ []) → Reads rowsOf (readBody (s .capacity) d (treeOf g node) (stateOf s)) (s .capacity) row (s .at) entry r exit
+  unfolding readBody nodeTree rowsOf ownRow rowCount
+  leaf-constant e q h = rw (q, body-tree GConstant (node-tree g node (p .node) 0 constant (p .kind ∙ e) (other-kinds .0))) (reads-next s VConstant refl refl h)
+
+  pub leaf-number : (k : Number) {x : Reading ℕ} {r : CodeStep} {exit : List ℕ} → w ≡ numberKind k → x ≡ takeNumber d (width k) (stateOf s) → Reads rowsOf (give (VNumber k) x) (s .capacity) row (s .at) entry r exit → Reads rowsOf (readBody (s .capacity) d (treeOf g node) (stateOf s)) (s .capacity) row (s .at) entry r exit
+  unfolding readBody nodeTree
+  leaf-number k e q h = rw (body-tree (GNumber k) (node-tree g node (p .node) (numberKind k) (number k) (p .kind ∙ e) (number-kind k)) ∙ ap (give (VNumber k)) (sym q)) h
+
+  pub leaf-elements : (k : Elements) {r : CodeStep} {exit : List ℕ} → w ≡ elementsKind k → Reads rowsOf (give (VNumberArray k) (takeNumbers d (elementWidth k) (stateOf s))) (s .capacity) row (s .at) entry r exit → Reads rowsOf (readBody (s .capacity) d (treeOf g node) (stateOf s)) (s .capacity) row (s .at) entry r exit
+  unfolding readBody nodeTree
+  leaf-elements k e h = rw (body-tree (GNumberArray k) (node-tree g node (p .node) (elementsKind k) (elementsClass k) (p .kind ∙ e) (elements-kind k))) h
 
   -- the row of the parent before the rows of its children, which are `more` and start where the rows of A do
   closed-rows : {A : Type 0} {rowsAt : A → ℕ → List ℕ} (x : Reading A) (f : A → Val) (count : A → ℕ) (kind word2 q : ℕ) {read r : CodeStep} {mid exit : List ℕ} → ((a : A) → rowCount (f a) ≡ 1 + count a) → ((t : Step State A) → x ≡ accepted t → (t .state .begun ≡ s .begun + count (t .value)) × (count (t .value) ≤ s .capacity - s .begun) × ((span : ℕ) → span ≡ 1 + count (t .value) → rowsOf (f (t .value)) (s .at) ≡ (kind ∷ span ∷ word2 ∷ 0 ∷ []) ++ rowsAt (t .value) q)) → Reads rowsAt x (s .capacity) (suc row) q entry read mid → r ≡ read → exit ≡ closed row kind word2 read mid → Reads rowsOf (give f x) (s .capacity) row (s .at) entry r exit
@@ -262,14 +261,14 @@ module _ {g d entry : List ℕ} {node row : ℕ} {s : CodeState} (p : Parent g d
 -- What the readers of the cycle ask of each other.
 
 module _ {g : List ℕ} {node : ℕ} {d entry : List ℕ} {s t : CodeState} (n : Node g node) (ready : Ready d entry s) (c : Claimed s t) where
-  pub own-row : (s .begun < 4096) × RowRoom (s .begun) entry
+  own-row : (s .begun < 4096) × RowRoom (s .begun) entry
   own-row = (omega (arith, c .free, ready .most), row-room (s .capacity) (s .begun) entry (ready .room) (c .free))
 
-  pub ready-claimed : Ready d entry t
+  ready-claimed : Ready d entry t
   ready-claimed = record { inside = omega (arith, c .at, ready .inside); short = ready .short; few = omega (arith, c .begun, c .capacity, c .free); most = omega (arith, c .capacity, ready .most); room = subst (λ (m : ℕ). Room m entry) (sym (c .capacity)) (ready .room); byteValues = ready .byteValues }
 
   pub parent-claimed : {w : ℕ} → kindWord g node ≡ w → Parent g d entry node w (s .begun) t
-  parent-claimed k = record { node = n; kind = k; ready = ready-claimed; claimed = c .begun }
+  parent-claimed k = record { node = n; kind = k; ready = ready-claimed; claimed = c .begun; below = own-row .0; lent = own-row .1 }
 
 -- children that were read are counted behind the row of their parent
 pub counted-elements : {d entry mid : List ℕ} {row : ℕ} (u : CodeState) (g : G) (m : ℕ) (read : CodeStep) → Ready d entry u → row < u .begun → Reads rowsOfAll (elements m (readVal (u .capacity) d g) (stateOf u)) (u .capacity) (u .begun) (u .at) entry read mid → Counted row read

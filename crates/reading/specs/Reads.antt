@@ -41,12 +41,24 @@ pub record Node (t : List ℕ) (k : ℕ) : Type 0 where
   pub below : k < nodeCount t
   pub words : Below (2 ^ 32) t
 
+-- row `row` is lent, or none is
+abbrev pub RowRoom : ℕ → List ℕ → Type 0
+RowRoom row rows = (rows ≡ []) ⊎ (rowWidth * row + rowWidth ≤ length rows)
+
 -- node k is of kind w, its value has claimed row `row`, and s is the state behind
 pub record Parent (g d rows : List ℕ) (k w row : ℕ) (s : CodeState) : Type 0 where
   pub node : Node g k
   pub kind : kindWord g k ≡ w
   pub ready : Ready d rows s
   pub claimed : s .begun ≡ row + 1
+  pub below : row < 4096
+  pub lent : RowRoom row rows
+
+-- a kind whose values have no children
+pub record Leaf (w : ℕ) : Type 0 where
+  pub noArray : w ≡ 3 → ⊥
+  pub noTuple : w ≡ 4 → ⊥
+  pub noCase : w ≡ 8 → ⊥
 
 -- the code's answer r and the rows at exit, beside the reading x of what starts at byte p and has its rows from `row` on:
 -- the same outcome, and what was read is laid over the rows at entry
@@ -54,10 +66,6 @@ pub record Reads {A : Type 0} (rowsAt : A → ℕ → List ℕ) (x : Reading A) 
   pub answers : stepOf r ≡ map (λ t. t .state) x
   pub keeps : StepKeeps capacity r
   pub rows : (t : Step State A) → x ≡ accepted t → exit ≡ laid entry row (rowsAt (t .value) p)
-
--- row `row` is lent, or none is
-abbrev pub RowRoom : ℕ → List ℕ → Type 0
-RowRoom row rows = (rows ≡ []) ⊎ (rowWidth * row + rowWidth ≤ length rows)
 
 -- what a parent's row holds once its children are read: kind, span, word 2, word 3
 abbrev pub closed : ℕ → ℕ → ℕ → CodeStep → List ℕ → List ℕ

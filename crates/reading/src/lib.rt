@@ -15,7 +15,7 @@ ghost use Rattle.rows.specs.Layout.{rowsOf, rowsOfAll};
 ghost use Rattle.admission.specs.Admission.{capacityOf};
 ghost use Rattle.reading.specs.Meaning.{stateOf, stepOf, takenOf, bodyOf, StepKeeps, TakenKeeps, parsedOf};
 ghost use Rattle.reading.specs.Calls.{parseValOf, demarshallOf, countsOf, Parses, Admitted, parsedStep};
-ghost use Rattle.reading.specs.Reads.{laid, RowRoom, Ready, Node, Parent, Reads, closed, Counted, takeBelow};
+ghost use Rattle.reading.specs.Reads.{laid, RowRoom, Ready, Node, Parent, Leaf, Reads, closed, Counted, takeBelow};
 use packed::UnpackedU32;
 use packed::UnpackedU64;
 use refusal::Answer;
@@ -235,6 +235,34 @@ fn read_constant(rows: &mut [u64], row: usize, s: State) -> Step
     Step::Next(s)
 }
 
+// A value without children, behind its claimed row. Parents are read by the cycle, and in a table that passes no kind is
+// above 8: their arms, which answer as a kind above 8 would, are not reached.
+fn read_leaf(
+    grammar: &[u32],
+    node: usize,
+    bytes: &[u8],
+    rows: &mut [u64],
+    row: usize,
+    kind: u32,
+    s: State,
+) -> Step
+    requires { ⌜ Parent (now grammar) (now bytes) (now rows) node kind row s × Leaf kind ⌝ }
+    ensures { λ r. ⌜ Reads rowsOf (readBody (s .capacity) (now (bytes .entry)) (treeOf (now (grammar .entry)) node) (stateOf s)) (s .capacity) row (s .at) (now (rows .entry)) r (now (rows .exit)) ⌝ }
+{
+    match kind {
+        0 => read_constant(rows, row, s),
+        1 => read_number(rows, row, 1, s.take4(bytes)),
+        2 => read_number(rows, row, 2, s.take8(bytes)),
+        5 => read_elements(bytes, rows, row, 5, 1, s),
+        6 => read_elements(bytes, rows, row, 6, 4, s),
+        7 => read_elements(bytes, rows, row, 7, 8, s),
+        3 | 4 | 8 | 9..=4294967295 => Step::Stopped(
+            s,
+            refusal::at_word(refusal::NODE_KIND, 1 + 3 * node),
+        ),
+    }
+}
+
 // The value that starts at s and stands for a node. Arrays, tuples and cases are functions by themselves, also because the
 // compiler then lets them share one frame.
 fn read_value(grammar: &[u32], node: usize, bytes: &[u8], rows: &mut [u64], s: State) -> Step
@@ -247,14 +275,9 @@ fn read_value(grammar: &[u32], node: usize, bytes: &[u8], rows: &mut [u64], s: S
         Step::Next(t) => {
             let kind = grammar[1 + 3 * node];
             match kind {
-                0 => read_constant(rows, row, t),
-                1 => read_number(rows, row, 1, t.take4(bytes)),
-                2 => read_number(rows, row, 2, t.take8(bytes)),
+                0 | 1 | 2 | 5 | 6 | 7 => read_leaf(grammar, node, bytes, rows, row, kind, t),
                 3 => read_array(grammar, node, bytes, rows, row, t),
                 4 => read_tuple(grammar, node, bytes, rows, row, t),
-                5 => read_elements(bytes, rows, row, 5, 1, t),
-                6 => read_elements(bytes, rows, row, 6, 4, t),
-                7 => read_elements(bytes, rows, row, 7, 8, t),
                 8 => read_case(grammar, node, bytes, rows, row, t),
                 9..=4294967295 => Step::Stopped(
                     t,

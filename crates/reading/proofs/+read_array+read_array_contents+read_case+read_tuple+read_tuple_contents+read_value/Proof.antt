@@ -4,19 +4,17 @@ use mathlib.Core.Path.{_≡_, refl, ap, sym, subst, _∙_}
 use Prim.Native.Nat.{_+_, _-_, _*_, _≤_, zero-le}
 use native.Mathlib.Nat.{sub-zero, add-zero}
 use native.Mathlib.Omega.{arith}
-use Rattle.refusal.proofs.Tests.{next-key}
-use Rattle.value.specs.Kinds.{uint32, uint64, bytes as byteElements, uint32s, uint64s}
 use Rattle.value.specs.Tree.{Gs}
 use Rattle.value.specs.Step.{yield, both, elements}
 use Rattle.value.specs.Reading.{readVal, readFields}
 use Rattle.tables.specs.Grammar.{firstWord, countWord}
 use Rattle.grammar.specs.Tree.{treeOf, childTrees}
 use Rattle.grammar.proofs.Tree.{tree-valid}
-use Rattle.reading.specs.Meaning.{stateOf, TakenKeeps}
+use Rattle.reading.specs.Meaning.{stateOf}
 use Rattle.reading.specs.Reads.{Ready, takeBelow}
 use Rattle.reading.proofs.Loop.{room-kept, Remaining, remaining-start, remaining-stopped, remaining-next, remaining-done, few-elements, few-fields, elements-next, elements-none, fields-next, fields-none}
 use Rattle.reading.proofs.Laws.{node-inside, taken-number, taken-stopped}
-use Rattle.reading.proofs.Arms.{Claimed, claimed-next, claim-refused, own-row, ready-claimed, parent-claimed, parent-row, parent-room, head-begun, head-below, head-ready, array-count, counted-elements, counted-fields, counted-value, arm-body, arm-constant, arm-number, arm-elements, arm-array, arm-array-stopped, arm-tuple, arm-case, arm-case-stopped}
+use Rattle.reading.proofs.Arms.{Claimed, claimed-next, claim-refused, parent-claimed, parent-row, parent-room, head-begun, head-below, head-ready, array-count, counted-elements, counted-fields, counted-value, arm-body, arm-array, arm-array-stopped, arm-tuple, arm-case, arm-case-stopped}
 use borrow.Author.Needs.{needs}
 use Prim.Native.Nat.{ℕ, _<_}
 use borrow.Fn.Kinds.{In}
@@ -40,15 +38,11 @@ use Rattle.reading.proofs.read_value.Reads as read-value
 use Rattle.reading.proofs.read_value.Kinds as read-value-kinds
 use Rattle.reading.proofs.+read_array+read_array_contents+read_case+read_tuple+read_tuple_contents+read_value.Lts-read_value as read-value-lts
 use Rattle.reading.proofs.State.claim.Reads as claim-reads
-use Rattle.reading.proofs.State.take4.Reads as take4-reads
-use Rattle.reading.proofs.State.take8.Reads as take8-reads
 use Rattle.reading.proofs.State.take_below.Reads as take-below-reads
 use Rattle.reading.proofs.child_at.Reads as child-at-reads
 use Rattle.reading.proofs.close_row.Reads as close-row-reads
-use Rattle.reading.proofs.read_constant.Reads as read-constant-reads
-use Rattle.reading.proofs.read_elements.Reads as read-elements-reads
-use Rattle.reading.proofs.read_number.Reads as read-number-reads
 use Rattle.reading.proofs.word.Reads as word-reads
+use Rattle.reading.proofs.read_leaf.Reads as read-leaf-reads
 use Rattle.refusal.proofs.at_word.Reads as at-word-reads
 use Rattle.reading.proofs.+read_array+read_array_contents+read_case+read_tuple+read_tuple_contents+read_value.{statement}
 use Rattle.reading.proofs.+read_array+read_array_contents+read_case+read_tuple+read_tuple_contents+read_value.Tie.{close}
@@ -150,7 +144,7 @@ abbrev read-tuple-contents-calls : ℕ → read-tuple-contents-lts.Claims
 read-tuple-contents-calls t = (word-reads.Asked, word-reads.Learnt, child-at-reads.Asked, child-at-reads.Learnt, read-value-below t, read-value.Post)
 
 abbrev read-value-calls : ℕ → read-value-lts.Claims
-read-value-calls t = (claim-reads.Asked, claim-reads.Learnt, read-constant-reads.Asked, read-constant-reads.Learnt, take4-reads.Asked, take4-reads.Learnt, read-number-reads.Asked, read-number-reads.Learnt, take8-reads.Asked, take8-reads.Learnt, read-array-below t, read-array.Post, read-tuple-below t, read-tuple.Post, read-elements-reads.Asked, read-elements-reads.Learnt, read-case-below t, read-case.Post, at-word-reads.Asked, at-word-reads.Learnt)
+read-value-calls t = (claim-reads.Asked, claim-reads.Learnt, read-array-below t, read-array.Post, read-tuple-below t, read-tuple.Post, read-case-below t, read-case.Post, read-leaf-reads.Asked, read-leaf-reads.Learnt, at-word-reads.Asked, at-word-reads.Learnt)
 
 -- a count was taken
 count-taken : (t : ℕ) (c : read-array-lts.After-count (read-array-calls t) (read-array-at t) read-array.Post) → yield (c .count .given .0 .0) (stateOf (c .count .given .0 .1 .0)) ≡ takeBelow (c .before .before .before .before .before .before .before .args .bytes .now) (c .before .before .before .before .before .before .before .args .s .capacity - c .before .before .before .before .before .before .before .args .s .begun + 1) 8 (stateOf (c .before .before .before .before .before .before .before .args .s))
@@ -594,87 +588,29 @@ read-value-mul-kind-2 t c = search needs
 read-value-shared-slice-read-kind : (t : ℕ) → read-value-lts.Need-shared-slice-read-kind (read-value-calls t) (read-value-at t) read-value.Post
 read-value-shared-slice-read-kind t c = search needs
 
-read-value-read-constant-requires : (t : ℕ) → read-value-lts.Need-read-constant-requires (read-value-calls t) (read-value-at t) read-value.Post
-read-value-read-constant-requires t c κs =
-    let a = c .before .before .before .before .before .before .before .before .before .before .args in
-    let p = c .before .before .before .before .before .before .before .before .before .before .pre .1 in
-    let q = claimed-row t (c .before .before .before .before) in
-    own-row (p .0) (p .1) q
-
-read-value-take4-requires : (t : ℕ) → read-value-lts.Need-take4-requires (read-value-calls t) (read-value-at t) read-value.Post
-read-value-take4-requires t c κs =
-    let a = c .before .before .before .before .before .before .before .before .before .before .args in
-    let p = c .before .before .before .before .before .before .before .before .before .before .pre .1 in
-    let q = claimed-row t (c .before .before .before .before) in
-    let r = ready-claimed (p .0) (p .1) q in
-    (r .inside, r .short)
-
-read-value-read-number-requires : (t : ℕ) → read-value-lts.Need-read-number-requires (read-value-calls t) (read-value-at t) read-value.Post
-read-value-read-number-requires t c κs =
-    let a = c .before .before .before .before .before .before .before .before .before .before .before .args in
-    let p = c .before .before .before .before .before .before .before .before .before .before .before .pre .1 in
-    let q = claimed-row t (c .before .before .before .before .before) in
-    own-row (p .0) (p .1) q
-
-read-value-take8-requires : (t : ℕ) → read-value-lts.Need-take8-requires (read-value-calls t) (read-value-at t) read-value.Post
-read-value-take8-requires t c κs =
-    let a = c .before .before .before .before .before .before .before .before .before .before .args in
-    let p = c .before .before .before .before .before .before .before .before .before .before .pre .1 in
-    let q = claimed-row t (c .before .before .before .before) in
-    let r = ready-claimed (p .0) (p .1) q in
-    (r .inside, r .short)
-
-read-value-read-number-requires-2 : (t : ℕ) → read-value-lts.Need-read-number-requires-2 (read-value-calls t) (read-value-at t) read-value.Post
-read-value-read-number-requires-2 t c κs =
-    let a = c .before .before .before .before .before .before .before .before .before .before .before .args in
-    let p = c .before .before .before .before .before .before .before .before .before .before .before .pre .1 in
-    let q = claimed-row t (c .before .before .before .before .before) in
-    own-row (p .0) (p .1) q
-
 read-value-read-array-requires : (t : ℕ) → read-value-lts.Need-read-array-requires (read-value-calls t) (read-value-at t) read-value.Post
 read-value-read-array-requires t c κs =
     let p = c .before .before .before .before .before .before .before .before .before .before .pre in
     let q = claimed-row t (c .before .before .before .before) in
-    (omega (arith, p .0, q .begun, q .capacity, q .free), parent-claimed (p .1 .0) (p .1 .1) q (c .before .match2 .keys4))
+    (omega (arith, p .0, q .begun, q .capacity, q .free), parent-claimed (p .1 .0) (p .1 .1) q (c .before .match2 .keys1))
 
 read-value-read-tuple-requires : (t : ℕ) → read-value-lts.Need-read-tuple-requires (read-value-calls t) (read-value-at t) read-value.Post
 read-value-read-tuple-requires t c κs =
     let p = c .before .before .before .before .before .before .before .before .before .before .pre in
     let q = claimed-row t (c .before .before .before .before) in
-    (omega (arith, p .0, q .begun, q .capacity, q .free), parent-claimed (p .1 .0) (p .1 .1) q (c .before .match2 .keys5))
-
-read-value-read-elements-requires : (t : ℕ) → read-value-lts.Need-read-elements-requires (read-value-calls t) (read-value-at t) read-value.Post
-read-value-read-elements-requires t c κs =
-    let a = c .before .before .before .before .before .before .before .before .before .before .args in
-    let p = c .before .before .before .before .before .before .before .before .before .before .pre .1 in
-    let q = claimed-row t (c .before .before .before .before) in
-    let o = own-row (p .0) (p .1) q in
-    let r = ready-claimed (p .0) (p .1) q in
-    (o .0, o .1, r .inside, r .short, omega arith, omega arith)
-
-read-value-read-elements-requires-2 : (t : ℕ) → read-value-lts.Need-read-elements-requires-2 (read-value-calls t) (read-value-at t) read-value.Post
-read-value-read-elements-requires-2 t c κs =
-    let a = c .before .before .before .before .before .before .before .before .before .before .args in
-    let p = c .before .before .before .before .before .before .before .before .before .before .pre .1 in
-    let q = claimed-row t (c .before .before .before .before) in
-    let o = own-row (p .0) (p .1) q in
-    let r = ready-claimed (p .0) (p .1) q in
-    (o .0, o .1, r .inside, r .short, omega arith, omega arith)
-
-read-value-read-elements-requires-3 : (t : ℕ) → read-value-lts.Need-read-elements-requires-3 (read-value-calls t) (read-value-at t) read-value.Post
-read-value-read-elements-requires-3 t c κs =
-    let a = c .before .before .before .before .before .before .before .before .before .before .args in
-    let p = c .before .before .before .before .before .before .before .before .before .before .pre .1 in
-    let q = claimed-row t (c .before .before .before .before) in
-    let o = own-row (p .0) (p .1) q in
-    let r = ready-claimed (p .0) (p .1) q in
-    (o .0, o .1, r .inside, r .short, omega arith, omega arith)
+    (omega (arith, p .0, q .begun, q .capacity, q .free), parent-claimed (p .1 .0) (p .1 .1) q (c .before .match2 .keys2))
 
 read-value-read-case-requires : (t : ℕ) → read-value-lts.Need-read-case-requires (read-value-calls t) (read-value-at t) read-value.Post
 read-value-read-case-requires t c κs =
     let p = c .before .before .before .before .before .before .before .before .before .before .pre in
     let q = claimed-row t (c .before .before .before .before) in
-    (omega (arith, p .0, q .begun, q .capacity, q .free), parent-claimed (p .1 .0) (p .1 .1) q (c .before .match2 .keys9))
+    (omega (arith, p .0, q .begun, q .capacity, q .free), parent-claimed (p .1 .0) (p .1 .1) q (c .before .match2 .keys3))
+
+read-value-read-leaf-requires : (t : ℕ) → read-value-lts.Need-read-leaf-requires (read-value-calls t) (read-value-at t) read-value.Post
+read-value-read-leaf-requires t c κs =
+    let p = c .before .before .before .before .before .before .before .before .before .before .before .pre .1 in
+    let r = c .before .before .match2 .rest in
+    (parent-claimed (p .0) (p .1) (claimed-row t (c .before .before .before .before .before)) refl, record { noArray = r .0 .0 .1; noTuple = r .0 .1; noCase = r .1 })
 
 read-value-mul-at-word : (t : ℕ) → read-value-lts.Need-mul-at-word (read-value-calls t) (read-value-at t) read-value.Post
 read-value-mul-at-word t c = search needs
@@ -698,102 +634,44 @@ read-value-returns-2 : (t : ℕ) → read-value-lts.Need-returns-2 (read-value-c
 read-value-returns-2 t c =
     let a = c .before .before .before .before .before .before .before .before .before .before .before .before .before .args in
     let p = c .before .before .before .before .before .before .before .before .before .before .before .before .before .pre .1 in
-    let s = c .before .before .before .before .before .before .before .t2 .given .0 .0 in
     let q = claimed-row t (c .before .before .before .before .before .before .before) in
-    arm-constant (a .grammar .now) (a .node) (a .bytes .now) (a .rows .now) (a .s) s (p .0) (p .1) q (c .before .before .before .before .match2 .keys1) (c .before .before .read-constant .ensures .0) (c .before .before .read-constant .ensures .1)
+    arm-body (a .grammar .now) (a .node) (a .bytes .now) (a .rows .now) (a .s) (c .before .before .before .before .before .before .before .t2 .given .0 .0) (p .0) (p .1) q (c .before .before .read-array .ensures)
 
 read-value-same-length-2 : (t : ℕ) → read-value-lts.Need-same-length-2 (read-value-calls t) (read-value-at t) read-value.Post
 read-value-same-length-2 t c = search needs
 
 read-value-returns-3 : (t : ℕ) → read-value-lts.Need-returns-3 (read-value-calls t) (read-value-at t) read-value.Post
 read-value-returns-3 t c =
-    let a = c .before .before .before .before .before .before .before .before .before .before .before .before .before .before .args in
-    let p = c .before .before .before .before .before .before .before .before .before .before .before .before .before .before .pre .1 in
-    let s = c .before .before .before .before .before .before .before .before .t2 .given .0 .0 in
-    let q = claimed-row t (c .before .before .before .before .before .before .before .before) in
-    arm-number (a .grammar .now) (a .node) (a .bytes .now) (a .rows .now) (a .s) s (p .0) (p .1) q uint32 (c .before .before .before .before .before .match2 .keys2) (c .before .before .before .take4 .ensures .0) (c .before .before .read-number .ensures uint32 (a .s .capacity) (a .s .at) refl (subst (λ (m : ℕ). TakenKeeps m (c .before .before .before .take4 .result)) (q .capacity) (c .before .before .before .take4 .ensures .1)))
+    let a = c .before .before .before .before .before .before .before .before .before .before .before .before .before .args in
+    let p = c .before .before .before .before .before .before .before .before .before .before .before .before .before .pre .1 in
+    let q = claimed-row t (c .before .before .before .before .before .before .before) in
+    arm-body (a .grammar .now) (a .node) (a .bytes .now) (a .rows .now) (a .s) (c .before .before .before .before .before .before .before .t2 .given .0 .0) (p .0) (p .1) q (c .before .before .read-tuple .ensures)
 
 read-value-same-length-3 : (t : ℕ) → read-value-lts.Need-same-length-3 (read-value-calls t) (read-value-at t) read-value.Post
 read-value-same-length-3 t c = search needs
 
 read-value-returns-4 : (t : ℕ) → read-value-lts.Need-returns-4 (read-value-calls t) (read-value-at t) read-value.Post
 read-value-returns-4 t c =
-    let a = c .before .before .before .before .before .before .before .before .before .before .before .before .before .before .args in
-    let p = c .before .before .before .before .before .before .before .before .before .before .before .before .before .before .pre .1 in
-    let s = c .before .before .before .before .before .before .before .before .t2 .given .0 .0 in
-    let q = claimed-row t (c .before .before .before .before .before .before .before .before) in
-    arm-number (a .grammar .now) (a .node) (a .bytes .now) (a .rows .now) (a .s) s (p .0) (p .1) q uint64 (c .before .before .before .before .before .match2 .keys3) (c .before .before .before .take8 .ensures .0) (c .before .before .read-number2 .ensures uint64 (a .s .capacity) (a .s .at) refl (subst (λ (m : ℕ). TakenKeeps m (c .before .before .before .take8 .result)) (q .capacity) (c .before .before .before .take8 .ensures .1)))
+    let a = c .before .before .before .before .before .before .before .before .before .before .before .before .before .args in
+    let p = c .before .before .before .before .before .before .before .before .before .before .before .before .before .pre .1 in
+    let q = claimed-row t (c .before .before .before .before .before .before .before) in
+    arm-body (a .grammar .now) (a .node) (a .bytes .now) (a .rows .now) (a .s) (c .before .before .before .before .before .before .before .t2 .given .0 .0) (p .0) (p .1) q (c .before .before .read-case .ensures)
 
 read-value-same-length-4 : (t : ℕ) → read-value-lts.Need-same-length-4 (read-value-calls t) (read-value-at t) read-value.Post
 read-value-same-length-4 t c = search needs
 
 read-value-returns-5 : (t : ℕ) → read-value-lts.Need-returns-5 (read-value-calls t) (read-value-at t) read-value.Post
 read-value-returns-5 t c =
-    let a = c .before .before .before .before .before .before .before .before .before .before .before .before .before .args in
-    let p = c .before .before .before .before .before .before .before .before .before .before .before .before .before .pre .1 in
-    let q = claimed-row t (c .before .before .before .before .before .before .before) in
-    arm-body (a .grammar .now) (a .node) (a .bytes .now) (a .rows .now) (a .s) (c .before .before .before .before .before .before .before .t2 .given .0 .0) (p .0) (p .1) q (c .before .before .read-array .ensures)
-
-read-value-same-length-5 : (t : ℕ) → read-value-lts.Need-same-length-5 (read-value-calls t) (read-value-at t) read-value.Post
-read-value-same-length-5 t c = search needs
+    let a = c .before .before .before .before .before .before .before .before .before .before .before .before .before .before .args in
+    let p = c .before .before .before .before .before .before .before .before .before .before .before .before .before .before .pre .1 in
+    let q = claimed-row t (c .before .before .before .before .before .before .before .before) in
+    arm-body (a .grammar .now) (a .node) (a .bytes .now) (a .rows .now) (a .s) (c .before .before .before .before .before .before .before .before .t2 .given .0 .0) (p .0) (p .1) q (c .before .before .read-leaf .ensures)
 
 read-value-returns-6 : (t : ℕ) → read-value-lts.Need-returns-6 (read-value-calls t) (read-value-at t) read-value.Post
 read-value-returns-6 t c =
-    let a = c .before .before .before .before .before .before .before .before .before .before .before .before .before .args in
-    let p = c .before .before .before .before .before .before .before .before .before .before .before .before .before .pre .1 in
-    let q = claimed-row t (c .before .before .before .before .before .before .before) in
-    arm-body (a .grammar .now) (a .node) (a .bytes .now) (a .rows .now) (a .s) (c .before .before .before .before .before .before .before .t2 .given .0 .0) (p .0) (p .1) q (c .before .before .read-tuple .ensures)
-
-read-value-same-length-6 : (t : ℕ) → read-value-lts.Need-same-length-6 (read-value-calls t) (read-value-at t) read-value.Post
-read-value-same-length-6 t c = search needs
-
-read-value-returns-7 : (t : ℕ) → read-value-lts.Need-returns-7 (read-value-calls t) (read-value-at t) read-value.Post
-read-value-returns-7 t c =
-    let a = c .before .before .before .before .before .before .before .before .before .before .before .before .before .args in
-    let p = c .before .before .before .before .before .before .before .before .before .before .before .before .before .pre .1 in
-    let s = c .before .before .before .before .before .before .before .t2 .given .0 .0 in
-    let q = claimed-row t (c .before .before .before .before .before .before .before) in
-    arm-elements (a .grammar .now) (a .node) (a .bytes .now) (a .rows .now) (a .s) s (p .0) (p .1) q byteElements (c .before .before .before .before .match2 .keys6) (c .before .before .read-elements .ensures byteElements refl refl)
-
-read-value-same-length-7 : (t : ℕ) → read-value-lts.Need-same-length-7 (read-value-calls t) (read-value-at t) read-value.Post
-read-value-same-length-7 t c = search needs
-
-read-value-returns-8 : (t : ℕ) → read-value-lts.Need-returns-8 (read-value-calls t) (read-value-at t) read-value.Post
-read-value-returns-8 t c =
-    let a = c .before .before .before .before .before .before .before .before .before .before .before .before .before .args in
-    let p = c .before .before .before .before .before .before .before .before .before .before .before .before .before .pre .1 in
-    let s = c .before .before .before .before .before .before .before .t2 .given .0 .0 in
-    let q = claimed-row t (c .before .before .before .before .before .before .before) in
-    arm-elements (a .grammar .now) (a .node) (a .bytes .now) (a .rows .now) (a .s) s (p .0) (p .1) q uint32s (c .before .before .before .before .match2 .keys7) (c .before .before .read-elements2 .ensures uint32s refl refl)
-
-read-value-same-length-8 : (t : ℕ) → read-value-lts.Need-same-length-8 (read-value-calls t) (read-value-at t) read-value.Post
-read-value-same-length-8 t c = search needs
-
-read-value-returns-9 : (t : ℕ) → read-value-lts.Need-returns-9 (read-value-calls t) (read-value-at t) read-value.Post
-read-value-returns-9 t c =
-    let a = c .before .before .before .before .before .before .before .before .before .before .before .before .before .args in
-    let p = c .before .before .before .before .before .before .before .before .before .before .before .before .before .pre .1 in
-    let s = c .before .before .before .before .before .before .before .t2 .given .0 .0 in
-    let q = claimed-row t (c .before .before .before .before .before .before .before) in
-    arm-elements (a .grammar .now) (a .node) (a .bytes .now) (a .rows .now) (a .s) s (p .0) (p .1) q uint64s (c .before .before .before .before .match2 .keys8) (c .before .before .read-elements3 .ensures uint64s refl refl)
-
-read-value-same-length-9 : (t : ℕ) → read-value-lts.Need-same-length-9 (read-value-calls t) (read-value-at t) read-value.Post
-read-value-same-length-9 t c = search needs
-
-read-value-returns-10 : (t : ℕ) → read-value-lts.Need-returns-10 (read-value-calls t) (read-value-at t) read-value.Post
-read-value-returns-10 t c =
-    let a = c .before .before .before .before .before .before .before .before .before .before .before .before .before .args in
-    let p = c .before .before .before .before .before .before .before .before .before .before .before .before .before .pre .1 in
-    let q = claimed-row t (c .before .before .before .before .before .before .before) in
-    arm-body (a .grammar .now) (a .node) (a .bytes .now) (a .rows .now) (a .s) (c .before .before .before .before .before .before .before .t2 .given .0 .0) (p .0) (p .1) q (c .before .before .read-case .ensures)
-
-read-value-returns-11 : (t : ℕ) → read-value-lts.Need-returns-11 (read-value-calls t) (read-value-at t) read-value.Post
-read-value-returns-11 t c =
-    let a = c .before .before .before .before .before .before .before .before .before .before .args in
-    let r = c .before .match2 .rest in
-    let h = next-key (next-key (next-key (next-key (next-key (next-key (next-key (next-key (next-key zero-le (r .0 .0 .0 .0 .0 .0 .0 .0 .1)) (r .0 .0 .0 .0 .0 .0 .0 .1)) (r .0 .0 .0 .0 .0 .0 .1)) (r .0 .0 .0 .0 .0 .1)) (r .0 .0 .0 .0 .1)) (r .0 .0 .0 .1)) (r .0 .0 .1)) (r .0 .1)) (r .1) in
-    let k = node-inside (a .grammar .now) (a .node) (c .before .before .before .before .before .before .before .before .before .before .pre .1 .0) .2 in
-    absurd (omega arith)
+    let a = c .before .before .before .before .before .before .before .before .before .before .before .args in
+    let k = node-inside (a .grammar .now) (a .node) (c .before .before .before .before .before .before .before .before .before .before .before .pre .1 .0) .2 in
+    absurd (c .before .before .match2 .rest .1 (omega (arith, c .before .if1 .left)))
 
 pub +read-array+read-array-contents+read-case+read-tuple+read-tuple-contents+read-value-spec : {M : Type 1} → statement M
 +read-array+read-array-contents+read-case+read-tuple+read-tuple-contents+read-value-spec =
@@ -897,17 +775,10 @@ pub +read-array+read-array-contents+read-case+read-tuple+read-tuple-contents+rea
     (read-value-add-kind t)
     (read-value-mul-kind-2 t)
     (read-value-shared-slice-read-kind t)
-    (read-value-read-constant-requires t)
-    (read-value-take4-requires t)
-    (read-value-read-number-requires t)
-    (read-value-take8-requires t)
-    (read-value-read-number-requires-2 t)
     (read-value-read-array-requires t)
     (read-value-read-tuple-requires t)
-    (read-value-read-elements-requires t)
-    (read-value-read-elements-requires-2 t)
-    (read-value-read-elements-requires-3 t)
     (read-value-read-case-requires t)
+    (read-value-read-leaf-requires t)
     (read-value-mul-at-word t)
     (read-value-add-at-word t)
     (read-value-at-word-requires t)
@@ -920,14 +791,4 @@ pub +read-array+read-array-contents+read-case+read-tuple+read-tuple-contents+rea
     (read-value-returns-4 t)
     (read-value-same-length-4 t)
     (read-value-returns-5 t)
-    (read-value-same-length-5 t)
     (read-value-returns-6 t)
-    (read-value-same-length-6 t)
-    (read-value-returns-7 t)
-    (read-value-same-length-7 t)
-    (read-value-returns-8 t)
-    (read-value-same-length-8 t)
-    (read-value-returns-9 t)
-    (read-value-same-length-9 t)
-    (read-value-returns-10 t)
-    (read-value-returns-11 t)
