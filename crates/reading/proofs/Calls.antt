@@ -1,37 +1,34 @@
--- The public calls: 1 to 7 before the reading of the root, and the rows it fills.
-use mathlib.Core.Path.{_≡_, refl, ap, sym, _∙_}
+-- The public calls: 1 to 7 before the reading of the root, 11 behind it, and the rows it fills.
+use mathlib.Core.Path.{_≡_, refl, ap, sym, subst, _∙_}
 use mathlib.Core.Bool.{Bool, true, false}
 use mathlib.Core.List.{List}
-use Prim.Native.Nat.{ℕ, _*_, _^_, _≤_, _<_}
+use Prim.Native.Nat.{ℕ, zero, suc, _<_}
 use native.Mathlib.Omega.{arith}
 use lib.ListN.{length}
-use lib.Dec.{leb, ltb, eqb}
-use borrow.Author.Tests.{le-leb, ltb-true}
-use Rattle.refusal.specs.Outcome.{Outcome, accepted, refused, bind, test, map, Reason, reason, byte}
+use lib.Dec.{leb, eqb}
+use borrow.Author.Tests.{le-leb}
+use Rattle.refusal.specs.Outcome.{Outcome, accepted, refused, bind, test, map, contents, Reason, reason, byte}
 use Rattle.refusal.specs.declared.Refusal.{Refusal}
 use Rattle.refusal.specs.Meaning.{reasonOf}
-use Rattle.packed.specs.Packed.{Bytes, Below}
-use Rattle.value.specs.Tree.{Val, G}
+use Rattle.packed.specs.Packed.{put}
+use Rattle.value.specs.Tree.{Val}
 use Rattle.value.specs.Step.{Step, yield, next}
-use Rattle.value.specs.Reading.{State, Stop, Reading, stop, start, begin, claim, atEnd, readAt, readWhole, readBody, readVal}
+use Rattle.value.specs.Reading.{State, Stop, Reading, stop, start, atEnd, readAt, readWhole, readVal}
 use Rattle.grammar.specs.Check.{checkGrammar}
 use Rattle.grammar.specs.Tree.{treeOf}
-use Rattle.tables.specs.Row.{rowWidth}
 use Rattle.rows.specs.Layout.{rowsOf}
-use Rattle.admission.specs.Admission.{admitOf}
-use Rattle.admission.proofs.Admission.{admitted}
-use Rattle.reading.specs.declared.Step.{Step as CodeStep}
-use Rattle.reading.specs.declared.Step.the-variants.{Next, Stopped}
+use Rattle.admission.specs.Admission.{capacityOf, admitOf}
+use Rattle.readers.specs.declared.Step.{Step as CodeStep}
+use Rattle.readers.specs.declared.Step.the-variants.{Next, Stopped}
+use Rattle.readers.specs.Meaning.{stepOf}
+use Rattle.readers.specs.Reads.{laid}
+use Rattle.readers.specs.Root.{capacityWithin, beforeStart, readRoot, FillsRows}
+use Rattle.readers.proofs.Laws.{laid-lent}
+use Rattle.readers.proofs.Root.{root-claims}
 use Rattle.reading.specs.declared.Parsed.{Parsed}
 use Rattle.reading.specs.declared.Parsed.the-variants.{Refused}
-use Rattle.reading.specs.Meaning.{stepOf, Counts, parsedOf}
-use Rattle.reading.specs.Reads.{Room, Reads}
-use Rattle.reading.specs.Calls.{withoutState, parseValOf, demarshallOf, countsOf, parsedStep, Admitted, Parses}
-use Rattle.reading.proofs.Laws.{laid-lent}
-
--- 11, where the value does not end with the record
-abbrev pub atEndCounts : List ℕ → Counts → Outcome Reason Counts
-atEndCounts d k = test (eqb (k .restIndex) (length d)) (reason 11 (byte (k .restIndex))) (λ _. accepted k)
+use Rattle.reading.specs.Meaning.{Counts, parsedOf}
+use Rattle.reading.specs.Calls.{withoutState, parseValOf, demarshallOf, countsOf, parsedStep, Parses}
 
 pub withoutState-accepted : (x : Reading Val) (t : Step State Val) → withoutState x ≡ accepted t → x ≡ accepted t
 withoutState-accepted (accepted s) t h = let q : s ≡ t = cc in ap accepted q
@@ -41,33 +38,7 @@ withoutState-accepted (refused e) t h = let z : _≡_ {A = ℕ} 0 1 = cc in absu
 pub parsed-matched : {o : Outcome Reason Counts} {p q : Parsed} → p ≡ q → parsedOf p ≡ o → parsedOf q ≡ o
 parsed-matched e h = ap parsedOf (sym e) ∙ h
 
--- a call whose answer has a value has one by its definition
-pub with-accepted : {P : Type 0} (o : Outcome Reason (Step State Val)) {k : Counts} → accepted k ≡ map countsOf o → ((t : Step State Val) → o ≡ accepted t → P) → P
-with-accepted (accepted t) h f = f t refl
-with-accepted (refused e) h f = let z : _≡_ {A = ℕ} 0 1 = cc in absurd (omega arith)
-
--- where a value is read, there is a row
-read-claims : (capacity : ℕ) (d : List ℕ) (g : G) (s : State) (t : Step State Val) → readVal capacity d g s ≡ accepted t → s .begun < capacity
-unfolding claim
-read-claims capacity d g s t h = go (ltb (s .begun) capacity) refl h
-  where
-    go : (b : Bool) → ltb (s .begun) capacity ≡ b → bind (test b (stop 8 (begin s)) (λ _. accepted (begin s))) (readBody capacity d g) ≡ accepted t → s .begun < capacity
-    go true e q = ltb-true (s .begun) capacity e
-    go false e q = let z : _≡_ {A = ℕ} 0 1 = cc in absurd (omega arith)
-
 module _ (g d : List ℕ) (index : ℕ) where
-  -- what the reading of the root asks once 1 to 7 are not given
-  pub root-admitted : {rows : List ℕ} {capacity : ℕ} → accepted tt ≡ admitOf g d index → Below (2 ^ 32) g → Bytes d → capacity ≤ 4096 → Room capacity rows → Admitted g d rows index capacity
-  root-admitted h w b m r = record {
-    passes = admitted g d index h .0;
-    words = w;
-    short = admitted g d index h .1;
-    inside = admitted g d index h .2;
-    byteValues = b;
-    most = m;
-    room = r;
-  }
-
   -- the reading waits for 1 to 7
   pub parse-admitted : (capacity : ℕ) → parseValOf g d index capacity ≡ bind (admitOf g d index) (λ _. withoutState (readVal capacity d (treeOf g 0) (start index)))
   unfolding parseValOf admitOf readAt
@@ -96,45 +67,29 @@ module _ (g d : List ℕ) (index : ℕ) where
       go (refused r) e q = let z : _≡_ {A = ℕ} 0 1 = cc in absurd (omega arith)
       go (accepted u) e q = (sym e, withoutState-accepted (readVal capacity d (treeOf g 0) (start index)) t q)
 
+-- 11 of the whole reading, without its state
+end-test : (d : List ℕ) (x : Reading Val) → withoutState (next x (atEnd d)) ≡ bind (withoutState x) (λ t. test (eqb (t .state .at) (length d)) (reason 11 (byte (t .state .at))) (λ _. accepted t))
+end-test d (refused e) = refl
+end-test d (accepted t) = go (eqb (t .state .at) (length d))
+  where
+    go : (b : Bool) → withoutState (test b (stop 11 (t .state)) (λ _. yield (t .value) (t .state))) ≡ test b (reason 11 (byte (t .state .at))) (λ _. accepted t)
+    go true = refl
+    go false = refl
+
 module _ (g d : List ℕ) (capacity : ℕ) where
   -- the whole reading is the reading from byte 0 on, and then 11
   pub whole-parse : demarshallOf g d capacity ≡ bind (parseValOf g d 0 capacity) (λ t. test (eqb (t .state .at) (length d)) (reason 11 (byte (t .state .at))) (λ _. accepted t))
   unfolding demarshallOf parseValOf readWhole readAt
   whole-parse = go (checkGrammar g)
     where
-      go4 : (b : Bool) (t : Step State Val) → withoutState (test b (stop 11 (t .state)) (λ _. yield (t .value) (t .state))) ≡ test b (reason 11 (byte (t .state .at))) (λ _. accepted t)
-      go4 true t = refl
-      go4 false t = refl
-
-      go3 : (x : Reading Val) → withoutState (next x (atEnd d)) ≡ bind (withoutState x) (λ t. test (eqb (t .state .at) (length d)) (reason 11 (byte (t .state .at))) (λ _. accepted t))
-      go3 (refused e) = refl
-      go3 (accepted t) = go4 (eqb (t .state .at) (length d)) t
-
       go2 : (b c : Bool) → c ≡ true → test b (reason 6 (byte 0)) (λ _. withoutState (next (readVal capacity d (treeOf g 0) (start 0)) (atEnd d))) ≡ bind (test b (reason 6 (byte 0)) (λ _. withoutState (test c (stop 7 (start 0)) (λ _. readVal capacity d (treeOf g 0) (start 0))))) (λ t. test (eqb (t .state .at) (length d)) (reason 11 (byte (t .state .at))) (λ _. accepted t))
-      go2 true true h = go3 (readVal capacity d (treeOf g 0) (start 0))
+      go2 true true h = end-test d (readVal capacity d (treeOf g 0) (start 0))
       go2 true false h = let z : _≡_ {A = ℕ} 0 1 = cc in absurd (omega arith)
       go2 false c h = refl
 
       go : (x : Outcome Reason (Unit {0})) → bind x (λ _. test (leb (length d) 1048576) (reason 6 (byte 0)) (λ _. withoutState (next (readVal capacity d (treeOf g 0) (start 0)) (atEnd d)))) ≡ bind (bind x (λ _. test (leb (length d) 1048576) (reason 6 (byte 0)) (λ _. withoutState (test (leb 0 (length d)) (stop 7 (start 0)) (λ _. readVal capacity d (treeOf g 0) (start 0)))))) (λ t. test (eqb (t .state .at) (length d)) (reason 11 (byte (t .state .at))) (λ _. accepted t))
       go (refused r) = refl
       go (accepted u) = go2 (leb (length d) 1048576) (leb 0 (length d)) (le-leb 0 (length d) (omega arith))
-
-  pub whole-counts : map countsOf (demarshallOf g d capacity) ≡ bind (map countsOf (parseValOf g d 0 capacity)) (atEndCounts d)
-  whole-counts = ap (map countsOf) whole-parse ∙ go (parseValOf g d 0 capacity)
-    where
-      go2 : (b : Bool) (t : Step State Val) → map countsOf (test b (reason 11 (byte (t .state .at))) (λ _. accepted t)) ≡ test b (reason 11 (byte (t .state .at))) (λ _. accepted (countsOf t))
-      go2 true t = refl
-      go2 false t = refl
-
-      go : (o : Outcome Reason (Step State Val)) → map countsOf (bind o (λ t. test (eqb (t .state .at) (length d)) (reason 11 (byte (t .state .at))) (λ _. accepted t))) ≡ bind (map countsOf o) (atEndCounts d)
-      go (refused r) = refl
-      go (accepted t) = go2 (eqb (t .state .at) (length d)) t
-
-  pub whole-refused : {r : Reason} → refused r ≡ map countsOf (parseValOf g d 0 capacity) → refused r ≡ map countsOf (demarshallOf g d capacity)
-  whole-refused h = ap (λ (o : Outcome Reason Counts). bind o (atEndCounts d)) h ∙ sym whole-counts
-
-  pub whole-value : {k : Counts} → accepted k ≡ map countsOf (parseValOf g d 0 capacity) → atEndCounts d k ≡ map countsOf (demarshallOf g d capacity)
-  whole-value h = ap (λ (o : Outcome Reason Counts). bind o (atEndCounts d)) h ∙ sym whole-counts
 
   -- an accepted whole reading is an accepted reading from byte 0 on
   pub whole-accepted : (t : Step State Val) → demarshallOf g d capacity ≡ accepted t → parseValOf g d 0 capacity ≡ accepted t
@@ -160,14 +115,52 @@ pub parses-refused : (o : Outcome Reason (Step State Val)) (index : ℕ) {f : Re
 parses-refused (refused e) index rows h = record { answers = h; rows = refl }
 parses-refused (accepted t) index rows h = let z : _≡_ {A = ℕ} 0 1 = cc in absurd (omega arith)
 
--- an accepted call: the root read again over the rows lent
-module _ (capacity : ℕ) (d : List ℕ) (g : G) (index : ℕ) {entry exit : List ℕ} {c : CodeStep} {p : Parsed} (lent : rowWidth * capacity ≤ length entry) (r : Reads rowsOf (readVal capacity d g (start index)) capacity 0 index entry c exit) (a : parsedOf p ≡ parsedStep c) where
-  pub parses-filled : (o : Outcome Reason (Step State Val)) {k : Counts} → accepted k ≡ map countsOf o → ((t : Step State Val) → o ≡ accepted t → readVal capacity d g (start index) ≡ accepted t) → Parses o index p entry exit
-  parses-filled (refused e) h f = let z : _≡_ {A = ℕ} 0 1 = cc in absurd (omega arith)
-  parses-filled (accepted t) h f =
-      let e : readVal capacity d g (start index) ≡ accepted t = f t refl in
-      let l : 0 < capacity = read-claims capacity d g (start index) t e in
+-- The calls over `read`.
+
+within-check : capacityWithin 4096 0 ≡ 4096
+unfolding capacityWithin
+within-check = refl
+
+within-lent : (words : ℕ) → capacityWithin (capacityOf words) words ≡ capacityOf words
+unfolding capacityWithin
+within-lent zero = refl
+within-lent (suc words) = omega arith
+
+pub root-parse : (g d : List ℕ) (index capacity : ℕ) → withoutState (readRoot g d index capacity false) ≡ parseValOf g d index capacity
+unfolding readRoot
+root-parse g d index capacity = go (admitOf g d index) ∙ sym (parse-admitted g d index capacity)
+  where
+    go : (x : Outcome Reason (Unit {0})) → withoutState (bind (beforeStart index x) (λ _. readVal capacity d (treeOf g 0) (start index))) ≡ bind x (λ _. withoutState (readVal capacity d (treeOf g 0) (start index)))
+    go (refused r) = refl
+    go (accepted u) = refl
+
+pub root-whole : (g d : List ℕ) (capacity : ℕ) → withoutState (readRoot g d 0 capacity true) ≡ demarshallOf g d capacity
+unfolding readRoot
+root-whole g d capacity = go (admitOf g d 0) ∙ ap (λ (o : Outcome Reason (Step State Val)). bind o (λ t. test (eqb (t .state .at) (length d)) (reason 11 (byte (t .state .at))) (λ _. accepted t))) (sym (parse-admitted g d 0 capacity)) ∙ sym (whole-parse g d capacity)
+  where
+    go : (x : Outcome Reason (Unit {0})) → withoutState (bind (beforeStart 0 x) (λ _. next (readVal capacity d (treeOf g 0) (start 0)) (atEnd d))) ≡ bind (bind x (λ _. withoutState (readVal capacity d (treeOf g 0) (start 0)))) (λ t. test (eqb (t .state .at) (length d)) (reason 11 (byte (t .state .at))) (λ _. accepted t))
+    go (refused r) = refl
+    go (accepted u) = end-test d (readVal capacity d (treeOf g 0) (start 0))
+
+module _ (g d : List ℕ) (index : ℕ) (whole : Bool) (o : ℕ → Outcome Reason (Step State Val)) (e : (capacity : ℕ) → withoutState (readRoot g d index capacity whole) ≡ o capacity) {c : CodeStep} (p : Parsed) (a : parsedOf p ≡ parsedStep c) {entry exit : List ℕ} where
+  counts : (capacity : ℕ) → FillsRows (readRoot g d index capacity whole) capacity index c entry exit → parsedOf p ≡ map countsOf (o capacity)
+  counts capacity f = a ∙ step-counts c (readRoot g d index capacity whole) (f .answers) ∙ ap (map countsOf) (e capacity)
+
+  -- a check
+  pub counts-read : FillsRows (readRoot g d index (capacityWithin 4096 0) whole) (capacityWithin 4096 0) index c entry exit → parsedOf p ≡ map countsOf (o 4096)
+  counts-read f = counts (capacityWithin 4096 0) f ∙ ap (λ (m : ℕ). map countsOf (o m)) within-check
+
+  -- rows of this length are lent
+  pub parses-read : {capacity : ℕ} → capacity ≡ capacityOf (length entry) → FillsRows (readRoot g d index (capacityWithin capacity (length entry)) whole) (capacityWithin capacity (length entry)) index c entry exit → Parses (o (capacityOf (length entry))) index p entry exit
+  parses-read {capacity} k f =
+      let lent = capacityOf (length entry) in
+      let m : capacityWithin capacity (length entry) ≡ lent = ap (λ (n : ℕ). capacityWithin n (length entry)) k ∙ within-lent (length entry) in
+      let h : FillsRows (readRoot g d index lent whole) lent index c entry exit = subst (λ (n : ℕ). FillsRows (readRoot g d index n whole) n index c entry exit) m f in
       record {
-        answers = a ∙ step-counts c (readVal capacity d g (start index)) (r .answers) ∙ ap (λ (x : Reading Val). map countsOf (withoutState x)) e;
-        rows = r .rows t e ∙ laid-lent entry 0 (rowsOf (t .value) index) (omega arith);
+        answers = counts lent h;
+        rows = h .rows ∙ filled (readRoot g d index lent whole) (λ t q. let l : 0 < lent = root-claims g d index lent whole t q in omega arith) ∙ ap (λ (x : Outcome Reason (Step State Val)). contents (map (λ t. put entry 0 (rowsOf (t .value) index)) x) entry) (e lent);
       }
+    where
+      filled : (x : Reading Val) → ((t : Step State Val) → x ≡ accepted t → 0 < length entry) → contents (map (λ t. laid entry 0 (rowsOf (t .value) index)) x) entry ≡ contents (map (λ t. put entry 0 (rowsOf (t .value) index)) (withoutState x)) entry
+      filled (refused r) l = refl
+      filled (accepted t) l = laid-lent entry 0 (rowsOf (t .value) index) (l t refl)

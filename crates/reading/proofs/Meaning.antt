@@ -3,11 +3,9 @@ use mathlib.Core.Path.{_≡_, ap}
 use Prim.Native.Nat.{ℕ}
 use native.Mathlib.Omega.{arith}
 use Rattle.refusal.proofs.Meaning.{reason-injective}
-use Rattle.reading.specs.declared.Body.{Body}
-use Rattle.reading.specs.declared.Body.the-variants as Body
 use Rattle.reading.specs.declared.Parsed.{Parsed}
 use Rattle.reading.specs.declared.Parsed.the-variants as Parsed
-use Rattle.reading.specs.Meaning.{Counts, bodyOf, parsedOf}
+use Rattle.reading.specs.Meaning.{Counts, parsedOf}
 
 pub parsedOf-injective : (a b : Parsed) → parsedOf a ≡ parsedOf b → a ≡ b
 parsedOf-injective (Parsed.Value i m) (Parsed.Value j n) h =
@@ -16,9 +14,3 @@ parsedOf-injective (Parsed.Value i m) (Parsed.Value j n) h =
 parsedOf-injective (Parsed.Value i m) (Parsed.Refused s) h = let z : _≡_ {A = ℕ} 0 1 = cc in absurd (omega arith)
 parsedOf-injective (Parsed.Refused r) (Parsed.Value j n) h = let z : _≡_ {A = ℕ} 0 1 = cc in absurd (omega arith)
 parsedOf-injective (Parsed.Refused r) (Parsed.Refused s) h = ap Parsed.Refused (reason-injective r s (cc))
-
-pub bodyOf-injective : (a b : Body) → bodyOf a ≡ bodyOf b → a ≡ b
-bodyOf-injective (Body.Bytes m) (Body.Bytes n) h = ap Body.Bytes (cc)
-bodyOf-injective (Body.Bytes m) (Body.Refused s) h = let z : _≡_ {A = ℕ} 0 1 = cc in absurd (omega arith)
-bodyOf-injective (Body.Refused r) (Body.Bytes n) h = let z : _≡_ {A = ℕ} 0 1 = cc in absurd (omega arith)
-bodyOf-injective (Body.Refused r) (Body.Refused s) h = ap Body.Refused (reason-injective r s (cc))

@@ -1,24 +1,22 @@
 -- What the public calls answer: GM's `ParseVal` and `Demarshall` over a grammar table, a record and a capacity.
 use mathlib.Core.Path.{_≡_}
 use mathlib.Core.List.{List}
-use Prim.Native.Nat.{ℕ, _^_, _≤_}
+use Prim.Native.Nat.{ℕ}
 use lib.ListN.{length}
 use lib.Dec.{leb}
 use Rattle.refusal.specs.Outcome.{Outcome, accepted, refused, bind, test, map, contents, Reason, reason, byte}
 use Rattle.refusal.specs.Meaning.{reasonOf}
-use Rattle.packed.specs.Packed.{Bytes, Below, put}
+use Rattle.packed.specs.Packed.{put}
 use Rattle.value.specs.Tree.{Val}
 use Rattle.value.specs.Step.{Step}
 use Rattle.value.specs.Reading.{State, Reading, readAt, readWhole}
 use Rattle.grammar.specs.Check.{checkGrammar}
-use Rattle.grammar.specs.Rule.{Passes}
 use Rattle.grammar.specs.Tree.{treeOf}
 use Rattle.rows.specs.Layout.{rowsOf}
 use Rattle.reading.specs.Meaning.{Counts, parsedOf}
-use Rattle.reading.specs.Reads.{Room}
 use Rattle.reading.specs.declared.Parsed.{Parsed}
-use Rattle.reading.specs.declared.Step.{Step as CodeStep}
-use Rattle.reading.specs.declared.Step.the-variants as S
+use Rattle.readers.specs.declared.Step.{Step as CodeStep}
+use Rattle.readers.specs.declared.Step.the-variants as S
 
 -- a reading, whose refusal is without its state
 abbrev pub withoutState : {A : Type 0} → Reading A → Outcome Reason (Step State A)
@@ -46,17 +44,7 @@ pub record Parses (o : Outcome Reason (Step State Val)) (index : ℕ) (r : Parse
   pub answers : parsedOf r ≡ map countsOf o
   pub rows : exit ≡ contents (map (λ t. put entry 0 (rowsOf (t .value) index)) o) entry
 
--- a step of the code as an answer
+-- a step of the readers as an answer
 abbrev pub parsedStep : CodeStep → Outcome Reason Counts
 parsedStep (S.Next s) = accepted (record { rows = s .begun; restIndex = s .at })
 parsedStep (S.Stopped s r) = refused (reasonOf r)
-
--- what the reading of the root asks: 1 to 7 not given, and rows lent for the capacity, or none
-pub record Admitted (g d rows : List ℕ) (index capacity : ℕ) : Type 0 where
-  pub passes : Passes g
-  pub words : Below (2 ^ 32) g
-  pub short : length d ≤ 1048576
-  pub inside : index ≤ length d
-  pub byteValues : Bytes d
-  pub most : capacity ≤ 4096
-  pub room : Room capacity rows

@@ -1,430 +1,18 @@
-// Reading: GM's `ParseVal` with its parts and `Demarshall`, with rows lent or as a check.
+// Reading: GM's `ParseVal` and `Demarshall`, with rows lent or as a check.
 ghost use mathlib.Core.Path.{_≡_};
-ghost use mathlib.Core.List.{_∷_, []};
-ghost use Prim.Native.Nat.{ℕ, _+_, _-_, _*_, _/_, _≤_, _<_};
-ghost use lib.ListN.{length, getD};
-ghost use lib.Dec.{leb};
-ghost use Rattle.refusal.specs.Outcome.{accepted, test, reason, byte, map};
-ghost use Rattle.value.specs.Kinds.{Number, numberKind, Elements, elementsKind, elementWidth};
-ghost use Rattle.value.specs.Tree.{VNumber, VNumberArray};
-ghost use Rattle.value.specs.Reading.{claim as claimOf, takeNumber, takeNumbers, move, start, readBody, readVal, readFields};
-ghost use Rattle.value.specs.Step.{give, elements};
-ghost use Rattle.tables.specs.Grammar.{nodeCount, firstWord, countWord, childWord};
-ghost use Rattle.grammar.specs.Tree.{treeOf, childTrees};
-ghost use Rattle.rows.specs.Layout.{rowsOf, rowsOfAll};
+ghost use lib.ListN.{length};
+ghost use Rattle.refusal.specs.Outcome.{map};
 ghost use Rattle.admission.specs.Admission.{capacityOf};
-ghost use Rattle.reading.specs.Meaning.{stateOf, stepOf, takenOf, bodyOf, StepKeeps, TakenKeeps, parsedOf};
-ghost use Rattle.reading.specs.Calls.{parseValOf, demarshallOf, countsOf, Parses, Admitted, parsedStep};
-ghost use Rattle.reading.specs.Reads.{laid, RowRoom, Ready, Node, Parent, Leaf, Reads, closed, Counted, takeBelow};
-use packed::UnpackedU32;
-use packed::UnpackedU64;
-use refusal::Answer;
+ghost use Rattle.reading.specs.Meaning.{parsedOf};
+ghost use Rattle.reading.specs.Calls.{parseValOf, demarshallOf, countsOf, Parses, parsedStep};
+use readers::Step;
 use refusal::Refusal;
 use tables::MOST_ROWS;
-
-// Document 01's position and rows used, under a capacity. `begun` counts each time a row is asked for, the refused time too.
-struct State {
-    at: usize,
-    begun: usize,
-    capacity: usize,
-}
-
-// What a reader answers: the state behind what it read, or a refusal with the state where it ended.
-enum Step {
-    Next(State),
-    Stopped(State, Refusal),
-}
-
-// What taking a number answers.
-enum Taken {
-    Number(u64, State),
-    Stopped(State, Refusal),
-}
-
-// The bytes of an array's elements behind its count.
-enum Body {
-    Bytes(usize),
-    Refused(Refusal),
-}
 
 // The answer of a reading: the row count and the position behind the value.
 pub enum Parsed {
     Value { rows: usize, rest_index: usize },
     Refused(Refusal),
-}
-
-// The words of a row.
-const ROW_WIDTH: usize = 4;
-
-impl State {
-    // A row for the value that starts here.
-    fn claim(self) -> Step
-        requires { ⌜ self .begun ≤ 4096 ⌝ }
-        ensures { λ r. ⌜ (stepOf r ≡ claimOf (self .capacity) (stateOf self)) × StepKeeps (self .capacity) r ⌝ }
-    {
-        let next = State {
-            at: self.at,
-            begun: self.begun + 1,
-            capacity: self.capacity,
-        };
-        if self.begun < self.capacity {
-            Step::Next(next)
-        } else {
-            Step::Stopped(next, refusal::at_byte(refusal::ROWS_EXHAUSTED, self.at))
-        }
-    }
-
-    // n bytes on.
-    fn move_on(self, n: usize) -> State
-        requires { ⌜ self .at + n ≤ 1048576 ⌝ }
-        ensures { λ r. ⌜ (stateOf r ≡ move n (stateOf self)) × (r .capacity ≡ self .capacity) ⌝ }
-    {
-        State {
-            at: self.at + n,
-            begun: self.begun,
-            capacity: self.capacity,
-        }
-    }
-
-    // The next 4 bytes as a number; 9 where they are missing.
-    fn take4(self, bytes: &[u8]) -> Taken
-        requires { ⌜ (self .at ≤ length (now bytes)) × (length (now bytes) ≤ 1048576) ⌝ }
-        ensures { λ r. ⌜ (takenOf r ≡ takeNumber (now (bytes .entry)) 4 (stateOf self)) × TakenKeeps (self .capacity) r ⌝ }
-    {
-        let at = self.at;
-        match packed::unpack_little_endian_uint32(bytes, at) {
-            UnpackedU32::Number(n) => Taken::Number(n as u64, self.move_on(4)),
-            UnpackedU32::Refused(r) => Taken::Stopped(self, r),
-        }
-    }
-
-    // The next 8 bytes as a number; 9 where they are missing.
-    fn take8(self, bytes: &[u8]) -> Taken
-        requires { ⌜ (self .at ≤ length (now bytes)) × (length (now bytes) ≤ 1048576) ⌝ }
-        ensures { λ r. ⌜ (takenOf r ≡ takeNumber (now (bytes .entry)) 8 (stateOf self)) × TakenKeeps (self .capacity) r ⌝ }
-    {
-        let at = self.at;
-        match packed::unpack_little_endian_uint64(bytes, at) {
-            UnpackedU64::Number(n) => Taken::Number(n, self.move_on(8)),
-            UnpackedU64::Refused(r) => Taken::Stopped(self, r),
-        }
-    }
-
-    // An 8-byte number below a limit; from the limit on it is refused by its number, where the value starts.
-    fn take_below(self, bytes: &[u8], limit: u64, number: u64) -> Taken
-        requires { ⌜ (self .at ≤ length (now bytes)) × (length (now bytes) ≤ 1048576) ⌝ }
-        ensures { λ r. ⌜ (takenOf r ≡ takeBelow (now (bytes .entry)) limit number (stateOf self)) × TakenKeeps (self .capacity) r ⌝ }
-    {
-        match self.take8(bytes) {
-            Taken::Stopped(u, r) => Taken::Stopped(u, r),
-            Taken::Number(n, u) => {
-                if n < limit {
-                    Taken::Number(n, u)
-                } else {
-                    Taken::Stopped(self, refusal::at_byte(number, self.at))
-                }
-            }
-        }
-    }
-}
-
-fn word(words: &[u32], at: usize) -> usize
-    requires { ⌜ at < length (now words) ⌝ }
-    ensures { λ r. ⌜ (r ≡ getD (now (words .entry)) at 0) × (r < 4294967296) ⌝ }
-{
-    words[at] as usize
-}
-
-// Child i of a node.
-fn child_at(grammar: &[u32], node: usize, i: usize) -> usize
-    requires { ⌜ Node (now grammar) node × (i < countWord (now grammar) node) ⌝ }
-    ensures { λ r. ⌜ (r ≡ childWord (now (grammar .entry)) (firstWord (now (grammar .entry)) node + i)) × (r < nodeCount (now (grammar .entry))) ⌝ }
-{
-    let nodes = word(grammar, 0);
-    let first = word(grammar, 2 + 3 * node);
-    word(grammar, 2 + 3 * nodes + (first + i))
-}
-
-// Puts row `row`, where rows are lent.
-fn put_row(rows: &mut [u64], row: usize, kind: u64, span: u64, word2: u64, word3: u64)
-    requires { ⌜ (row < 4096) × RowRoom row (now rows) ⌝ }
-    ensures { λ _. ⌜ now (rows .exit) ≡ laid (now (rows .entry)) row (kind ∷ span ∷ word2 ∷ word3 ∷ []) ⌝ }
-{
-    if 0 < rows.len() {
-        let at = ROW_WIDTH * row;
-        rows[at] = kind;
-        rows[at + 1] = span;
-        rows[at + 2] = word2;
-        rows[at + 3] = word3;
-    }
-}
-
-// The row of a parent, whose span is known once its children are read.
-fn close_row(rows: &mut [u64], row: usize, kind: u64, word2: u64, children: Step) -> Step
-    requires { ⌜ (row < 4096) × RowRoom row (now rows) × Counted row children ⌝ }
-    ensures { λ r. ⌜ (r ≡ children) × (now (rows .exit) ≡ closed row kind word2 children (now (rows .entry))) ⌝ }
-{
-    match children {
-        Step::Stopped(u, r) => Step::Stopped(u, r),
-        Step::Next(u) => {
-            put_row(rows, row, kind, (u.begun - row) as u64, word2, 0);
-            Step::Next(u)
-        }
-    }
-}
-
-// A number that was taken, with its row.
-fn read_number(rows: &mut [u64], row: usize, kind: u64, taken: Taken) -> Step
-    requires { ⌜ (row < 4096) × RowRoom row (now rows) ⌝ }
-    ensures { λ r. ⌜ ((k : Number) (capacity p : ℕ) → kind ≡ numberKind k → TakenKeeps capacity taken → Reads rowsOf (give (VNumber k) (takenOf taken)) capacity row p (now (rows .entry)) r (now (rows .exit))) ⌝ }
-{
-    match taken {
-        Taken::Stopped(u, r) => Step::Stopped(u, r),
-        Taken::Number(n, u) => {
-            put_row(rows, row, kind, 1, n, 0);
-            Step::Next(u)
-        }
-    }
-}
-
-// The bytes that count elements of a width take in the part handed on, which starts right behind the count of the
-// value that starts at start. The count is compared and never multiplied first.
-fn read_array_body(part: &[u8], count: u64, width: u64, start: usize) -> Body
-    requires { ⌜ (0 < width) × (width ≤ 8) ⌝ }
-    ensures { λ r. ⌜ bodyOf r ≡ test (leb count (length (now (part .entry)) / width)) (reason 9 (byte start)) (λ _. accepted (width * count)) ⌝ }
-{
-    let left = part.len() as u64;
-    if left / width < count {
-        return Body::Refused(refusal::at_byte(refusal::BYTES_MISSING, start));
-    }
-    Body::Bytes((width * count) as usize)
-}
-
-// Kinds 5 to 7: the count, then the elements.
-fn read_elements(
-    bytes: &[u8],
-    rows: &mut [u64],
-    row: usize,
-    kind: u64,
-    width: u64,
-    s: State,
-) -> Step
-    requires { ⌜ (row < 4096) × RowRoom row (now rows) × (s .at ≤ length (now bytes)) × (length (now bytes) ≤ 1048576) × (0 < width) × (width ≤ 8) ⌝ }
-    ensures { λ r. ⌜ ((k : Elements) → kind ≡ elementsKind k → width ≡ elementWidth k → Reads rowsOf (give (VNumberArray k) (takeNumbers (now (bytes .entry)) width (stateOf s))) (s .capacity) row (s .at) (now (rows .entry)) r (now (rows .exit))) ⌝ }
-{
-    match s.take8(bytes) {
-        Taken::Stopped(u, r) => Step::Stopped(u, r),
-        Taken::Number(count, u) => {
-            let place = u.at;
-            match read_array_body(&bytes[place..], count, width, s.at) {
-                Body::Refused(r) => Step::Stopped(s, r),
-                Body::Bytes(n) => {
-                    put_row(rows, row, kind, 1, count, place as u64);
-                    Step::Next(u.move_on(n))
-                }
-            }
-        }
-    }
-}
-
-fn read_constant(rows: &mut [u64], row: usize, s: State) -> Step
-    requires { ⌜ (row < 4096) × RowRoom row (now rows) ⌝ }
-    ensures { λ r. ⌜ (r ≡ Step.Next s) × (now (rows .exit) ≡ laid (now (rows .entry)) row (0 ∷ 1 ∷ 0 ∷ 0 ∷ [])) ⌝ }
-{
-    put_row(rows, row, 0, 1, 0, 0);
-    Step::Next(s)
-}
-
-// A value without children, behind its claimed row. Parents are read by the cycle, and in a table that passes no kind is
-// above 8: their arms, which answer as a kind above 8 would, are not reached.
-fn read_leaf(
-    grammar: &[u32],
-    node: usize,
-    bytes: &[u8],
-    rows: &mut [u64],
-    row: usize,
-    kind: u32,
-    s: State,
-) -> Step
-    requires { ⌜ Parent (now grammar) (now bytes) (now rows) node kind row s × Leaf kind ⌝ }
-    ensures { λ r. ⌜ Reads rowsOf (readBody (s .capacity) (now (bytes .entry)) (treeOf (now (grammar .entry)) node) (stateOf s)) (s .capacity) row (s .at) (now (rows .entry)) r (now (rows .exit)) ⌝ }
-{
-    match kind {
-        0 => read_constant(rows, row, s),
-        1 => read_number(rows, row, 1, s.take4(bytes)),
-        2 => read_number(rows, row, 2, s.take8(bytes)),
-        5 => read_elements(bytes, rows, row, 5, 1, s),
-        6 => read_elements(bytes, rows, row, 6, 4, s),
-        7 => read_elements(bytes, rows, row, 7, 8, s),
-        3 | 4 | 8 | 9..=4294967295 => Step::Stopped(
-            s,
-            refusal::at_word(refusal::NODE_KIND, 1 + 3 * node),
-        ),
-    }
-}
-
-// The value that starts at s and stands for a node. Arrays, tuples and cases are functions by themselves, also because the
-// compiler then lets them share one frame.
-fn read_value(grammar: &[u32], node: usize, bytes: &[u8], rows: &mut [u64], s: State) -> Step
-    requires { ⌜ Node (now grammar) node × Ready (now bytes) (now rows) s ⌝ }
-    ensures { λ r. ⌜ Reads rowsOf (readVal (s .capacity) (now (bytes .entry)) (treeOf (now (grammar .entry)) node) (stateOf s)) (s .capacity) (s .begun) (s .at) (now (rows .entry)) r (now (rows .exit)) ⌝ }
-{
-    let row = s.begun;
-    match s.claim() {
-        Step::Stopped(t, r) => Step::Stopped(t, r),
-        Step::Next(t) => {
-            let kind = grammar[1 + 3 * node];
-            match kind {
-                0 | 1 | 2 | 5 | 6 | 7 => read_leaf(grammar, node, bytes, rows, row, kind, t),
-                3 => read_array(grammar, node, bytes, rows, row, t),
-                4 => read_tuple(grammar, node, bytes, rows, row, t),
-                8 => read_case(grammar, node, bytes, rows, row, t),
-                9..=4294967295 => Step::Stopped(
-                    t,
-                    refusal::at_word(refusal::NODE_KIND, 1 + 3 * node),
-                ),
-            }
-        }
-    }
-}
-
-// Kind 3: the count, at most the rows left, then the elements.
-fn read_array(
-    grammar: &[u32],
-    node: usize,
-    bytes: &[u8],
-    rows: &mut [u64],
-    row: usize,
-    s: State,
-) -> Step
-    requires { ⌜ Parent (now grammar) (now bytes) (now rows) node 3 row s ⌝ }
-    ensures { λ r. ⌜ Reads rowsOf (readBody (s .capacity) (now (bytes .entry)) (treeOf (now (grammar .entry)) node) (stateOf s)) (s .capacity) row (s .at) (now (rows .entry)) r (now (rows .exit)) ⌝ }
-{
-    let limit = (s.capacity - s.begun + 1) as u64;
-    match s.take_below(bytes, limit, refusal::ROWS_EXHAUSTED) {
-        Taken::Stopped(u, r) => Step::Stopped(u, r),
-        Taken::Number(count, u) => {
-            let child = child_at(grammar, node, 0);
-            let read = read_array_contents(grammar, child, bytes, rows, count, u);
-            close_row(rows, row, 3, count, read)
-        }
-    }
-}
-
-// Kind 4: the fields.
-fn read_tuple(
-    grammar: &[u32],
-    node: usize,
-    bytes: &[u8],
-    rows: &mut [u64],
-    row: usize,
-    s: State,
-) -> Step
-    requires { ⌜ Parent (now grammar) (now bytes) (now rows) node 4 row s ⌝ }
-    ensures { λ r. ⌜ Reads rowsOf (readBody (s .capacity) (now (bytes .entry)) (treeOf (now (grammar .entry)) node) (stateOf s)) (s .capacity) row (s .at) (now (rows .entry)) r (now (rows .exit)) ⌝ }
-{
-    let read = read_tuple_contents(grammar, node, bytes, rows, s);
-    let count = word(grammar, 3 + 3 * node);
-    close_row(rows, row, 4, count as u64, read)
-}
-
-// Kind 8: the tag, then the value of its case.
-fn read_case(
-    grammar: &[u32],
-    node: usize,
-    bytes: &[u8],
-    rows: &mut [u64],
-    row: usize,
-    s: State,
-) -> Step
-    requires { ⌜ Parent (now grammar) (now bytes) (now rows) node 8 row s ⌝ }
-    ensures { λ r. ⌜ Reads rowsOf (readBody (s .capacity) (now (bytes .entry)) (treeOf (now (grammar .entry)) node) (stateOf s)) (s .capacity) row (s .at) (now (rows .entry)) r (now (rows .exit)) ⌝ }
-{
-    let limit = word(grammar, 3 + 3 * node) as u64;
-    match s.take_below(bytes, limit, refusal::TAG_UNKNOWN) {
-        Taken::Stopped(u, r) => Step::Stopped(u, r),
-        Taken::Number(tag, u) => {
-            let child = child_at(grammar, node, tag as usize);
-            let read = read_value(grammar, child, bytes, rows, u);
-            close_row(rows, row, 8, tag, read)
-        }
-    }
-}
-
-// The elements of an array, one behind the other.
-fn read_array_contents(
-    grammar: &[u32],
-    child: usize,
-    bytes: &[u8],
-    rows: &mut [u64],
-    count: u64,
-    s: State,
-) -> Step
-    requires { ⌜ Node (now grammar) child × Ready (now bytes) (now rows) s ⌝ }
-    ensures { λ r. ⌜ Reads rowsOfAll (elements count (readVal (s .capacity) (now (bytes .entry)) (treeOf (now (grammar .entry)) child)) (stateOf s)) (s .capacity) (s .begun) (s .at) (now (rows .entry)) r (now (rows .exit)) ⌝ }
-{
-    let mut t = s;
-    let mut i: u64 = 0;
-    while i < count {
-        match read_value(grammar, child, bytes, rows, t) {
-            Step::Stopped(u, r) => return Step::Stopped(u, r),
-            // Field by field: a copy of the whole waits for what the call has just stored (docs/PERFORMANCE.md).
-            Step::Next(u) => {
-                t = State {
-                    at: u.at,
-                    begun: u.begun,
-                    capacity: u.capacity,
-                };
-            }
-        }
-        i += 1;
-    }
-    Step::Next(t)
-}
-
-// The fields of a tuple, one behind the other.
-fn read_tuple_contents(
-    grammar: &[u32],
-    node: usize,
-    bytes: &[u8],
-    rows: &mut [u64],
-    s: State,
-) -> Step
-    requires { ⌜ Node (now grammar) node × Ready (now bytes) (now rows) s ⌝ }
-    ensures { λ r. ⌜ Reads rowsOfAll (readFields (s .capacity) (now (bytes .entry)) (childTrees (now (grammar .entry)) (treeOf (now (grammar .entry))) (firstWord (now (grammar .entry)) node) (countWord (now (grammar .entry)) node)) (stateOf s)) (s .capacity) (s .begun) (s .at) (now (rows .entry)) r (now (rows .exit)) ⌝ }
-{
-    let count = word(grammar, 3 + 3 * node);
-    let mut t = s;
-    let mut i: usize = 0;
-    while i < count {
-        let child = child_at(grammar, node, i);
-        match read_value(grammar, child, bytes, rows, t) {
-            Step::Stopped(u, r) => return Step::Stopped(u, r),
-            // Field by field: a copy of the whole waits for what the call has just stored (docs/PERFORMANCE.md).
-            Step::Next(u) => {
-                t = State {
-                    at: u.at,
-                    begun: u.begun,
-                    capacity: u.capacity,
-                };
-            }
-        }
-        i += 1;
-    }
-    Step::Next(t)
-}
-
-// The root from the index on, over a table and a record that are admitted.
-fn read_root(grammar: &[u32], bytes: &[u8], rows: &mut [u64], index: usize, capacity: usize) -> Step
-    requires { ⌜ Admitted (now grammar) (now bytes) (now rows) index capacity ⌝ }
-    ensures { λ r. ⌜ Reads rowsOf (readVal capacity (now (bytes .entry)) (treeOf (now (grammar .entry)) 0) (start index)) capacity 0 index (now (rows .entry)) r (now (rows .exit)) ⌝ }
-{
-    let s = State {
-        at: index,
-        begun: 0,
-        capacity: capacity,
-    };
-    read_value(grammar, 0, bytes, rows, s)
 }
 
 fn answer(step: Step) -> Parsed
@@ -439,68 +27,34 @@ fn answer(step: Step) -> Parsed
     }
 }
 
-// The reading from an index on as a check, with no rows lent.
-fn check_at(grammar: &[u32], bytes: &[u8], index: usize, capacity: usize) -> Parsed
-    requires { ⌜ capacity ≤ 4096 ⌝ }
-    ensures { λ r. ⌜ parsedOf r ≡ map countsOf (parseValOf (now (grammar .entry)) (now (bytes .entry)) index capacity) ⌝ }
-{
-    match admission::admit(grammar, bytes, index) {
-        Answer::Refused(r) => Parsed::Refused(r),
-        Answer::Accepted => {
-            let mut none = [0u64; 0];
-            answer(read_root(grammar, bytes, &mut none, index, capacity))
-        }
-    }
-}
-
-// The whole reading as a check: from byte 0 on, then 11 where the value does not end with the record.
-fn check_whole_at(grammar: &[u32], bytes: &[u8], capacity: usize) -> Parsed
-    requires { ⌜ capacity ≤ 4096 ⌝ }
-    ensures { λ r. ⌜ parsedOf r ≡ map countsOf (demarshallOf (now (grammar .entry)) (now (bytes .entry)) capacity) ⌝ }
-{
-    match check_at(grammar, bytes, 0, capacity) {
-        Parsed::Refused(r) => Parsed::Refused(r),
-        Parsed::Value { rows, rest_index } => {
-            if rest_index != bytes.len() {
-                return Parsed::Refused(refusal::at_byte(refusal::BYTES_LEFT_OVER, rest_index));
-            }
-            Parsed::Value { rows, rest_index }
-        }
-    }
-}
-
 // GM's `ParseVal` as a check, which answers as rows for the largest capacity would.
 pub fn check_val(grammar: &[u32], record: &[u8], index: usize) -> Parsed
     ensures { λ r. ⌜ parsedOf r ≡ map countsOf (parseValOf (now (grammar .entry)) (now («record» .entry)) index 4096) ⌝ }
 {
-    check_at(grammar, record, index, MOST_ROWS)
+    let mut none = [0u64; 0];
+    answer(readers::read(grammar, record, index, MOST_ROWS, false, &mut none))
 }
 
 // GM's `Demarshall` as a check, which answers as rows for the largest capacity would.
 pub fn check_whole(grammar: &[u32], record: &[u8]) -> Parsed
     ensures { λ r. ⌜ parsedOf r ≡ map countsOf (demarshallOf (now (grammar .entry)) (now («record» .entry)) 4096) ⌝ }
 {
-    check_whole_at(grammar, record, MOST_ROWS)
+    let mut none = [0u64; 0];
+    answer(readers::read(grammar, record, 0, MOST_ROWS, true, &mut none))
 }
 
-// GM's `ParseVal`. It is checked first, so that a refusal leaves every row as it was.
+// GM's `ParseVal`.
 pub fn parse_val(grammar: &[u32], record: &[u8], index: usize, rows: &mut [u64]) -> Parsed
     ensures { λ r. ⌜ Parses (parseValOf (now (grammar .entry)) (now («record» .entry)) index (capacityOf (length (now (rows .entry))))) index r (now (rows .entry)) (now (rows .exit)) ⌝ }
 {
     let capacity = admission::capacity_of(rows.len());
-    match check_at(grammar, record, index, capacity) {
-        Parsed::Refused(r) => Parsed::Refused(r),
-        Parsed::Value { .. } => answer(read_root(grammar, record, rows, index, capacity)),
-    }
+    answer(readers::read(grammar, record, index, capacity, false, rows))
 }
 
-// GM's `Demarshall`: the whole reading. It is checked first, so that a refusal leaves every row as it was.
+// GM's `Demarshall`: the whole reading.
 pub fn demarshall(grammar: &[u32], record: &[u8], rows: &mut [u64]) -> Parsed
     ensures { λ r. ⌜ Parses (demarshallOf (now (grammar .entry)) (now («record» .entry)) (capacityOf (length (now (rows .entry))))) 0 r (now (rows .entry)) (now (rows .exit)) ⌝ }
 {
     let capacity = admission::capacity_of(rows.len());
-    match check_whole_at(grammar, record, capacity) {
-        Parsed::Refused(r) => Parsed::Refused(r),
-        Parsed::Value { .. } => answer(read_root(grammar, record, rows, 0, capacity)),
-    }
+    answer(readers::read(grammar, record, 0, capacity, true, rows))
 }

@@ -1,0 +1,6 @@
+pub mod Laws
+pub mod Cycle
+pub mod Loop
+pub mod Arms
+pub mod Root
+pub mod Meaning

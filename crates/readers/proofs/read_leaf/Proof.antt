@@ -1,0 +1,123 @@
+use mathlib.Core.Path.{refl}
+use Prim.Native.Nat.{zero-le}
+use native.Mathlib.Omega.{arith}
+use Rattle.refusal.proofs.Tests.{next-key}
+use Rattle.value.specs.Kinds.{uint32, uint64, bytes as byteElements, uint32s, uint64s}
+use Rattle.readers.proofs.Laws.{node-inside}
+use Rattle.readers.proofs.Arms.{leaf-constant, leaf-number, leaf-elements}
+use borrow.Author.Needs.{needs}
+use Rattle.readers.proofs.read_leaf.Statement.{statement}
+use Rattle.readers.proofs.read_leaf.Tie as tie
+
+read-constant-requires : tie.Need-read-constant-requires
+read-constant-requires c κs = search needs
+
+take4-requires : tie.Need-take4-requires
+take4-requires c κs = search needs
+
+read-number-requires : tie.Need-read-number-requires
+read-number-requires c κs = search needs
+
+take8-requires : tie.Need-take8-requires
+take8-requires c κs = search needs
+
+read-number-requires-2 : tie.Need-read-number-requires-2
+read-number-requires-2 c κs = search needs
+
+read-elements-requires : tie.Need-read-elements-requires
+read-elements-requires c κs = search needs
+
+read-elements-requires-2 : tie.Need-read-elements-requires-2
+read-elements-requires-2 c κs = search needs
+
+read-elements-requires-3 : tie.Need-read-elements-requires-3
+read-elements-requires-3 c κs = search needs
+
+mul-at-word : tie.Need-mul-at-word
+mul-at-word c = search needs
+
+add-at-word : tie.Need-add-at-word
+add-at-word c = search needs
+
+at-word-requires : tie.Need-at-word-requires
+at-word-requires c κs = search needs
+
+same-length : tie.Need-same-length
+same-length c = search needs
+
+returns : tie.Need-returns
+returns c = leaf-constant (c .before .before .before .before .before .before .before .before .pre .0) (c .before .before .before .before .match .keys1) (c .before .before .read-constant .ensures .0) (c .before .before .read-constant .ensures .1)
+
+same-length-2 : tie.Need-same-length-2
+same-length-2 c = search needs
+
+returns-2 : tie.Need-returns-2
+returns-2 c =
+    let a = c .before .before .before .before .before .before .before .before .before .args in
+    let n = c .before .before .before .take4 in
+    leaf-number (c .before .before .before .before .before .before .before .before .before .pre .0) uint32 (c .before .before .before .before .before .match .keys2) (n .ensures .0) (c .before .before .read-number .ensures uint32 (a .s .capacity) (a .s .at) refl (n .ensures .1))
+
+same-length-3 : tie.Need-same-length-3
+same-length-3 c = search needs
+
+returns-3 : tie.Need-returns-3
+returns-3 c =
+    let a = c .before .before .before .before .before .before .before .before .before .args in
+    let n = c .before .before .before .take8 in
+    leaf-number (c .before .before .before .before .before .before .before .before .before .pre .0) uint64 (c .before .before .before .before .before .match .keys3) (n .ensures .0) (c .before .before .read-number2 .ensures uint64 (a .s .capacity) (a .s .at) refl (n .ensures .1))
+
+same-length-4 : tie.Need-same-length-4
+same-length-4 c = search needs
+
+returns-4 : tie.Need-returns-4
+returns-4 c = leaf-elements (c .before .before .before .before .before .before .before .before .pre .0) byteElements (c .before .before .before .before .match .keys4) (c .before .before .read-elements .ensures byteElements refl refl)
+
+same-length-5 : tie.Need-same-length-5
+same-length-5 c = search needs
+
+returns-5 : tie.Need-returns-5
+returns-5 c = leaf-elements (c .before .before .before .before .before .before .before .before .pre .0) uint32s (c .before .before .before .before .match .keys5) (c .before .before .read-elements2 .ensures uint32s refl refl)
+
+same-length-6 : tie.Need-same-length-6
+same-length-6 c = search needs
+
+returns-6 : tie.Need-returns-6
+returns-6 c = leaf-elements (c .before .before .before .before .before .before .before .before .pre .0) uint64s (c .before .before .before .before .match .keys6) (c .before .before .read-elements3 .ensures uint64s refl refl)
+
+returns-7 : tie.Need-returns-7
+returns-7 c =
+    let a = c .before .before .before .before .before .args in
+    let p = c .before .before .before .before .before .pre in
+    let r = c .before .match .rest in
+    let h = next-key (next-key (next-key (next-key (next-key (next-key (next-key (next-key (next-key zero-le (r .0 .0 .0 .0 .0 .1)) (r .0 .0 .0 .0 .1)) (r .0 .0 .0 .1)) (p .1 .noArray)) (p .1 .noTuple)) (r .0 .0 .1)) (r .0 .1)) (r .1)) (p .1 .noCase) in
+    let k = node-inside (a .grammar .now) (a .node) (p .0 .node) .2 in
+    absurd (omega (arith, p .0 .kind))
+
+pub read-leaf-spec : {M : Type 1} → statement M
+read-leaf-spec =
+    tie.close
+    (tie.spec
+    read-constant-requires
+    take4-requires
+    read-number-requires
+    take8-requires
+    read-number-requires-2
+    read-elements-requires
+    read-elements-requires-2
+    read-elements-requires-3
+    mul-at-word
+    add-at-word
+    at-word-requires
+    same-length
+    returns
+    same-length-2
+    returns-2
+    same-length-3
+    returns-3
+    same-length-4
+    returns-4
+    same-length-5
+    returns-5
+    same-length-6
+    returns-6
+    returns-7)

@@ -1,0 +1,58 @@
+-- The reading of the root on every input: 1 to 7, the capacity, the value, 11 of a whole reading, and the rows that are filled.
+use mathlib.Core.Path.{_≡_}
+use mathlib.Core.Bool.{Bool, true, false}
+use mathlib.Core.List.{List}
+use Prim.Native.Nat.{ℕ, zero, suc, _^_, _≤_, min}
+use lib.ListN.{length}
+use Rattle.refusal.specs.Outcome.{Outcome, accepted, refused, bind, map, contents, Reason}
+use Rattle.packed.specs.Packed.{Bytes, Below}
+use Rattle.value.specs.Tree.{Val}
+use Rattle.value.specs.Step.{Step, next}
+use Rattle.value.specs.Reading.{State, Stop, Reading, start, atEnd, readVal}
+use Rattle.grammar.specs.Rule.{Passes}
+use Rattle.grammar.specs.Tree.{treeOf}
+use Rattle.rows.specs.Layout.{rowsOf}
+use Rattle.admission.specs.Admission.{capacityOf, admitOf}
+use Rattle.readers.specs.declared.Step.{Step as CodeStep}
+use Rattle.readers.specs.Meaning.{stepOf, StepKeeps}
+use Rattle.readers.specs.Reads.{laid, Room}
+
+-- the most rows of a reading: those of the words lent, and with no words lent, as a check, those of the largest capacity
+abbrev pub rowsFor : ℕ → ℕ
+rowsFor zero = 4096
+rowsFor (suc n) = capacityOf (suc n)
+
+-- the capacity asked for, at most the most rows
+unfoldable pub capacityWithin : ℕ → ℕ → ℕ
+capacityWithin capacity words = min capacity (rowsFor words)
+
+-- a refusal from before any value is begun
+abbrev pub beforeStart : {A : Type 0} → ℕ → Outcome Reason A → Outcome Stop A
+beforeStart index (accepted a) = accepted a
+beforeStart index (refused r) = refused (record { why = r; state = start index })
+
+-- a whole reading also wants the end of the record reached
+abbrev pub ended : Bool → List ℕ → Reading Val → Reading Val
+ended true d x = next x (atEnd d)
+ended false d x = x
+
+-- 1 to 7, then the value of the root from the index on
+unfoldable pub readRoot : List ℕ → List ℕ → ℕ → ℕ → Bool → Reading Val
+readRoot g d index capacity whole = bind (beforeStart index (admitOf g d index)) (λ _. ended whole d (readVal capacity d (treeOf g 0) (start index)))
+
+-- the answer r to a reading x at a capacity, and the rows at exit: the layout of the value, whose bytes start at the index, over
+-- the rows at entry; after a refusal the rows at entry
+pub record FillsRows (x : Reading Val) (capacity index : ℕ) (r : CodeStep) (entry exit : List ℕ) : Type 0 where
+  pub answers : stepOf r ≡ map (λ t. t .state) x
+  pub keeps : StepKeeps capacity r
+  pub rows : exit ≡ contents (map (λ t. laid entry 0 (rowsOf (t .value) index)) x) entry
+
+-- what the reading of the root asks: 1 to 7 not given, and rows lent for the capacity, or none
+pub record Admitted (g d rows : List ℕ) (index capacity : ℕ) : Type 0 where
+  pub passes : Passes g
+  pub words : Below (2 ^ 32) g
+  pub short : length d ≤ 1048576
+  pub inside : index ≤ length d
+  pub byteValues : Bytes d
+  pub most : capacity ≤ 4096
+  pub room : Room capacity rows
