@@ -1,6 +1,5 @@
 -- The arms of the value reader: what was read behind the claimed row is the value of the node.
 use mathlib.Core.Path.{_≡_, refl, ap, sym, subst, _∙_}
-use mathlib.Core.Logic.{_⊎_, inl, inr, ⊎-elim}
 use mathlib.Core.List.{List, [], _∷_, _++_}
 use Prim.Native.Nat.{ℕ, suc, _+_, _-_, _*_, _≤_, _<_}
 use native.Mathlib.Nat.{add-zero}
@@ -23,16 +22,15 @@ use Rattle.tables.specs.Grammar.{kindWord, firstWord, countWord, childWord}
 use Rattle.grammar.specs.Rule.{CountRule}
 use Rattle.grammar.specs.Tree.{nodeTree, childTrees, treeOf}
 use Rattle.grammar.proofs.Tree.{tree-node, trees-length, trees-at}
-use Rattle.tables.specs.Row.{rowWidth}
+use Rattle.tables.specs.Row.{rowWidth, laid}
 use Rattle.rows.specs.Layout.{ownRow, rowsOf, rowsOfAll}
 use Rattle.rows.proofs.LayoutLaws.{length-rowsOf}
 use Rattle.readers.specs.declared.State.{State as CodeState}
 use Rattle.readers.specs.declared.Step.{Step as CodeStep}
 use Rattle.readers.specs.declared.Step.the-variants.{Next, Stopped}
 use Rattle.readers.specs.Meaning.{stateOf, stepOf, StepKeeps}
-use Rattle.readers.specs.Reads.{laid, Room, RowRoom, Ready, Node, Parent, Reads, closed, Counted, takeBelow}
+use Rattle.readers.specs.Reads.{Room, Ready, Node, RowClaimed, Reads, closed, Counted, takeBelow}
 use Rattle.readers.proofs.Laws.{take-moves, test-accepted, reads-stopped, reads-next, node-inside}
-use Rattle.readers.proofs.Loop.{room-kept}
 use Rattle.readers.proofs.Cycle.{went-on, reads-close, array-body, case-body}
 
 -- the row of the value that starts at s is claimed, and t is the state behind it
@@ -126,19 +124,9 @@ module _ (g : List ℕ) (node : ℕ) (d entry : List ℕ) (s t : CodeState) (n :
 
 -- Arrays, tuples and cases.
 
-pub row-room : (capacity row : ℕ) (rows : List ℕ) → Room capacity rows → row < capacity → RowRoom row rows
-row-room capacity row rows r h = ⊎-elim (λ (e : rows ≡ []). inl e) (λ (f : rowWidth * capacity ≤ length rows). inr (omega arith)) r
-
-module _ {g d entry : List ℕ} {node w row : ℕ} {s : CodeState} (p : Parent g d entry node w row s) where
+module _ {g d entry : List ℕ} {node w row : ℕ} {s : CodeState} (p : RowClaimed g d entry node w row s) where
   own-free : row < s .capacity
   own-free = omega (arith, p .claimed, p .ready .few)
-
-  pub parent-row : row < 4096
-  parent-row = omega (arith, own-free, p .ready .most)
-
-  -- its row is lent, or none is, also once its children are read
-  pub parent-room : (rows : List ℕ) → length rows ≡ length entry → RowRoom row rows
-  parent-room rows l = row-room (s .capacity) row rows (room-kept (s .capacity) entry rows l (p .ready .room)) own-free
 
   body-tree : (x : G) → treeOf g node ≡ x → readBody (s .capacity) d (treeOf g node) (stateOf s) ≡ readBody (s .capacity) d x (stateOf s)
   body-tree x e = ap (λ (y : G). readBody (s .capacity) d y (stateOf s)) e
@@ -195,7 +183,7 @@ module _ {g d entry : List ℕ} {node w row : ℕ} {s : CodeState} (p : Parent g
 pub array-count : (g : List ℕ) (node : ℕ) → Node g node → kindWord g node ≡ 3 → countWord g node ≡ 1
 array-count g node n e = subst (λ (x : Kind). CountRule x (firstWord g node) (countWord g node)) (ap kindOf e ∙ other-kinds .1) (node-inside g node n .3 .0)
 
-module _ {g d entry : List ℕ} {node row : ℕ} {s : CodeState} (p : Parent g d entry node 3 row s) where
+module _ {g d entry : List ℕ} {node row : ℕ} {s : CodeState} (p : RowClaimed g d entry node 3 row s) where
   array-tree : treeOf g node ≡ GArray (treeOf g (childWord g (firstWord g node + 0)))
   unfolding nodeTree childTrees
   array-tree = node-tree g node (p .node) 3 array (p .kind) (other-kinds .1) ∙ rw (array-count g node (p .node) (p .kind), add-zero (firstWord g node))
@@ -218,7 +206,7 @@ module _ {g d entry : List ℕ} {node row : ℕ} {s : CodeState} (p : Parent g d
       let tree = treeOf g (childWord g (firstWord g node + 0)) in
       head-stopped p (GArray tree) (s .capacity - s .begun + 1) 8 (λ n v. give VArray (elements n (readVal (s .capacity) d tree) v)) u f array-tree (array-body (s .capacity) d (stateOf s) tree) h m
 
-module _ {g d entry : List ℕ} {node row : ℕ} {s : CodeState} (p : Parent g d entry node 4 row s) where
+module _ {g d entry : List ℕ} {node row : ℕ} {s : CodeState} (p : RowClaimed g d entry node 4 row s) where
   tuple-tree : treeOf g node ≡ GTuple (childTrees g (treeOf g) (firstWord g node) (countWord g node))
   unfolding nodeTree
   tuple-tree = node-tree g node (p .node) 4 tuple (p .kind) (other-kinds .2)
@@ -234,7 +222,7 @@ module _ {g d entry : List ℕ} {node row : ℕ} {s : CodeState} (p : Parent g d
       (f .1, f .2, λ span l. own-tuple span count (s .at) (v .value) l n))
       (subst (λ (z : ℕ). Reads rowsOfAll (readFields (s .capacity) d gs (stateOf s)) (s .capacity) z (s .at) entry read mid) b i) q o)
 
-module _ {g d entry : List ℕ} {node row : ℕ} {s : CodeState} (p : Parent g d entry node 8 row s) where
+module _ {g d entry : List ℕ} {node row : ℕ} {s : CodeState} (p : RowClaimed g d entry node 8 row s) where
   union-tree : treeOf g node ≡ GTaggedUnion (childTrees g (treeOf g) (firstWord g node) (countWord g node))
   unfolding nodeTree
   union-tree = node-tree g node (p .node) 8 union (p .kind) (other-kinds .3)
@@ -261,14 +249,11 @@ module _ {g d entry : List ℕ} {node row : ℕ} {s : CodeState} (p : Parent g d
 -- What the readers of the cycle ask of each other.
 
 module _ {g : List ℕ} {node : ℕ} {d entry : List ℕ} {s t : CodeState} (n : Node g node) (ready : Ready d entry s) (c : Claimed s t) where
-  own-row : (s .begun < 4096) × RowRoom (s .begun) entry
-  own-row = (omega (arith, c .free, ready .most), row-room (s .capacity) (s .begun) entry (ready .room) (c .free))
-
   ready-claimed : Ready d entry t
   ready-claimed = record { inside = omega (arith, c .at, ready .inside); short = ready .short; few = omega (arith, c .begun, c .capacity, c .free); most = omega (arith, c .capacity, ready .most); room = subst (λ (m : ℕ). Room m entry) (sym (c .capacity)) (ready .room); byteValues = ready .byteValues }
 
-  pub parent-claimed : {w : ℕ} → kindWord g node ≡ w → Parent g d entry node w (s .begun) t
-  parent-claimed k = record { node = n; kind = k; ready = ready-claimed; claimed = c .begun; below = own-row .0; lent = own-row .1 }
+  pub row-claimed : {w : ℕ} → kindWord g node ≡ w → RowClaimed g d entry node w (s .begun) t
+  row-claimed k = record { node = n; kind = k; ready = ready-claimed; claimed = c .begun }
 
 -- children that were read are counted behind the row of their parent
 pub counted-elements : {d entry mid : List ℕ} {row : ℕ} (u : CodeState) (g : G) (m : ℕ) (read : CodeStep) → Ready d entry u → row < u .begun → Reads rowsOfAll (elements m (readVal (u .capacity) d g) (stateOf u)) (u .capacity) (u .begun) (u .at) entry read mid → Counted row read

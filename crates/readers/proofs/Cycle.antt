@@ -20,15 +20,16 @@ use Rattle.value.specs.Step.{Step, yield, next, give, both, elements}
 use Rattle.value.specs.Reading.{State, Stop, Reading, stop, free, takeNumber, readBody, readCaseAt, readVal}
 use Rattle.value.proofs.Agreement.{agrees, agrees-accepted}
 use Rattle.value.proofs.Reading.{read-accepted, readCaseAt-below, readCaseAt-above}
-use Rattle.tables.specs.Row.{rowWidth}
+use Rattle.tables.specs.Row.{rowWidth, laid}
+use Rattle.tables.proofs.Laws.{laid-fits, laid-short}
 use Rattle.rows.specs.Layout.{rowsOf, rowsOfAll}
 use Rattle.rows.proofs.LayoutLaws.{length-rowsOf, length-rowsOfAll}
 use Rattle.readers.specs.declared.State.{State as CodeState}
 use Rattle.readers.specs.declared.Step.{Step as CodeStep}
 use Rattle.readers.specs.declared.Step.the-variants.{Next, Stopped}
 use Rattle.readers.specs.Meaning.{stateOf, stepOf}
-use Rattle.readers.specs.Reads.{laid, Room, Reads, closed, takeBelow}
-use Rattle.readers.proofs.Laws.{laid-lent, reads-next}
+use Rattle.readers.specs.Reads.{Room, Reads, closed, takeBelow}
+use Rattle.readers.proofs.Laws.{reads-next}
 
 -- Rows laid one behind the other.
 
@@ -46,24 +47,32 @@ put-before out index xs ys k e h =
 abbrev Fits : List ℕ → ℕ → ℕ → Type 0
 Fits l i n = (l ≡ []) ⊎ (rowWidth * i + n ≤ length l)
 
-laid-length : (l : List ℕ) (i : ℕ) (ws : List ℕ) → Fits l i (length ws) → length (laid l i ws) ≡ length l
-laid-length [] i ws f = refl
-laid-length (x ∷ l) i ws (inl e) = let z : _≡_ {A = ℕ} 0 1 = cc in absurd (omega arith)
-laid-length (x ∷ l) i ws (inr f) = length-put (x ∷ l) (rowWidth * i) ws f
+laid-nothing : (l : List ℕ) (i : ℕ) → laid l i [] ≡ l
+laid-nothing l i = go (decLe (rowWidth * i) (length l))
+  where
+    go : Dec (rowWidth * i ≤ length l) → laid l i [] ≡ l
+    go (yes h) = laid-fits l i [] (omega arith) ∙ put-nothing l (rowWidth * i)
+    go (no h) = laid-short l i [] (omega arith)
 
-pub laid-behind : (l : List ℕ) (i j : ℕ) (xs ys : List ℕ) → rowWidth * j ≡ rowWidth * i + length xs → Fits l i (length xs + length ys) → laid (laid l i xs) j ys ≡ laid l i (xs ++ ys)
-laid-behind [] i j xs ys e f = refl
-laid-behind (x ∷ l) i j xs ys e (inl n) = let z : _≡_ {A = ℕ} 0 1 = cc in absurd (omega arith)
-laid-behind (x ∷ l) i j xs ys e (inr f) =
-    let n : length (put (x ∷ l) (rowWidth * i) xs) ≡ length (x ∷ l) = length-put (x ∷ l) (rowWidth * i) xs (omega arith) in
-    laid-lent (put (x ∷ l) (rowWidth * i) xs) j ys (omega arith) ∙ put-more (x ∷ l) (rowWidth * i) xs ys (rowWidth * j) e (omega arith)
+pub laid-none : (l : List ℕ) (i : ℕ) (ws : List ℕ) → l ≡ [] → laid l i ws ≡ l
+laid-none l i [] e = laid-nothing l i
+laid-none l i (x ∷ ws) e = laid-short l i (x ∷ ws) (let z : length l ≡ 0 = ap length e in omega arith)
 
-pub laid-before : (l : List ℕ) (i j : ℕ) (xs ys : List ℕ) → rowWidth * j ≡ rowWidth * i + length xs → Fits l i (length xs + length ys) → laid (laid l j ys) i xs ≡ laid l i (xs ++ ys)
-laid-before [] i j xs ys e f = refl
-laid-before (x ∷ l) i j xs ys e (inl n) = let z : _≡_ {A = ℕ} 0 1 = cc in absurd (omega arith)
-laid-before (x ∷ l) i j xs ys e (inr f) =
-    let n : length (put (x ∷ l) (rowWidth * j) ys) ≡ length (x ∷ l) = length-put (x ∷ l) (rowWidth * j) ys (omega arith) in
-    laid-lent (put (x ∷ l) (rowWidth * j) ys) i xs (omega arith) ∙ put-before (x ∷ l) (rowWidth * i) xs ys (rowWidth * j) e (omega arith)
+module _ (l : List ℕ) (i j : ℕ) (xs ys : List ℕ) (e : rowWidth * j ≡ rowWidth * i + length xs) where
+  laid-both : rowWidth * i + (length xs + length ys) ≤ length l → laid l i (xs ++ ys) ≡ put l (rowWidth * i) (xs ++ ys)
+  laid-both f = laid-fits l i (xs ++ ys) (rw length-append f)
+
+  pub laid-behind : Fits l i (length xs + length ys) → laid (laid l i xs) j ys ≡ laid l i (xs ++ ys)
+  laid-behind (inl n) = ap (λ (m : List ℕ). laid m j ys) (laid-none l i xs n) ∙ laid-none l j ys n ∙ sym (laid-none l i (xs ++ ys) n)
+  laid-behind (inr f) =
+      let n : length (put l (rowWidth * i) xs) ≡ length l = length-put l (rowWidth * i) xs (omega arith) in
+      ap (λ (m : List ℕ). laid m j ys) (laid-fits l i xs (omega arith)) ∙ laid-fits (put l (rowWidth * i) xs) j ys (omega arith) ∙ put-more l (rowWidth * i) xs ys (rowWidth * j) e (omega arith) ∙ sym (laid-both f)
+
+  pub laid-before : Fits l i (length xs + length ys) → laid (laid l j ys) i xs ≡ laid l i (xs ++ ys)
+  laid-before (inl n) = ap (λ (m : List ℕ). laid m i xs) (laid-none l j ys n) ∙ laid-none l i xs n ∙ sym (laid-none l i (xs ++ ys) n)
+  laid-before (inr f) =
+      let n : length (put l (rowWidth * j) ys) ≡ length l = length-put l (rowWidth * j) ys (omega arith) in
+      ap (λ (m : List ℕ). laid m i xs) (laid-fits l j ys (omega arith)) ∙ laid-fits (put l (rowWidth * j) ys) i xs (omega arith) ∙ put-before l (rowWidth * i) xs ys (rowWidth * j) e (omega arith) ∙ sym (laid-both f)
 
 fits-room : (capacity : ℕ) (l : List ℕ) (i n : ℕ) → Room capacity l → rowWidth * i + n ≤ rowWidth * capacity → Fits l i n
 fits-room capacity l i n r h = ⊎-elim (λ (e : l ≡ []). inl e) (λ (f : rowWidth * capacity ≤ length l). inr (omega arith)) r
@@ -100,13 +109,9 @@ give-accepted f (refused e) t h = let z : _≡_ {A = ℕ} 0 1 = cc in absurd (om
 
 -- Values one behind the other.
 
-laid-nothing : (l : List ℕ) (i : ℕ) → l ≡ laid l i []
-laid-nothing [] i = refl
-laid-nothing (x ∷ l) i = sym (put-nothing (x ∷ l) (rowWidth * i))
-
 pub reads-none : (entry : List ℕ) (u : CodeState) → Reads rowsOfAll (yield vnil (stateOf u)) (u .capacity) (u .begun) (u .at) entry (Next u) entry
 unfolding rowsOf
-reads-none entry u = reads-next u vnil refl refl (laid-nothing entry (u .begun))
+reads-none entry u = reads-next u vnil refl refl (sym (laid-nothing entry (u .begun)))
 
 -- a value that was read, with what is read behind it
 module _ {x : Reading Val} {capacity row p : ℕ} {entry mid exit : List ℕ} {r : CodeStep} (k : State → Reading Vals) (u : CodeState) (v : Val) (e : x ≡ yield v (stateOf u)) (a : u .at ≡ p + SizeOfV v) (b : u .begun ≡ row + rowCount v) (c : u .begun ≤ capacity) (m : mid ≡ laid entry row (rowsOf v p)) (room : Room capacity entry) where

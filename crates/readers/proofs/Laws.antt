@@ -1,13 +1,11 @@
--- The steps of a reading as the code takes them, and rows laid over the rows lent.
-use mathlib.Core.Path.{_≡_, refl, ap, sym, _∙_}
-use mathlib.Core.Logic.{_⊎_, ⊎-elim}
+-- The steps of a reading as the code takes them.
+use mathlib.Core.Path.{_≡_, refl, ap, sym, subst, _∙_}
 use mathlib.Core.Bool.{Bool, true, false}
-use mathlib.Core.List.{List, [], _∷_}
+use mathlib.Core.List.{List}
 use Prim.Native.Nat.{ℕ, _+_, _-_, _*_, _/_, _≤_, _<_}
-use native.Mathlib.Nat.{add-zero}
 use native.Mathlib.Numerals.{add-one}
 use native.Mathlib.Omega.{arith}
-use lib.ListN.{length, set, take, drop, length-drop}
+use lib.ListN.{length, take, drop, length-drop}
 use lib.Seq.{length-take-le}
 use lib.Dec.{leb}
 use borrow.Author.Tests.{lt-ltb, le-ltb, le-leb, leb-true}
@@ -15,16 +13,15 @@ use Rattle.refusal.specs.Outcome.{Outcome, accepted, refused, test, map, Reason
 use Rattle.refusal.proofs.Outcome.{map-accepted, test-true, test-false}
 use Rattle.refusal.specs.Meaning.{reasonOf}
 use Rattle.refusal.specs.declared.Refusal.{Refusal}
-use Rattle.packed.specs.Packed.{put, present, unpackAt, unpackLittleEndian, unpackLittleEndianSeq}
+use Rattle.packed.specs.Packed.{present, unpackAt, unpackLittleEndian, unpackLittleEndianSeq}
 use Rattle.packed.proofs.Calls.{present-fits}
-use Rattle.packed.proofs.Put.{put-nothing, put-next}
 use Rattle.value.specs.Step.{Step, yield, next}
 use Rattle.value.specs.Reading.{State, Stop, Reading, stop, move, claim, takeNumber, takeNumbers}
 use Rattle.value.specs.Kinds.{lastKind}
-use Rattle.tables.specs.Grammar.{nodeCount, kindWord, firstWord, countWord}
-use Rattle.grammar.specs.Rule.{ChildRule, ChildrenRule}
-use Rattle.grammar.proofs.Rule.{node-inside as grammar-node-inside, child-inside as grammar-child-inside}
-use Rattle.tables.specs.Row.{rowWidth}
+use Rattle.tables.specs.Grammar.{nodeCount, kindWord, firstWord, countWord, childWord}
+use Rattle.grammar.specs.Rule.{ChildrenRule}
+use Rattle.grammar.proofs.Rule.{node-inside as grammar-node-inside, child-inside}
+use Rattle.tables.specs.Row.{laid}
 use Rattle.readers.specs.declared.State.{State as CodeState}
 use Rattle.readers.specs.declared.Step.the-variants.{Next, Stopped}
 use Rattle.readers.specs.declared.Taken.{Taken}
@@ -32,7 +29,7 @@ use Rattle.readers.specs.declared.Taken.the-variants.{Number, Stopped as
 use Rattle.readers.specs.declared.Body.{Body}
 use Rattle.readers.specs.declared.Body.the-variants.{Bytes, Refused as BodyRefused}
 use Rattle.readers.specs.Meaning.{stateOf, takenOf, bodyOf}
-use Rattle.readers.specs.Reads.{laid, RowRoom, Node, Reads}
+use Rattle.readers.specs.Reads.{Node, Reads}
 
 -- Steps.
 
@@ -57,26 +54,6 @@ take-unpacked d w s h = rw (le-leb (s .at) (length d) h) (go (leb (s .at + w) (l
     go : (b : Bool) → unpacked w s (map (unpackLittleEndian w) (map (λ _. take w (drop (s .at) d)) (test b (reason 9 (byte (s .at))) accepted))) ≡ test b (stop 9 s) (λ _. yield (unpackLittleEndian w (take w (drop (s .at) d))) (move w s))
     go true = refl
     go false = refl
-
--- Rows laid.
-
-pub laid-lent : (l : List ℕ) (i : ℕ) (ws : List ℕ) → 0 < length l → laid l i ws ≡ put l (rowWidth * i) ws
-laid-lent [] i ws h = absurd (omega arith)
-laid-lent (x ∷ l) i ws h = refl
-
-pub laid-none : (l : List ℕ) (i : ℕ) (ws : List ℕ) → length l ≤ 0 → l ≡ laid l i ws
-laid-none [] i ws h = refl
-laid-none (x ∷ l) i ws h = absurd (omega arith)
-
-pub room-lent : (row : ℕ) (l : List ℕ) → RowRoom row l → 0 < length l → rowWidth * row + rowWidth ≤ length l
-room-lent row l r h = ⊎-elim (λ (e : l ≡ []). let z : length l ≡ 0 = ap length e in absurd (omega arith)) (λ (h : rowWidth * row + rowWidth ≤ length l). h) r
-
-pub put-four : (l : List ℕ) (at a b c d : ℕ) → at + 4 ≤ length l → set (set (set (set l at a) (at + 1) b) (at + 2) c) (at + 3) d ≡ put l at (a ∷ b ∷ c ∷ d ∷ [])
-put-four l at a b c d h =
-    let e : set l at a ≡ put l at (a ∷ []) = ap (λ (i : ℕ). set l i a) (sym (add-zero at)) ∙ put-next l l at 0 a [] (sym (put-nothing l at)) refl (omega arith) in
-    let f : set (set l at a) (at + 1) b ≡ put l at (a ∷ b ∷ []) = put-next l (set l at a) at 1 b (a ∷ []) e refl (omega arith) in
-    let g : set (set (set l at a) (at + 1) b) (at + 2) c ≡ put l at (a ∷ b ∷ c ∷ []) = put-next l (set (set l at a) (at + 1) b) at 2 c (a ∷ b ∷ []) f refl (omega arith) in
-    put-next l (set (set (set l at a) (at + 1) b) (at + 2) c) at 3 d (a ∷ b ∷ c ∷ []) g refl (omega arith)
 
 -- What a test's outcome says.
 
@@ -137,9 +114,9 @@ unpacked-fits w d at n h =
     let y = map-accepted (λ _. take w (drop at d)) (present (length d) at w) (x .1) in
     present-fits (length d) at w (sym (y .1))
 
--- the child words of a node in a table that passes lie within it
-pub child-inside : (t : List ℕ) (k i : ℕ) → Node t k → i < countWord t k → (3 + 3 * k < length t) × (2 + 3 * nodeCount t + (firstWord t k + i) < length t) × (nodeCount t ≤ 256) × (firstWord t k ≤ 1024) × ChildRule t k (firstWord t k + i)
-child-inside t k i n h = grammar-child-inside t (n .passes) k (n .below) i h
+-- a child of a node is a node
+pub child-node : (t : List ℕ) (k i r : ℕ) → Node t k → i < countWord t k → r ≡ childWord t (firstWord t k + i) → Node t r
+child-node t k i r n h e = record { passes = n .passes; below = subst (λ (m : ℕ). m < nodeCount t) (sym e) (child-inside t (n .passes) k (n .below) i h .4 .1); words = n .words }
 
 -- Matched answers of the state's methods.
 

@@ -1,22 +1,23 @@
 -- The reading of the root: 1 to 7 before it, 11 behind it, and the rows it fills.
 use mathlib.Core.Path.{_≡_, refl, ap, sym, subst, _∙_}
 use mathlib.Core.Bool.{Bool, true, false}
-use mathlib.Core.List.{List, []}
-use Prim.Native.Nat.{ℕ, zero, suc, _*_, _^_, _≤_, _<_, min}
+use mathlib.Core.List.{List, [], _∷_}
+use Prim.Native.Nat.{ℕ, zero, suc, _^_, _≤_, min}
 use native.Mathlib.Omega.{arith}
 use lib.ListN.{length}
-use lib.Dec.{ltb, eqb}
-use borrow.Author.Tests.{ltb-true, eq-eqb, ne-eqb}
+use lib.Dec.{eqb}
+use borrow.Author.Tests.{eq-eqb, ne-eqb}
 use Rattle.refusal.specs.Outcome.{Outcome, accepted, refused, bind, test, map, contents, Reason, reason, byte}
 use Rattle.refusal.specs.declared.Refusal.{Refusal}
 use Rattle.refusal.specs.Meaning.{reasonOf}
 use Rattle.refusal.proofs.Outcome.{test-true, test-false}
 use Rattle.packed.specs.Packed.{Bytes, Below}
-use Rattle.value.specs.Tree.{Val, G}
-use Rattle.value.specs.Step.{Step, yield, next}
-use Rattle.value.specs.Reading.{State, Stop, Reading, stop, start, begin, claim, atEnd, readBody, readVal}
+use Rattle.value.specs.Tree.{Val, rowCount}
+use Rattle.value.specs.Step.{Step, yield}
+use Rattle.value.specs.Reading.{State, Stop, Reading, stop, start, readVal}
+use Rattle.value.proofs.Agreement.{agrees, agrees-accepted}
 use Rattle.grammar.specs.Tree.{treeOf}
-use Rattle.tables.specs.Row.{rowWidth}
+use Rattle.tables.specs.Row.{laid}
 use Rattle.rows.specs.Layout.{rowsOf}
 use Rattle.admission.specs.Admission.{capacityOf, admitOf}
 use Rattle.admission.proofs.Admission.{admitted}
@@ -24,9 +25,9 @@ use Rattle.readers.specs.declared.State.{State as CodeState}
 use Rattle.readers.specs.declared.Step.{Step as CodeStep}
 use Rattle.readers.specs.declared.Step.the-variants.{Next, Stopped}
 use Rattle.readers.specs.Meaning.{stateOf, stepOf, StepKeeps}
-use Rattle.readers.specs.Reads.{laid, Room, Reads}
-use Rattle.readers.specs.Root.{rowsFor, capacityWithin, beforeStart, ended, readRoot, FillsRows, Admitted}
-use Rattle.readers.proofs.Laws.{laid-none}
+use Rattle.readers.specs.Reads.{Room, Reads}
+use Rattle.readers.specs.Root.{capacityWithin, beforeStart, ended, readRoot, FillsRows, Admitted}
+use Rattle.readers.proofs.Cycle.{laid-none}
 
 -- The capacity.
 
@@ -137,9 +138,13 @@ module _ {x : Reading Val} {capacity index : ℕ} {entry : List ℕ} where
   pub fills-none : (u : CodeState) → accepted (stateOf u) ≡ map (λ t. t .state) x → u .capacity ≡ capacity → length entry ≡ 0 → FillsRows x capacity index (Next u) entry entry
   fills-none u h c n = record { answers = h; keeps = c; rows = go x }
     where
+      empty : (l : List ℕ) → length l ≡ 0 → l ≡ []
+      empty [] e = refl
+      empty (a ∷ l) e = absurd (omega arith)
+
       go : (y : Reading Val) → entry ≡ contents (map (λ t. laid entry 0 (rowsOf (t .value) index)) y) entry
       go (refused e) = refl
-      go (accepted t) = laid-none entry 0 (rowsOf (t .value) index) (omega arith)
+      go (accepted t) = sym (laid-none entry 0 (rowsOf (t .value) index) (empty entry n))
 
   -- the root read again over the rows lent
   pub fills-read : {y : Reading Val} {s : State} {r : CodeStep} {exit : List ℕ} → accepted s ≡ map (λ t. t .state) x → ((t : Step State Val) → x ≡ accepted t → y ≡ accepted t) → Reads rowsOf y capacity 0 index entry r exit → FillsRows x capacity index r entry exit
@@ -171,14 +176,8 @@ module _ (g d : List ℕ) (index : ℕ) (whole : Bool) {entry : List ℕ} {most 
     pub read-filled : (u : CodeState) {q : CodeStep} {exit : List ℕ} → r ≡ Next u → Reads rowsOf (readVal most d (treeOf g 0) (start index)) most 0 index entry q exit → FillsRows (readRoot g d index capacity whole) capacity index q entry exit
     read-filled u e i = at-most (fills-read (root-checked g d index whole most h (k .0) e) (λ t z. root-accepted g d index most whole t z .1) i)
 
--- where a value is read, there is a row
-read-claims : (capacity : ℕ) (d : List ℕ) (g : G) (s : State) (t : Step State Val) → readVal capacity d g s ≡ accepted t → s .begun < capacity
-unfolding claim
-read-claims capacity d g s t h = go (ltb (s .begun) capacity) refl h
-  where
-    go : (b : Bool) → ltb (s .begun) capacity ≡ b → bind (test b (stop 8 (begin s)) (λ _. accepted (begin s))) (readBody capacity d g) ≡ accepted t → s .begun < capacity
-    go true e q = ltb-true (s .begun) capacity e
-    go false e q = let z : _≡_ {A = ℕ} 0 1 = cc in absurd (omega arith)
-
-pub root-claims : (g d : List ℕ) (index capacity : ℕ) (whole : Bool) (t : Step State Val) → readRoot g d index capacity whole ≡ accepted t → 0 < capacity
-root-claims g d index capacity whole t h = read-claims capacity d (treeOf g 0) (start index) t (root-accepted g d index capacity whole t h .1)
+-- the rows of what is accepted are within the capacity
+pub root-few : (g d : List ℕ) (index capacity : ℕ) (whole : Bool) (t : Step State Val) → readRoot g d index capacity whole ≡ accepted t → rowCount (t .value) ≤ capacity
+root-few g d index capacity whole t h =
+    let a = root-accepted g d index capacity whole t h in
+    omega (arith, agrees-accepted (agrees capacity d (treeOf g 0) (start index) (admitted g d index (a .0) .2)) t (a .1) .2)

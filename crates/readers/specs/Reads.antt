@@ -5,22 +5,17 @@ use mathlib.Core.Logic.{_⊎_}
 use Prim.Native.Nat.{ℕ, _+_, _-_, _*_, _^_, _≤_, _<_}
 use lib.ListN.{length}
 use Rattle.refusal.specs.Outcome.{accepted, map, test}
-use Rattle.packed.specs.Packed.{Bytes, Below, put}
+use Rattle.packed.specs.Packed.{Bytes, Below}
 use lib.Dec.{ltb}
 use Rattle.value.specs.Step.{Step, yield, next}
 use Rattle.value.specs.Reading.{State, Reading, stop, takeNumber}
 use Rattle.tables.specs.Grammar.{nodeCount, kindWord}
 use Rattle.grammar.specs.Rule.{Passes}
-use Rattle.tables.specs.Row.{rowWidth}
+use Rattle.tables.specs.Row.{rowWidth, laid}
 use Rattle.readers.specs.declared.State.{State as CodeState}
 use Rattle.readers.specs.declared.Step.{Step as CodeStep}
 use Rattle.readers.specs.declared.Step.the-variants as S
 use Rattle.readers.specs.Meaning.{stepOf, StepKeeps}
-
--- words laid over the rows lent, from row i on; a check lends none
-abbrev pub laid : List ℕ → ℕ → List ℕ → List ℕ
-laid [] i ws = []
-laid (x ∷ l) i ws = put (x ∷ l) (rowWidth * i) ws
 
 -- rows are lent for the whole capacity, or none
 abbrev pub Room : ℕ → List ℕ → Type 0
@@ -41,18 +36,12 @@ pub record Node (t : List ℕ) (k : ℕ) : Type 0 where
   pub below : k < nodeCount t
   pub words : Below (2 ^ 32) t
 
--- row `row` is lent, or none is
-abbrev pub RowRoom : ℕ → List ℕ → Type 0
-RowRoom row rows = (rows ≡ []) ⊎ (rowWidth * row + rowWidth ≤ length rows)
-
 -- node k is of kind w, its value has claimed row `row`, and s is the state behind
-pub record Parent (g d rows : List ℕ) (k w row : ℕ) (s : CodeState) : Type 0 where
+pub record RowClaimed (g d rows : List ℕ) (k w row : ℕ) (s : CodeState) : Type 0 where
   pub node : Node g k
   pub kind : kindWord g k ≡ w
   pub ready : Ready d rows s
   pub claimed : s .begun ≡ row + 1
-  pub below : row < 4096
-  pub lent : RowRoom row rows
 
 -- a kind whose values have no children
 pub record Leaf (w : ℕ) : Type 0 where

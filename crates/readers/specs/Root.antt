@@ -7,15 +7,16 @@ use lib.ListN.{length}
 use Rattle.refusal.specs.Outcome.{Outcome, accepted, refused, bind, map, contents, Reason}
 use Rattle.packed.specs.Packed.{Bytes, Below}
 use Rattle.value.specs.Tree.{Val}
-use Rattle.value.specs.Step.{Step, next}
-use Rattle.value.specs.Reading.{State, Stop, Reading, start, atEnd, readVal}
+use Rattle.value.specs.Step.{next}
+use Rattle.value.specs.Reading.{Stop, Reading, start, atEnd, readVal}
 use Rattle.grammar.specs.Rule.{Passes}
 use Rattle.grammar.specs.Tree.{treeOf}
+use Rattle.tables.specs.Row.{laid}
 use Rattle.rows.specs.Layout.{rowsOf}
 use Rattle.admission.specs.Admission.{capacityOf, admitOf}
 use Rattle.readers.specs.declared.Step.{Step as CodeStep}
 use Rattle.readers.specs.Meaning.{stepOf, StepKeeps}
-use Rattle.readers.specs.Reads.{laid, Room}
+use Rattle.readers.specs.Reads.{Room}
 
 -- the most rows of a reading: those of the words lent, and with no words lent, as a check, those of the largest capacity
 abbrev pub rowsFor : ℕ → ℕ

@@ -2,19 +2,19 @@
 ghost use mathlib.Core.Path.{_≡_};
 ghost use mathlib.Core.List.{_∷_, []};
 ghost use Prim.Native.Nat.{ℕ, _+_, _-_, _*_, _/_, _≤_, _<_, min};
-ghost use lib.ListN.{length, getD};
+ghost use lib.ListN.{length};
 ghost use lib.Dec.{leb};
 ghost use Rattle.refusal.specs.Outcome.{accepted, test, reason, byte, map};
 ghost use Rattle.value.specs.Kinds.{Number, numberKind, Elements, elementsKind, elementWidth};
 ghost use Rattle.value.specs.Tree.{VNumber, VNumberArray};
 ghost use Rattle.value.specs.Reading.{claim as claimOf, takeNumber, takeNumbers, move, start, readBody, readVal, readFields};
 ghost use Rattle.value.specs.Step.{give, elements};
-ghost use Rattle.tables.specs.Grammar.{nodeCount, firstWord, countWord, childWord};
+ghost use Rattle.tables.specs.Grammar.{firstWord, countWord};
 ghost use Rattle.grammar.specs.Tree.{treeOf, childTrees};
-ghost use Rattle.tables.specs.Row.{rowWidth};
+ghost use Rattle.tables.specs.Row.{rowWidth, laid};
 ghost use Rattle.rows.specs.Layout.{rowsOf, rowsOfAll};
 ghost use Rattle.readers.specs.Meaning.{stateOf, stepOf, takenOf, bodyOf, StepKeeps, TakenKeeps};
-ghost use Rattle.readers.specs.Reads.{laid, RowRoom, Ready, Node, Parent, Leaf, Reads, closed, Counted, takeBelow};
+ghost use Rattle.readers.specs.Reads.{Ready, Node, RowClaimed, Leaf, Reads, closed, Counted, takeBelow};
 ghost use Rattle.readers.specs.Root.{capacityWithin, ended, readRoot, Admitted, FillsRows};
 use packed::UnpackedU32;
 use packed::UnpackedU64;
@@ -46,9 +46,6 @@ enum Body {
     Bytes(usize),
     Refused(Refusal),
 }
-
-// The words of a row.
-const ROW_WIDTH: usize = 4;
 
 impl State {
     // A row for the value that starts here.
@@ -122,46 +119,15 @@ impl State {
     }
 }
 
-fn word(words: &[u32], at: usize) -> usize
-    requires { ⌜ at < length (now words) ⌝ }
-    ensures { λ r. ⌜ (r ≡ getD (now (words .entry)) at 0) × (r < 4294967296) ⌝ }
-{
-    words[at] as usize
-}
-
-// Child i of a node.
-fn child_at(grammar: &[u32], node: usize, i: usize) -> usize
-    requires { ⌜ Node (now grammar) node × (i < countWord (now grammar) node) ⌝ }
-    ensures { λ r. ⌜ (r ≡ childWord (now (grammar .entry)) (firstWord (now (grammar .entry)) node + i)) × (r < nodeCount (now (grammar .entry))) ⌝ }
-{
-    let nodes = word(grammar, 0);
-    let first = word(grammar, 2 + 3 * node);
-    word(grammar, 2 + 3 * nodes + (first + i))
-}
-
-// Puts row `row`, where rows are lent.
-fn put_row(rows: &mut [u64], row: usize, kind: u64, span: u64, word2: u64, word3: u64)
-    requires { ⌜ (row < 4096) × RowRoom row (now rows) ⌝ }
-    ensures { λ _. ⌜ now (rows .exit) ≡ laid (now (rows .entry)) row (kind ∷ span ∷ word2 ∷ word3 ∷ []) ⌝ }
-{
-    if 0 < rows.len() {
-        let at = ROW_WIDTH * row;
-        rows[at] = kind;
-        rows[at + 1] = span;
-        rows[at + 2] = word2;
-        rows[at + 3] = word3;
-    }
-}
-
 // The row of a parent, whose span is known once its children are read.
 fn close_row(rows: &mut [u64], row: usize, kind: u64, word2: u64, children: Step) -> Step
-    requires { ⌜ (row < 4096) × RowRoom row (now rows) × Counted row children ⌝ }
+    requires { ⌜ Counted row children ⌝ }
     ensures { λ r. ⌜ (r ≡ children) × (now (rows .exit) ≡ closed row kind word2 children (now (rows .entry))) ⌝ }
 {
     match children {
         Step::Stopped(u, r) => Step::Stopped(u, r),
         Step::Next(u) => {
-            put_row(rows, row, kind, (u.begun - row) as u64, word2, 0);
+            tables::put_row(rows, row, kind, (u.begun - row) as u64, word2, 0);
             Step::Next(u)
         }
     }
@@ -169,13 +135,12 @@ fn close_row(rows: &mut [u64], row: usize, kind: u64, word2: u64, children: Step
 
 // A number that was taken, with its row.
 fn read_number(rows: &mut [u64], row: usize, kind: u64, taken: Taken) -> Step
-    requires { ⌜ (row < 4096) × RowRoom row (now rows) ⌝ }
     ensures { λ r. ⌜ ((k : Number) (capacity p : ℕ) → kind ≡ numberKind k → TakenKeeps capacity taken → Reads rowsOf (give (VNumber k) (takenOf taken)) capacity row p (now (rows .entry)) r (now (rows .exit))) ⌝ }
 {
     match taken {
         Taken::Stopped(u, r) => Step::Stopped(u, r),
         Taken::Number(n, u) => {
-            put_row(rows, row, kind, 1, n, 0);
+            tables::put_row(rows, row, kind, 1, n, 0);
             Step::Next(u)
         }
     }
@@ -203,7 +168,7 @@ fn read_elements(
     width: u64,
     s: State,
 ) -> Step
-    requires { ⌜ (row < 4096) × RowRoom row (now rows) × (s .at ≤ length (now bytes)) × (length (now bytes) ≤ 1048576) × (0 < width) × (width ≤ 8) ⌝ }
+    requires { ⌜ (s .at ≤ length (now bytes)) × (length (now bytes) ≤ 1048576) × (0 < width) × (width ≤ 8) ⌝ }
     ensures { λ r. ⌜ ((k : Elements) → kind ≡ elementsKind k → width ≡ elementWidth k → Reads rowsOf (give (VNumberArray k) (takeNumbers (now (bytes .entry)) width (stateOf s))) (s .capacity) row (s .at) (now (rows .entry)) r (now (rows .exit))) ⌝ }
 {
     match s.take8(bytes) {
@@ -213,7 +178,7 @@ fn read_elements(
             match read_array_body(&bytes[place..], count, width, s.at) {
                 Body::Refused(r) => Step::Stopped(s, r),
                 Body::Bytes(n) => {
-                    put_row(rows, row, kind, 1, count, place as u64);
+                    tables::put_row(rows, row, kind, 1, count, place as u64);
                     Step::Next(u.move_on(n))
                 }
             }
@@ -222,15 +187,14 @@ fn read_elements(
 }
 
 fn read_constant(rows: &mut [u64], row: usize, s: State) -> Step
-    requires { ⌜ (row < 4096) × RowRoom row (now rows) ⌝ }
     ensures { λ r. ⌜ (r ≡ Step.Next s) × (now (rows .exit) ≡ laid (now (rows .entry)) row (0 ∷ 1 ∷ 0 ∷ 0 ∷ [])) ⌝ }
 {
-    put_row(rows, row, 0, 1, 0, 0);
+    tables::put_row(rows, row, 0, 1, 0, 0);
     Step::Next(s)
 }
 
-// A value without children, behind its claimed row. Parents are read by the cycle, and in a table that passes no kind is
-// above 8: their arms, which answer as a kind above 8 would, are not reached.
+// A value without children, behind its claimed row. The last arm, which answers as for a kind above 8, is not reached: the
+// cycle reads parents itself, and no kind is above 8 in a table that passes.
 fn read_leaf(
     grammar: &[u32],
     node: usize,
@@ -240,7 +204,7 @@ fn read_leaf(
     kind: u32,
     s: State,
 ) -> Step
-    requires { ⌜ Parent (now grammar) (now bytes) (now rows) node kind row s × Leaf kind ⌝ }
+    requires { ⌜ RowClaimed (now grammar) (now bytes) (now rows) node kind row s × Leaf kind ⌝ }
     ensures { λ r. ⌜ Reads rowsOf (readBody (s .capacity) (now (bytes .entry)) (treeOf (now (grammar .entry)) node) (stateOf s)) (s .capacity) row (s .at) (now (rows .entry)) r (now (rows .exit)) ⌝ }
 {
     match kind {
@@ -291,14 +255,14 @@ fn read_array(
     row: usize,
     s: State,
 ) -> Step
-    requires { ⌜ Parent (now grammar) (now bytes) (now rows) node 3 row s ⌝ }
+    requires { ⌜ RowClaimed (now grammar) (now bytes) (now rows) node 3 row s ⌝ }
     ensures { λ r. ⌜ Reads rowsOf (readBody (s .capacity) (now (bytes .entry)) (treeOf (now (grammar .entry)) node) (stateOf s)) (s .capacity) row (s .at) (now (rows .entry)) r (now (rows .exit)) ⌝ }
 {
     let limit = (s.capacity - s.begun + 1) as u64;
     match s.take_below(bytes, limit, refusal::ROWS_EXHAUSTED) {
         Taken::Stopped(u, r) => Step::Stopped(u, r),
         Taken::Number(count, u) => {
-            let child = child_at(grammar, node, 0);
+            let child = tables::child_at(grammar, node, 0);
             let read = read_array_contents(grammar, child, bytes, rows, count, u);
             close_row(rows, row, 3, count, read)
         }
@@ -314,11 +278,11 @@ fn read_tuple(
     row: usize,
     s: State,
 ) -> Step
-    requires { ⌜ Parent (now grammar) (now bytes) (now rows) node 4 row s ⌝ }
+    requires { ⌜ RowClaimed (now grammar) (now bytes) (now rows) node 4 row s ⌝ }
     ensures { λ r. ⌜ Reads rowsOf (readBody (s .capacity) (now (bytes .entry)) (treeOf (now (grammar .entry)) node) (stateOf s)) (s .capacity) row (s .at) (now (rows .entry)) r (now (rows .exit)) ⌝ }
 {
     let read = read_tuple_contents(grammar, node, bytes, rows, s);
-    let count = word(grammar, 3 + 3 * node);
+    let count = tables::word(grammar, 3 + 3 * node);
     close_row(rows, row, 4, count as u64, read)
 }
 
@@ -331,14 +295,14 @@ fn read_case(
     row: usize,
     s: State,
 ) -> Step
-    requires { ⌜ Parent (now grammar) (now bytes) (now rows) node 8 row s ⌝ }
+    requires { ⌜ RowClaimed (now grammar) (now bytes) (now rows) node 8 row s ⌝ }
     ensures { λ r. ⌜ Reads rowsOf (readBody (s .capacity) (now (bytes .entry)) (treeOf (now (grammar .entry)) node) (stateOf s)) (s .capacity) row (s .at) (now (rows .entry)) r (now (rows .exit)) ⌝ }
 {
-    let limit = word(grammar, 3 + 3 * node) as u64;
+    let limit = tables::word(grammar, 3 + 3 * node) as u64;
     match s.take_below(bytes, limit, refusal::TAG_UNKNOWN) {
         Taken::Stopped(u, r) => Step::Stopped(u, r),
         Taken::Number(tag, u) => {
-            let child = child_at(grammar, node, tag as usize);
+            let child = tables::child_at(grammar, node, tag as usize);
             let read = read_value(grammar, child, bytes, rows, u);
             close_row(rows, row, 8, tag, read)
         }
@@ -387,11 +351,11 @@ fn read_tuple_contents(
     requires { ⌜ Node (now grammar) node × Ready (now bytes) (now rows) s ⌝ }
     ensures { λ r. ⌜ Reads rowsOfAll (readFields (s .capacity) (now (bytes .entry)) (childTrees (now (grammar .entry)) (treeOf (now (grammar .entry))) (firstWord (now (grammar .entry)) node) (countWord (now (grammar .entry)) node)) (stateOf s)) (s .capacity) (s .begun) (s .at) (now (rows .entry)) r (now (rows .exit)) ⌝ }
 {
-    let count = word(grammar, 3 + 3 * node);
+    let count = tables::word(grammar, 3 + 3 * node);
     let mut t = s;
     let mut i: usize = 0;
     while i < count {
-        let child = child_at(grammar, node, i);
+        let child = tables::child_at(grammar, node, i);
         match read_value(grammar, child, bytes, rows, t) {
             Step::Stopped(u, r) => return Step::Stopped(u, r),
             // Field by field: a copy of the whole waits for what the call has just stored (docs/PERFORMANCE.md).

@@ -2,7 +2,7 @@
 use mathlib.Core.Path.{_≡_, refl, ap, sym, subst, _∙_}
 use mathlib.Core.Bool.{Bool, true, false}
 use mathlib.Core.List.{List}
-use Prim.Native.Nat.{ℕ, zero, suc, _<_}
+use Prim.Native.Nat.{ℕ, zero, suc, _≤_}
 use native.Mathlib.Omega.{arith}
 use lib.ListN.{length}
 use lib.Dec.{leb, eqb}
@@ -16,15 +16,16 @@ use Rattle.value.specs.Step.{Step, yield, next}
 use Rattle.value.specs.Reading.{State, Stop, Reading, stop, start, atEnd, readAt, readWhole, readVal}
 use Rattle.grammar.specs.Check.{checkGrammar}
 use Rattle.grammar.specs.Tree.{treeOf}
+use Rattle.tables.specs.Row.{laid}
+use Rattle.tables.proofs.Laws.{laid-fits}
 use Rattle.rows.specs.Layout.{rowsOf}
+use Rattle.rows.proofs.LayoutLaws.{length-rowsOf}
 use Rattle.admission.specs.Admission.{capacityOf, admitOf}
 use Rattle.readers.specs.declared.Step.{Step as CodeStep}
 use Rattle.readers.specs.declared.Step.the-variants.{Next, Stopped}
 use Rattle.readers.specs.Meaning.{stepOf}
-use Rattle.readers.specs.Reads.{laid}
 use Rattle.readers.specs.Root.{capacityWithin, beforeStart, readRoot, FillsRows}
-use Rattle.readers.proofs.Laws.{laid-lent}
-use Rattle.readers.proofs.Root.{root-claims}
+use Rattle.readers.proofs.Root.{root-few}
 use Rattle.reading.specs.declared.Parsed.{Parsed}
 use Rattle.reading.specs.declared.Parsed.the-variants.{Refused}
 use Rattle.reading.specs.Meaning.{Counts, parsedOf}
@@ -158,9 +159,9 @@ module _ (g d : List ℕ) (index : ℕ) (whole : Bool) (o : ℕ → Outcome Reas
       let h : FillsRows (readRoot g d index lent whole) lent index c entry exit = subst (λ (n : ℕ). FillsRows (readRoot g d index n whole) n index c entry exit) m f in
       record {
         answers = counts lent h;
-        rows = h .rows ∙ filled (readRoot g d index lent whole) (λ t q. let l : 0 < lent = root-claims g d index lent whole t q in omega arith) ∙ ap (λ (x : Outcome Reason (Step State Val)). contents (map (λ t. put entry 0 (rowsOf (t .value) index)) x) entry) (e lent);
+        rows = h .rows ∙ filled (readRoot g d index lent whole) (λ t q. omega (arith, root-few g d index lent whole t q, length-rowsOf (t .value) index)) ∙ ap (λ (x : Outcome Reason (Step State Val)). contents (map (λ t. put entry 0 (rowsOf (t .value) index)) x) entry) (e lent);
       }
     where
-      filled : (x : Reading Val) → ((t : Step State Val) → x ≡ accepted t → 0 < length entry) → contents (map (λ t. laid entry 0 (rowsOf (t .value) index)) x) entry ≡ contents (map (λ t. put entry 0 (rowsOf (t .value) index)) (withoutState x)) entry
+      filled : (x : Reading Val) → ((t : Step State Val) → x ≡ accepted t → length (rowsOf (t .value) index) ≤ length entry) → contents (map (λ t. laid entry 0 (rowsOf (t .value) index)) x) entry ≡ contents (map (λ t. put entry 0 (rowsOf (t .value) index)) (withoutState x)) entry
       filled (refused r) l = refl
-      filled (accepted t) l = laid-lent entry 0 (rowsOf (t .value) index) (l t refl)
+      filled (accepted t) l = laid-fits entry 0 (rowsOf (t .value) index) (omega (arith, l t refl))

@@ -1,7 +1,7 @@
 -- The readers of the cycle meet their contracts. The measure is the rows still free: three times for a value, two more for an array,
 -- a tuple or a case, one more for contents.
-use mathlib.Core.Path.{_≡_, refl, ap, sym, subst, _∙_}
-use Prim.Native.Nat.{_+_, _-_, _*_, _≤_, zero-le}
+use mathlib.Core.Path.{_≡_, refl, ap, sym, _∙_}
+use Prim.Native.Nat.{_+_, _-_, _*_, _≤_}
 use native.Mathlib.Nat.{sub-zero, add-zero}
 use native.Mathlib.Omega.{arith}
 use Rattle.value.specs.Tree.{Gs}
@@ -12,9 +12,9 @@ use Rattle.grammar.specs.Tree.{treeOf, childTrees}
 use Rattle.grammar.proofs.Tree.{tree-valid}
 use Rattle.readers.specs.Meaning.{stateOf}
 use Rattle.readers.specs.Reads.{Ready, takeBelow}
-use Rattle.readers.proofs.Loop.{room-kept, Remaining, remaining-start, remaining-stopped, remaining-next, remaining-done, few-elements, few-fields, elements-next, elements-none, fields-next, fields-none}
-use Rattle.readers.proofs.Laws.{node-inside, taken-number, taken-stopped}
-use Rattle.readers.proofs.Arms.{Claimed, claimed-next, claim-refused, parent-claimed, parent-row, parent-room, head-begun, head-below, head-ready, array-count, counted-elements, counted-fields, counted-value, arm-body, arm-array, arm-array-stopped, arm-tuple, arm-case, arm-case-stopped}
+use Rattle.readers.proofs.Loop.{Remaining, remaining-start, remaining-stopped, remaining-next, remaining-done, few-elements, few-fields, elements-next, elements-none, fields-next, fields-none}
+use Rattle.readers.proofs.Laws.{node-inside, child-node, taken-number, taken-stopped}
+use Rattle.readers.proofs.Arms.{Claimed, claimed-next, claim-refused, row-claimed, head-begun, head-below, head-ready, array-count, counted-elements, counted-fields, counted-value, arm-body, arm-array, arm-array-stopped, arm-tuple, arm-case, arm-case-stopped}
 use borrow.Author.Needs.{needs}
 use Prim.Native.Nat.{ℕ, _<_}
 use borrow.Fn.Kinds.{In}
@@ -39,9 +39,9 @@ use Rattle.readers.proofs.read_value.Kinds as read-value-kinds
 use Rattle.readers.proofs.+read_array+read_array_contents+read_case+read_tuple+read_tuple_contents+read_value.Lts-read_value as read-value-lts
 use Rattle.readers.proofs.State.claim.Reads as claim-reads
 use Rattle.readers.proofs.State.take_below.Reads as take-below-reads
-use Rattle.readers.proofs.child_at.Reads as child-at-reads
+use Rattle.tables.proofs.child_at.Reads as child-at-reads
 use Rattle.readers.proofs.close_row.Reads as close-row-reads
-use Rattle.readers.proofs.word.Reads as word-reads
+use Rattle.tables.proofs.word.Reads as word-reads
 use Rattle.readers.proofs.read_leaf.Reads as read-leaf-reads
 use Rattle.refusal.proofs.at_word.Reads as at-word-reads
 use Rattle.readers.proofs.+read_array+read_array_contents+read_case+read_tuple+read_tuple_contents+read_value.{statement}
@@ -175,20 +175,20 @@ read-array-enum-known-count : (t : ℕ) → read-array-lts.Need-enum-known-count
 read-array-enum-known-count t c = search needs
 
 read-array-child-at-requires : (t : ℕ) → read-array-lts.Need-child-at-requires (read-array-calls t) (read-array-at t) read-array.Post
-read-array-child-at-requires t c κs =
-    let p = c .before .before .before .before .before .before .before .before .pre .1 in
-    (p .node, omega (arith, array-count (c .before .before .before .before .before .before .before .before .args .grammar .now) (c .before .before .before .before .before .before .before .before .args .node) (p .node) (p .kind)))
+read-array-child-at-requires t c κs = search needs
 
 read-array-read-array-contents-requires : (t : ℕ) → read-array-lts.Need-read-array-contents-requires (read-array-calls t) (read-array-at t) read-array.Post
 read-array-read-array-contents-requires t c κs =
+    let a = c .before .before .before .before .before .before .before .before .before .before .args in
     let p = c .before .before .before .before .before .before .before .before .before .before .pre in
-    (omega (arith, p .0, count-begun t (c .before .before .before), count-keeps t (c .before .before .before)), (record { passes = p .1 .node .passes; below = c .before .child-at .ensures .1; words = p .1 .node .words }, count-ready t (c .before .before .before)))
+    let k = c .before .before .before in
+    (omega (arith, p .0, count-begun t k, count-keeps t k), (child-node (a .grammar .now) (a .node) 0 (c .before .child-at .result) (p .1 .node) (omega (arith, array-count (a .grammar .now) (a .node) (p .1 .node) (p .1 .kind))) (c .before .child-at .ensures .0), count-ready t k))
 
 read-array-close-row-requires : (t : ℕ) → read-array-lts.Need-close-row-requires (read-array-calls t) (read-array-at t) read-array.Post
 read-array-close-row-requires t c κs =
     let p = c .before .before .before .before .before .before .before .before .before .before .before .before .before .before .pre .1 in
     let r = c .before .before .before .read-array-contents in
-    (parent-row p, parent-room p _ (r .kept .1 .1 .1 .0), counted-elements (c .before .before .before .before .before .before .before .count .given .0 .1 .0) (treeOf (c .before .before .before .before .before .before .before .before .before .before .before .before .before .before .args .grammar .now) (c .before .before .before .before .before .child-at .result)) (c .before .before .before .before .before .before .before .count .given .0 .0) (r .result) (count-ready t (c .before .before .before .before .before .before .before)) (omega (arith, count-begun t (c .before .before .before .before .before .before .before), p .claimed)) (r .ensures))
+    counted-elements (c .before .before .before .before .before .before .before .count .given .0 .1 .0) (treeOf (c .before .before .before .before .before .before .before .before .before .before .before .before .before .before .args .grammar .now) (c .before .before .before .before .before .child-at .result)) (c .before .before .before .before .before .before .before .count .given .0 .0) (r .result) (count-ready t (c .before .before .before .before .before .before .before)) (omega (arith, count-begun t (c .before .before .before .before .before .before .before), p .claimed)) (r .ensures)
 
 read-array-returns : (t : ℕ) → read-array-lts.Need-returns (read-array-calls t) (read-array-at t) read-array.Post
 read-array-returns t c =
@@ -345,21 +345,22 @@ read-case-enum-known-tag : (t : ℕ) → read-case-lts.Need-enum-known-tag (read
 read-case-enum-known-tag t c = search needs
 
 read-case-child-at-requires : (t : ℕ) → read-case-lts.Need-child-at-requires (read-case-calls t) (read-case-at t) read-case.Post
-read-case-child-at-requires t c κs =
-    let p = c .before .before .before .before .before .before .before .before .pre .1 in
-    let k = c .before in
-    (p .node, omega (arith, head-below p _ 10 (k .tag .given .0 .0) (k .tag .given .0 .1 .0) (tag-taken t k) (tag-keeps t k), c .before .before .before .before .word .ensures .0))
+read-case-child-at-requires t c κs = search needs
 
 read-case-read-value-requires : (t : ℕ) → read-case-lts.Need-read-value-requires (read-case-calls t) (read-case-at t) read-case.Post
 read-case-read-value-requires t c κs =
+    let a = c .before .before .before .before .before .before .before .before .before .before .args in
     let p = c .before .before .before .before .before .before .before .before .before .before .pre in
-    (omega (arith, p .0, tag-begun t (c .before .before .before), tag-keeps t (c .before .before .before)), (record { passes = p .1 .node .passes; below = c .before .child-at .ensures .1; words = p .1 .node .words }, tag-ready t (c .before .before .before)))
+    let k = c .before .before .before in
+    let tag = k .tag .given .0 in
+    let below = head-below (p .1) _ 10 (tag .0) (tag .1 .0) (tag-taken t k) (tag-keeps t k) in
+    (omega (arith, p .0, tag-begun t k, tag-keeps t k), (child-node (a .grammar .now) (a .node) (tag .0) (c .before .child-at .result) (p .1 .node) (omega (arith, below, c .before .before .before .before .before .before .word .ensures .0)) (c .before .child-at .ensures .0), tag-ready t k))
 
 read-case-close-row-requires : (t : ℕ) → read-case-lts.Need-close-row-requires (read-case-calls t) (read-case-at t) read-case.Post
 read-case-close-row-requires t c κs =
     let p = c .before .before .before .before .before .before .before .before .before .before .before .before .before .before .pre .1 in
     let r = c .before .before .before .read-value in
-    (parent-row p, parent-room p _ (r .kept .1 .1 .1 .0), counted-value (c .before .before .before .before .before .before .before .tag .given .0 .1 .0) (treeOf (c .before .before .before .before .before .before .before .before .before .before .before .before .before .before .args .grammar .now) (c .before .before .before .before .before .child-at .result)) (r .result) (tag-ready t (c .before .before .before .before .before .before .before)) (omega (arith, tag-begun t (c .before .before .before .before .before .before .before), p .claimed)) (r .ensures))
+    counted-value (c .before .before .before .before .before .before .before .tag .given .0 .1 .0) (treeOf (c .before .before .before .before .before .before .before .before .before .before .before .before .before .before .args .grammar .now) (c .before .before .before .before .before .child-at .result)) (r .result) (tag-ready t (c .before .before .before .before .before .before .before)) (omega (arith, tag-begun t (c .before .before .before .before .before .before .before), p .claimed)) (r .ensures)
 
 read-case-returns : (t : ℕ) → read-case-lts.Need-returns (read-case-calls t) (read-case-at t) read-case.Post
 read-case-returns t c =
@@ -396,7 +397,7 @@ read-tuple-close-row-requires t c κs =
     let a = c .before .before .before .before .before .before .before .before .before .args in
     let p = c .before .before .before .before .before .before .before .before .before .pre .1 in
     let r = c .before .before .before .before .read-tuple-contents in
-    (parent-row p, parent-room p _ (r .kept .1 .1 .1 .0), counted-fields (a .s) _ (r .result) (p .ready) (omega (arith, p .claimed)) (r .ensures))
+    counted-fields (a .s) _ (r .result) (p .ready) (omega (arith, p .claimed)) (r .ensures)
 
 read-tuple-same-length : (t : ℕ) → read-tuple-lts.Need-same-length (read-tuple-calls t) (read-tuple-at t) read-tuple.Post
 read-tuple-same-length t c = search needs
@@ -435,9 +436,7 @@ read-tuple-contents-word-requires : (t : ℕ) → read-tuple-contents-lts.Need-w
     read-tuple-contents.Post
     read-tuple-contents-Inv-loop
     read-tuple-contents-μ-loop
-read-tuple-contents-word-requires t c κs =
-    let h = node-inside (c .before .before .before .args .grammar .now) (c .before .before .before .args .node) (c .before .before .before .pre .1 .0) in
-    omega (arith, h .0)
+read-tuple-contents-word-requires t c κs = search needs
 
 read-tuple-contents-loop-holds : (t : ℕ) → read-tuple-contents-lts.Need-loop-holds (read-tuple-contents-calls t)
     (read-tuple-contents-at t)
@@ -456,7 +455,7 @@ read-tuple-contents-child-at-requires : (t : ℕ) → read-tuple-contents-lts.Ne
     read-tuple-contents.Post
     read-tuple-contents-Inv-loop
     read-tuple-contents-μ-loop
-read-tuple-contents-child-at-requires t c κs = (c .before .before .before .before .before .before .pre .1 .0, omega (arith, c .before .loop .inv .1))
+read-tuple-contents-child-at-requires t c κs = search needs
 
 read-tuple-contents-read-value-requires :
     (t : ℕ) → read-tuple-contents-lts.Need-read-value-requires (
@@ -474,8 +473,8 @@ read-tuple-contents-read-value-requires :
 read-tuple-contents-read-value-requires t c κs =
     let l = c .before .before .before .loop in
     let p = c .before .before .before .before .before .before .before .before .pre in
-    let h = c .before .child-at .ensures .1 in
-    (omega (arith, p .0, l .inv .2 .grown, l .inv .2 .capacity), (record { passes = p .1 .0 .passes; below = h; words = p .1 .0 .words }, l .inv .2 .ready))
+    let a = c .before .before .before .before .before .before .before .before .args in
+    (omega (arith, p .0, l .inv .2 .grown, l .inv .2 .capacity), (child-node (a .grammar .now) (a .node) (l .i) (c .before .child-at .result) (p .1 .0) (omega (arith, l .inv .1)) (c .before .child-at .ensures .0), l .inv .2 .ready))
 
 read-tuple-contents-enum-known-u : (t : ℕ) → read-tuple-contents-lts.Need-enum-known-u (read-tuple-contents-calls t)
     (read-tuple-contents-at t)
@@ -592,25 +591,25 @@ read-value-read-array-requires : (t : ℕ) → read-value-lts.Need-read-array-re
 read-value-read-array-requires t c κs =
     let p = c .before .before .before .before .before .before .before .before .before .before .pre in
     let q = claimed-row t (c .before .before .before .before) in
-    (omega (arith, p .0, q .begun, q .capacity, q .free), parent-claimed (p .1 .0) (p .1 .1) q (c .before .match2 .keys1))
+    (omega (arith, p .0, q .begun, q .capacity, q .free), row-claimed (p .1 .0) (p .1 .1) q (c .before .match2 .keys1))
 
 read-value-read-tuple-requires : (t : ℕ) → read-value-lts.Need-read-tuple-requires (read-value-calls t) (read-value-at t) read-value.Post
 read-value-read-tuple-requires t c κs =
     let p = c .before .before .before .before .before .before .before .before .before .before .pre in
     let q = claimed-row t (c .before .before .before .before) in
-    (omega (arith, p .0, q .begun, q .capacity, q .free), parent-claimed (p .1 .0) (p .1 .1) q (c .before .match2 .keys2))
+    (omega (arith, p .0, q .begun, q .capacity, q .free), row-claimed (p .1 .0) (p .1 .1) q (c .before .match2 .keys2))
 
 read-value-read-case-requires : (t : ℕ) → read-value-lts.Need-read-case-requires (read-value-calls t) (read-value-at t) read-value.Post
 read-value-read-case-requires t c κs =
     let p = c .before .before .before .before .before .before .before .before .before .before .pre in
     let q = claimed-row t (c .before .before .before .before) in
-    (omega (arith, p .0, q .begun, q .capacity, q .free), parent-claimed (p .1 .0) (p .1 .1) q (c .before .match2 .keys3))
+    (omega (arith, p .0, q .begun, q .capacity, q .free), row-claimed (p .1 .0) (p .1 .1) q (c .before .match2 .keys3))
 
 read-value-read-leaf-requires : (t : ℕ) → read-value-lts.Need-read-leaf-requires (read-value-calls t) (read-value-at t) read-value.Post
 read-value-read-leaf-requires t c κs =
     let p = c .before .before .before .before .before .before .before .before .before .before .before .pre .1 in
     let r = c .before .before .match2 .rest in
-    (parent-claimed (p .0) (p .1) (claimed-row t (c .before .before .before .before .before)) refl, record { noArray = r .0 .0 .1; noTuple = r .0 .1; noCase = r .1 })
+    (row-claimed (p .0) (p .1) (claimed-row t (c .before .before .before .before .before)) refl, record { noArray = r .0 .0 .1; noTuple = r .0 .1; noCase = r .1 })
 
 read-value-mul-at-word : (t : ℕ) → read-value-lts.Need-mul-at-word (read-value-calls t) (read-value-at t) read-value.Post
 read-value-mul-at-word t c = search needs

@@ -14,7 +14,7 @@ enum-known-children-2 c = search needs
 
 sub-put-row : tie.Need-sub-put-row
 sub-put-row c =
-    let k = subst (Counted (c .before .before .before .before .before .before .args .row)) (c .before .before .before .children2 .given .1) (c .before .before .before .before .before .before .pre .2) in
+    let k = subst (Counted (c .before .before .before .before .before .before .args .row)) (c .before .before .before .children2 .given .1) (c .before .before .before .before .before .before .pre) in
     omega (arith, k .0)
 
 put-row-requires : tie.Need-put-row-requires

@@ -66,7 +66,7 @@ move-on-requires c κs =
     let m = taken-at (a .bytes .now) 8 (stateOf (a .s)) (g .0 .0) (g .0 .1 .0) h in
     let n = c .before .before .before .before .before .n .given in
     let y = body-bytes (a .bytes .now) (a .width) (stateOf (a .s)) (g .0 .0) (g .0 .1 .0) h (c .before .before .before .before .before .before .before .read-array-body .result) (c .before .before .before .before .before .before .before .read-array-body .ensures) (n .0 .0) (n .1) in
-    omega (arith, m .0, m .1, y .0, count-fits (c .before .before .before .before .before .before .before .before .before .before .before .before .before .before .before .pre .4) .0 (y .2), c .before .before .before .before .before .before .before .before .before .before .before .before .before .before .before .pre .3)
+    omega (arith, m .0, m .1, y .0, count-fits (c .before .before .before .before .before .before .before .before .before .before .before .before .before .before .before .pre .2) .0 (y .2), c .before .before .before .before .before .before .before .before .before .before .before .before .before .before .before .pre .1)
 
 returns : tie.Need-returns
 returns c =

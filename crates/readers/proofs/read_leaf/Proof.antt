@@ -1,7 +1,6 @@
 use mathlib.Core.Path.{refl}
-use Prim.Native.Nat.{zero-le}
 use native.Mathlib.Omega.{arith}
-use Rattle.refusal.proofs.Tests.{next-key}
+use Rattle.refusal.proofs.Tests.{none-below}
 use Rattle.value.specs.Kinds.{uint32, uint64, bytes as byteElements, uint32s, uint64s}
 use Rattle.readers.proofs.Laws.{node-inside}
 use Rattle.readers.proofs.Arms.{leaf-constant, leaf-number, leaf-elements}
@@ -89,7 +88,7 @@ returns-7 c =
     let a = c .before .before .before .before .before .args in
     let p = c .before .before .before .before .before .pre in
     let r = c .before .match .rest in
-    let h = next-key (next-key (next-key (next-key (next-key (next-key (next-key (next-key (next-key zero-le (r .0 .0 .0 .0 .0 .1)) (r .0 .0 .0 .0 .1)) (r .0 .0 .0 .1)) (p .1 .noArray)) (p .1 .noTuple)) (r .0 .0 .1)) (r .0 .1)) (r .1)) (p .1 .noCase) in
+    let h = none-below 9 (a .kind) ((((((r .0 .0 .0, p .1 .noArray), p .1 .noTuple), r .0 .0 .1), r .0 .1), r .1), p .1 .noCase) in
     let k = node-inside (a .grammar .now) (a .node) (p .0 .node) .2 in
     absurd (omega (arith, p .0 .kind))
 

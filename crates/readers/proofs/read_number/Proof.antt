@@ -3,10 +3,10 @@ use mathlib.Core.List.{[], _∷_}
 use Prim.Native.Nat.{ℕ}
 use Rattle.value.specs.Tree.{VNumber, rowCount}
 use Rattle.value.specs.Step.{give}
+use Rattle.tables.specs.Row.{laid}
 use Rattle.rows.specs.Layout.{ownRow, rowsOf}
 use Rattle.readers.specs.declared.Taken.{Taken}
 use Rattle.readers.specs.Meaning.{takenOf}
-use Rattle.readers.specs.Reads.{laid}
 use Rattle.readers.proofs.Laws.{reads-stopped, reads-next}
 use borrow.Author.Needs.{needs}
 use Rattle.readers.proofs.read_number.Statement.{statement}
