@@ -9,42 +9,46 @@
 
 /* The route: a box's serial number, and the channels on the path, each with its gain steps. */
 static const uint32_t grammar[] = {
-    5,       /* five nodes: kind, first child word, count of children */
-    4, 0, 2, /* node 0, the root: a tuple of nodes 4 and 1 */
-    3, 2, 1, /* node 1: an array of node 2 */
-    4, 3, 2, /* node 2, a channel: a tuple of nodes 4 and 3 */
-    7, 0, 0, /* node 3: an array of uint64, the gain steps */
-    1, 0, 0, /* node 4: a uint32, the serial number or the number of a channel */
-    5,       /* five child words; a child's number is above its node's */
-    4, 1,    /* of node 0 */
-    2,       /* of node 1 */
-    4, 3,    /* of node 2 */
+    5,                             /* five nodes: kind, first child word, count of children */
+    ROUTE_KIND_TUPLE, 0, 2,        /* node 0, the root: a tuple of nodes 4 and 1 */
+    ROUTE_KIND_ARRAY, 2, 1,        /* node 1: an array of node 2 */
+    ROUTE_KIND_TUPLE, 3, 2,        /* node 2, a channel: a tuple of nodes 4 and 3 */
+    ROUTE_KIND_UINT64_ARRAY, 0, 0, /* node 3: an array of uint64, the gain steps */
+    ROUTE_KIND_UINT32, 0, 0,       /* node 4: a uint32, a serial number or a channel's */
+    5,                             /* five child words; a child's number is above its node's */
+    4, 1,                          /* of node 0 */
+    2,                             /* of node 1 */
+    4, 3,                          /* of node 2 */
 };
 
 /* The gain steps of both channels, packed: route_pack_u64_seq fills it. */
 static uint8_t store[24];
 
 /* The value: serial number 7, and channels 1 and 2 with two steps and one. A row is kind, span,
- * word 2, and for an array of numbers the place in the store. */
+ * word 2, and for an array of numbers the offset in the store. */
 static const uint64_t rows[] = {
-    4, 9, 2, 0,  /* the tuple: 9 rows in all, 2 fields */
-    1, 1, 7, 0,  /* serial number 7 */
-    3, 7, 2, 0,  /* 2 channels */
-    4, 3, 2, 0,  /* a channel: 2 fields */
-    1, 1, 1, 0,  /* its number */
-    7, 1, 2, 0,  /* 2 steps, from byte 0 of the store on */
-    4, 3, 2, 0,  /* the other channel */
-    1, 1, 2, 0,  /* its number */
-    7, 1, 1, 16, /* 1 step, from byte 16 on */
+    ROUTE_KIND_TUPLE, 9, 2, 0,         /* the tuple: 9 rows in all, 2 fields */
+    ROUTE_KIND_UINT32, 1, 7, 0,        /* serial number 7 */
+    ROUTE_KIND_ARRAY, 7, 2, 0,         /* 2 channels */
+    ROUTE_KIND_TUPLE, 3, 2, 0,         /* a channel: 2 fields */
+    ROUTE_KIND_UINT32, 1, 1, 0,        /* its number */
+    ROUTE_KIND_UINT64_ARRAY, 1, 2, 0,  /* 2 steps, from byte 0 of the store on */
+    ROUTE_KIND_TUPLE, 3, 2, 0,         /* the other channel */
+    ROUTE_KIND_UINT32, 1, 2, 0,        /* its number */
+    ROUTE_KIND_UINT64_ARRAY, 1, 1, 16, /* 1 step, from byte 16 on */
 };
 
-enum { GRAMMAR_WORDS = sizeof grammar / sizeof *grammar, ROWS = sizeof rows / sizeof *rows / 4 };
+enum {
+    GRAMMAR_WORDS = sizeof grammar / sizeof *grammar,
+    WORDS = sizeof rows / sizeof *rows,
+    ROWS = WORDS / ROUTE_ROW_WORDS
+};
 
 static void print_refusal(const char *call, route_answer answer)
 {
     static const char *const places[] = {"", "word", "byte", "row"};
-    printf("%s: refused %" PRIu64 " at %s %" PRIu64 "\n", call, answer.number,
-           places[answer.place_kind], answer.place);
+    printf("%s: refused %" PRIu64 " at %s %" PRIu64 ": %s\n", call, answer.number,
+           places[answer.place_kind], answer.place, route_refusal_meaning(answer.number));
 }
 
 /* Writes the route to out and gives its length, 0 if the library refuses. */
@@ -56,7 +60,7 @@ static size_t write_route(uint8_t *out, size_t out_len)
         print_refusal("pack", answer);
         return 0;
     }
-    answer = route_marshall(grammar, GRAMMAR_WORDS, rows, 4 * ROWS, ROWS, store, sizeof store, out,
+    answer = route_marshall(grammar, GRAMMAR_WORDS, rows, WORDS, ROWS, store, sizeof store, out,
                             out_len);
     if (answer.number != 0) {
         print_refusal("write", answer);
@@ -68,15 +72,15 @@ static size_t write_route(uint8_t *out, size_t out_len)
 /* Reads a record and prints its rows. Gives whether it was accepted. */
 static int print_rows(const uint8_t *record, size_t length)
 {
-    uint64_t read[4 * ROWS];
-    route_answer answer = route_demarshall(grammar, GRAMMAR_WORDS, record, length, read, 4 * ROWS);
+    uint64_t read[WORDS];
+    route_answer answer = route_demarshall(grammar, GRAMMAR_WORDS, record, length, read, WORDS);
     if (answer.number != 0) {
         print_refusal("read", answer);
         return 0;
     }
     printf("rows %" PRIu64 "\n", answer.first);
     for (uint64_t row = 0; row < answer.first; row++) {
-        const uint64_t *words = read + 4 * row;
+        const uint64_t *words = read + ROUTE_ROW_WORDS * row;
         printf("%" PRIu64 " %" PRIu64 " %" PRIu64 " %" PRIu64 "\n", words[0], words[1], words[2],
                words[3]);
     }

@@ -1,12 +1,16 @@
 /* route_record.h: the C interface of the route-record library (target/staticlib/libroute_c.a).
  *
- * Pointers: a pointer and the length that follows it are one array. A length counts elements, not
- * bytes. A null pointer is fine with length 0. An array that a call may change (a pointer without
- * const) overlaps no other argument. An array of numbers is aligned for its type.
+ * Arrays: a pointer and the length that follows it are one array. A length counts elements, not
+ * bytes; the bytes of an array are fewer than 2^63. A null pointer is fine with length 0. An array
+ * of numbers is aligned for its type. An array that a call may change (a pointer without const)
+ * overlaps no other argument, and need not be initialised: a call reads nothing of it. From the
+ * call until its return nothing else changes any of the arrays.
  *
  * Answers: every call is defined on every index and on every content of its arrays. It is accepted
  * or refused; a refused call changes nothing. The comment of each call gives its refusals in the
- * order in which they are checked. Sums and products there are exact: none wraps. */
+ * order in which they are checked. Sums and products there are exact: none wraps.
+ *
+ * It is for C from C99 on and for C++ from C++11 on. */
 
 #ifndef ROUTE_RECORD_H
 #define ROUTE_RECORD_H
@@ -14,18 +18,138 @@
 #include <stddef.h>
 #include <stdint.h>
 
+/* The version of this interface, 0.1.0: 10000 times the first number, 100 times the second, and the
+ * third. */
+#define ROUTE_RECORD_VERSION 100
+
+/* Marks a call, so that a compiler that can warns where the call's answer is not looked at. */
+#if defined(__cplusplus) && __cplusplus >= 201703L || \
+    defined(__STDC_VERSION__) && __STDC_VERSION__ >= 202311L
+#define ROUTE_NODISCARD [[nodiscard]]
+#elif defined(__GNUC__)
+#define ROUTE_NODISCARD __attribute__((warn_unused_result))
+#else
+#define ROUTE_NODISCARD
+#endif
+
 #ifdef __cplusplus
 extern "C" {
 #endif
 
+enum {
+    ROUTE_MAX_GRAMMAR_WORDS = 1794, /* the words of the largest grammar table */
+    ROUTE_MAX_BYTES = 1048576,      /* the bytes of the longest record or store */
+    ROUTE_MAX_ROWS = 4096,          /* the rows of the largest value */
+    ROUTE_ROW_WORDS = 4             /* the words of a row */
+};
+
+/* The kinds of grammar nodes and of rows. */
+enum {
+    ROUTE_KIND_CONSTANT = 0,
+    ROUTE_KIND_UINT32 = 1,
+    ROUTE_KIND_UINT64 = 2,
+    ROUTE_KIND_ARRAY = 3,
+    ROUTE_KIND_TUPLE = 4,
+    ROUTE_KIND_BYTE_ARRAY = 5,
+    ROUTE_KIND_UINT32_ARRAY = 6,
+    ROUTE_KIND_UINT64_ARRAY = 7,
+    ROUTE_KIND_TAGGED_UNION = 8
+};
+
+/* What the place of a refusal counts. */
+enum { ROUTE_PLACE_NONE = 0, ROUTE_PLACE_WORD = 1, ROUTE_PLACE_BYTE = 2, ROUTE_PLACE_ROW = 3 };
+
+/* The refusals; route_refusal_meaning says what each means. No call here gives 19, which is the
+ * show program's. */
+enum {
+    ROUTE_REFUSED_NODE_COUNT = 1,
+    ROUTE_REFUSED_GRAMMAR_LENGTH = 2,
+    ROUTE_REFUSED_NODE_KIND = 3,
+    ROUTE_REFUSED_NODE_CHILDREN = 4,
+    ROUTE_REFUSED_CHILD_NUMBER = 5,
+    ROUTE_REFUSED_BYTES_TOO_LONG = 6,
+    ROUTE_REFUSED_INDEX_PAST_END = 7,
+    ROUTE_REFUSED_ROWS_EXHAUSTED = 8,
+    ROUTE_REFUSED_BYTES_MISSING = 9,
+    ROUTE_REFUSED_TAG_UNKNOWN = 10,
+    ROUTE_REFUSED_BYTES_LEFT_OVER = 11,
+    ROUTE_REFUSED_ROW_COUNT = 12,
+    ROUTE_REFUSED_ROW_MALFORMED = 13,
+    ROUTE_REFUSED_ARRAY_OUTSIDE_STORE = 14,
+    ROUTE_REFUSED_NOT_IN_GRAMMAR = 15,
+    ROUTE_REFUSED_SIZE_TOO_LARGE = 16,
+    ROUTE_REFUSED_OUTPUT_TOO_SHORT = 17,
+    ROUTE_REFUSED_NOT_AN_ARRAY = 18,
+    ROUTE_REFUSED_INPUT_LAYOUT = 19
+};
+
 typedef struct route_answer {
-    uint64_t number;     /* 0: accepted; else the number of the refusal */
-    uint64_t place_kind; /* of a refusal 1: grammar word, 2: byte, 3: row; 0 if accepted */
+    uint64_t number;     /* 0: accepted; else the refusal, ROUTE_REFUSED_.. */
+    uint64_t place_kind; /* of a refusal what its place counts, ROUTE_PLACE_..; 0 if accepted */
     uint64_t place;      /* of a refusal: which word, byte or row; 0 if accepted */
     uint64_t first;      /* the first value of an accepted call that gives one; else 0 */
     uint64_t second;     /* the second value of an accepted call that gives two; of a refusal of
                             route_same_route which record, 1 or 2; else 0 */
 } route_answer;
+
+/* The calls are compiled for these sizes. */
+#if defined(__cplusplus) || defined(__STDC_VERSION__) && __STDC_VERSION__ >= 202311L
+static_assert(sizeof(route_answer) == 40, "an answer is five words");
+static_assert(sizeof(size_t) == 8, "a length has 64 bits");
+#elif defined(__STDC_VERSION__) && __STDC_VERSION__ >= 201112L
+_Static_assert(sizeof(route_answer) == 40, "an answer is five words");
+_Static_assert(sizeof(size_t) == 8, "a length has 64 bits");
+#endif
+
+/* What a refusal means; "there" is its place. */
+static inline const char *route_refusal_meaning(uint64_t number)
+{
+    switch (number) {
+    case ROUTE_REFUSED_NODE_COUNT:
+        return "the table is empty, or its node count is not 1 to 256";
+    case ROUTE_REFUSED_GRAMMAR_LENGTH:
+        return "the count of child words is missing or above 1,024, or the table's length does "
+               "not fit it";
+    case ROUTE_REFUSED_NODE_KIND:
+        return "the node's kind is above 8";
+    case ROUTE_REFUSED_NODE_CHILDREN:
+        return "the node's first or count breaks the rule of its kind, or reaches past the child "
+               "words";
+    case ROUTE_REFUSED_CHILD_NUMBER:
+        return "the child's number is not above its node's, or there is no such node";
+    case ROUTE_REFUSED_BYTES_TOO_LONG:
+        return "the record or store is longer than 1,048,576 bytes";
+    case ROUTE_REFUSED_INDEX_PAST_END:
+        return "the index is above the length";
+    case ROUTE_REFUSED_ROWS_EXHAUSTED:
+        return "no row is left for the value that starts there, or too few for the elements that "
+               "it counts";
+    case ROUTE_REFUSED_BYTES_MISSING:
+        return "the value that starts there is cut short";
+    case ROUTE_REFUSED_TAG_UNKNOWN:
+        return "no case has the tag of the value that starts there";
+    case ROUTE_REFUSED_BYTES_LEFT_OVER:
+        return "the value ends there, and bytes follow it";
+    case ROUTE_REFUSED_ROW_COUNT:
+        return "the row count is 0, above 4,096 or above the rows given";
+    case ROUTE_REFUSED_ROW_MALFORMED:
+        return "the row breaks the layout of a value";
+    case ROUTE_REFUSED_ARRAY_OUTSIDE_STORE:
+        return "the row's array lies or reaches past the end of the store";
+    case ROUTE_REFUSED_NOT_IN_GRAMMAR:
+        return "the row's kind, field count or tag does not fit its node of the grammar";
+    case ROUTE_REFUSED_SIZE_TOO_LARGE:
+        return "the value's record is longer than 1,048,576 bytes";
+    case ROUTE_REFUSED_OUTPUT_TOO_SHORT:
+        return "the output ends there, before what is to be written does";
+    case ROUTE_REFUSED_NOT_AN_ARRAY:
+        return "there is no such row, or its kind is not 5, 6 or 7";
+    case ROUTE_REFUSED_INPUT_LAYOUT:
+        return "the input is not a grammar and a record as the program wants them";
+    default:
+        return "no refusal has this number";
+    }
+}
 
 /* Packed integers: a number is 4 or 8 bytes, least byte first, the sum of byte i times 256 to the
  * power i. */
@@ -33,40 +157,48 @@ typedef struct route_answer {
 /* Gives in `first` the number in the 4 bytes at index. Changes nothing.
  * Refused: 7 at byte index, when index is above packed_len;
  * 9 at byte index, when fewer than 4 bytes are left. */
+ROUTE_NODISCARD
 route_answer route_unpack_u32(const uint8_t *packed, size_t packed_len, size_t index);
 
 /* Gives in `first` the number in the 8 bytes at index. Changes nothing.
  * Refused: 7 at byte index, when index is above packed_len;
  * 9 at byte index, when fewer than 8 bytes are left. */
+ROUTE_NODISCARD
 route_answer route_unpack_u64(const uint8_t *packed, size_t packed_len, size_t index);
 
 /* Writes the 4 bytes of n at index. Changes only these bytes of out.
  * Refused: 17 at byte out_len, when index + 4 is above out_len. */
+ROUTE_NODISCARD
 route_answer route_pack_u32(uint32_t n, uint8_t *out, size_t out_len, size_t index);
 
 /* Writes the 8 bytes of n at index. Changes only these bytes of out.
  * Refused: 17 at byte out_len, when index + 8 is above out_len. */
+ROUTE_NODISCARD
 route_answer route_pack_u64(uint64_t n, uint8_t *out, size_t out_len, size_t index);
 
 /* Fills numbers from the bytes at index, 4 to a number, one behind the other. Changes only numbers.
  * Refused: 7 at byte index, when index is above packed_len;
  * 9 at byte index, when fewer than 4 * numbers_len bytes are left. */
+ROUTE_NODISCARD
 route_answer route_unpack_u32_seq(const uint8_t *packed, size_t packed_len, size_t index,
                                   uint32_t *numbers, size_t numbers_len);
 
 /* Fills numbers from the bytes at index, 8 to a number, one behind the other. Changes only numbers.
  * Refused: 7 at byte index, when index is above packed_len;
  * 9 at byte index, when fewer than 8 * numbers_len bytes are left. */
+ROUTE_NODISCARD
 route_answer route_unpack_u64_seq(const uint8_t *packed, size_t packed_len, size_t index,
                                   uint64_t *numbers, size_t numbers_len);
 
 /* Writes the numbers at index, 4 bytes each, one behind the other. Changes only these bytes of out.
  * Refused: 17 at byte out_len, when index + 4 * numbers_len is above out_len. */
+ROUTE_NODISCARD
 route_answer route_pack_u32_seq(const uint32_t *numbers, size_t numbers_len, uint8_t *out,
                                 size_t out_len, size_t index);
 
 /* Writes the numbers at index, 8 bytes each, one behind the other. Changes only these bytes of out.
  * Refused: 17 at byte out_len, when index + 8 * numbers_len is above out_len. */
+ROUTE_NODISCARD
 route_answer route_pack_u64_seq(const uint64_t *numbers, size_t numbers_len, uint8_t *out,
                                 size_t out_len, size_t index);
 
@@ -84,12 +216,13 @@ route_answer route_pack_u64_seq(const uint64_t *numbers, size_t numbers_len, uin
  * 4 at word 2 + 3k, when its kind is 3 and its count not 1, when its kind is 0, 1, 2, 5, 6 or 7 and
  * its first or count not 0, or when first + count is above M;
  * 5 at the word of its first child whose number is not above k or not below N. */
+ROUTE_NODISCARD
 route_answer route_check_grammar(const uint32_t *words, size_t words_len);
 
 /* Value rows: row i is the words kind, span, word 2 and word 3, from word 4i on. Kinds are those of
  * grammar tables. The span is the number of rows of the value, its own included; the rows of its
  * children follow its own, child after child. Word 2 is 0 for kind 0, the number for kinds 1 and 2,
- * the count of elements for kinds 3 to 7, the tag for kind 8. Word 3 is the place of the first
+ * the count of elements for kinds 3 to 7, the tag for kind 8. Word 3 is the offset of the first
  * element in the store for kinds 5 to 7, else 0. Words behind row n - 1 are not looked at. A call
  * uses less than 1 MiB of stack, on values as deep as 4096 rows can be. */
 
@@ -102,18 +235,20 @@ route_answer route_check_grammar(const uint32_t *words, size_t words_len);
  * 13 at the row, when its kind is above 8; when its span is 0, reaches past its parent's end, or is
  * not 1 for kind 0, 1, 2, 5, 6 or 7; when word 2 of kind 0 or word 3 of kind 0, 1, 2, 3, 4 or 8 is
  * not 0; or when its kind is 1 and its number above 4294967295;
- * 14 at the row, when its kind is 5, 6 or 7 and its place plus its count times 1, 4 or 8 is above
+ * 14 at the row, when its kind is 5, 6 or 7 and its offset plus its count times 1, 4 or 8 is above
  * store_len, count 0 too;
  * then its children, as many as word 2 says for kinds 3 and 4, one for kind 8, and behind them
  * 13 at the row, when a child is missing or rows of its span are left over, which are not
  * looked at. */
+ROUTE_NODISCARD
 route_answer route_compute_size_of(const uint64_t *rows, size_t rows_len, size_t n,
                                    const uint8_t *store, size_t store_len);
 
-/* Gives where the elements of a row of kind 5, 6 or 7 lie in the store: in `first` the place of
+/* Gives where the elements of a row of kind 5, 6 or 7 lie in the store: in `first` the offset of
  * their first byte, in `second` how many bytes. Changes nothing.
  * Refused: as route_compute_size_of;
  * 18 at the row, when row is not below n or its kind is not 5, 6 or 7. */
+ROUTE_NODISCARD
 route_answer route_locate_array(const uint64_t *rows, size_t rows_len, size_t n,
                                 const uint8_t *store, size_t store_len, size_t row);
 
@@ -136,6 +271,7 @@ route_answer route_locate_array(const uint64_t *rows, size_t rows_len, size_t n,
  * 8, when its kind is 3 and its count above the rows left after its own;
  * 10, when its kind is 8 and its tag not below the count of cases;
  * then its children, in order. */
+ROUTE_NODISCARD
 route_answer route_parse_val(const uint32_t *grammar, size_t grammar_len, const uint8_t *record,
                              size_t record_len, size_t index, uint64_t *rows, size_t rows_len);
 
@@ -143,20 +279,23 @@ route_answer route_parse_val(const uint32_t *grammar, size_t grammar_len, const 
  * as store.
  * Refused: as route_parse_val from byte 0 on;
  * 11 at the first byte behind the value, when it is not record_len. */
+ROUTE_NODISCARD
 route_answer route_demarshall(const uint32_t *grammar, size_t grammar_len, const uint8_t *record,
                               size_t record_len, uint64_t *rows, size_t rows_len);
 
 /* Answers as route_parse_val with 4096 rows. Changes nothing. */
+ROUTE_NODISCARD
 route_answer route_check_val(const uint32_t *grammar, size_t grammar_len, const uint8_t *record,
                              size_t record_len, size_t index);
 
 /* Answers as route_demarshall with 4096 rows. Changes nothing. */
+ROUTE_NODISCARD
 route_answer route_check_whole(const uint32_t *grammar, size_t grammar_len, const uint8_t *record,
                                size_t record_len);
 
 /* Writing: the calls write the bytes, laid out as reading says, of the value that rows 0 to n - 1
  * stand for; it is a value of node 0 of the grammar. The elements of kinds 5, 6 and 7 are the
- * store's bytes from their place on; the store need not be a record. A call gives in `first` the
+ * store's bytes from their offset on; the store need not be a record. A call gives in `first` the
  * size of the value: how many bytes are written. It uses less than 1 MiB of stack, on values as
  * deep as 4096 rows can be. */
 
@@ -168,11 +307,13 @@ route_answer route_check_whole(const uint32_t *grammar, size_t grammar_len, cons
  * count not the node's; or when its kind is 8 and its tag not below the node's count;
  * then 16 at row 0, when the size is above 1048576;
  * 17 at byte out_len, when index + size is above out_len, size 0 too. */
+ROUTE_NODISCARD
 route_answer route_marshall_val(const uint32_t *grammar, size_t grammar_len, const uint64_t *rows,
                                 size_t rows_len, size_t n, const uint8_t *store, size_t store_len,
                                 uint8_t *out, size_t out_len, size_t index);
 
 /* Answers and writes as route_marshall_val at byte 0. */
+ROUTE_NODISCARD
 route_answer route_marshall(const uint32_t *grammar, size_t grammar_len, const uint64_t *rows,
                             size_t rows_len, size_t n, const uint8_t *store, size_t store_len,
                             uint8_t *out, size_t out_len);
@@ -184,6 +325,7 @@ route_answer route_marshall(const uint32_t *grammar, size_t grammar_len, const u
  * Refused: 1 to 5 as route_check_grammar, with 0 in `second`;
  * 6 and 8 to 11 as route_check_whole refuses the first record, with 1 in `second`;
  * 6 and 8 to 11 as route_check_whole refuses the second record, with 2 in `second`. */
+ROUTE_NODISCARD
 route_answer route_same_route(const uint32_t *grammar, size_t grammar_len, const uint8_t *first,
                               size_t first_len, const uint8_t *second, size_t second_len);
 
