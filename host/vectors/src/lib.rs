@@ -4,11 +4,13 @@
 #![forbid(unsafe_code)]
 #![deny(missing_docs)]
 
+mod c_table;
 mod cases;
 mod check;
 mod show;
 mod vector;
 
+pub use c_table::c_table;
 pub use check::{check, Counts};
 pub use show::Show;
 pub use vector::Vector;

@@ -1,6 +1,6 @@
 //! What comes of a case.
 
-use route_record::Refusal;
+use route_record::{Place, Refusal};
 
 use super::Case;
 
@@ -32,6 +32,24 @@ impl Answer {
         match self {
             Answer::Accepted(given) => Ok(given.try_into().expect("N numbers")),
             Answer::Refused { refusal, .. } => Err(refusal),
+        }
+    }
+
+    /// The five words of the C answer.
+    pub fn c_words(&self) -> [u64; 5] {
+        match self {
+            Answer::Accepted(given) => {
+                let given = |place| given.get(place).copied().unwrap_or(0);
+                [0, 0, 0, given(0), given(1)]
+            }
+            Answer::Refused { refusal, record } => {
+                let (kind, place) = match refusal.place {
+                    Place::Word(word) => (1, word),
+                    Place::Byte(byte) => (2, byte),
+                    Place::Row(row) => (3, row),
+                };
+                [refusal.number, kind, place, 0, *record]
+            }
         }
     }
 
