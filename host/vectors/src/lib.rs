@@ -15,7 +15,10 @@ pub use check::{check, Counts};
 pub use show::Show;
 pub use vector::Vector;
 
+use std::collections::HashSet;
 use std::path::PathBuf;
+
+use compare::Case;
 
 /// A file of vectors.
 pub struct File {
@@ -29,36 +32,42 @@ pub struct File {
 pub const FILES: [File; 7] = [
     File {
         name: "packed.jsonl",
-        vectors: || of_cases(cases::packed()),
+        vectors: || of_cases(cases::packed(), vec![]),
     },
     File {
         name: "grammar.jsonl",
-        vectors: || of_cases(cases::grammar()),
+        vectors: || of_cases(cases::grammar(), cases::borders::grammar()),
     },
     File {
         name: "reading.jsonl",
-        vectors: || of_cases(cases::reading()),
+        vectors: || of_cases(cases::reading(), cases::borders::reading()),
     },
     File {
         name: "rows.jsonl",
-        vectors: || of_cases(cases::rows()),
+        vectors: || of_cases(cases::rows(), cases::borders::rows()),
     },
     File {
         name: "writing.jsonl",
-        vectors: || of_cases(cases::writing()),
+        vectors: || of_cases(cases::writing(), cases::borders::writing()),
     },
     File {
         name: "same_route.jsonl",
-        vectors: || of_cases(cases::same_route()),
+        vectors: || of_cases(cases::same_route(), vec![]),
     },
     File {
         name: "show.jsonl",
-        vectors: || cases::show().into_iter().map(Vector::of_input).collect(),
+        vectors: || {
+            let inputs = cases::show().into_iter().chain(cases::borders::show());
+            inputs.map(Vector::of_input).collect()
+        },
     },
 ];
 
-/// The vectors of library calls.
-fn of_cases(cases: cases::Cases) -> Vec<Vector> {
+/// The vectors of library calls: those listed, and of the borders those that are not among them.
+fn of_cases(mut cases: cases::Cases, mut borders: cases::Cases) -> Vec<Vector> {
+    let listed: HashSet<&Case> = cases.iter().map(|(_, case)| case).collect();
+    borders.retain(|(_, case)| !listed.contains(case));
+    cases.append(&mut borders);
     cases.into_iter().map(Vector::of_case).collect()
 }
 

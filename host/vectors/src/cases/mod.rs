@@ -1,6 +1,7 @@
 //! The listed cases, in the notation of docs/FORMAT.md: grammars and rows as numbers with blanks
 //! and commas between them, bytes in hexadecimal.
 
+pub mod borders;
 mod grammar;
 mod packed;
 mod reading;
