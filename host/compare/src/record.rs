@@ -76,32 +76,6 @@ impl Record {
     }
 }
 
-/// How many random records a test makes.
-pub const RECORDS: usize = 1_000;
-
-/// Calls `test` with random grammars that have a value, and a record of each.
-pub fn for_each_record(seed: u64, test: impl FnMut(&mut Random, &[u32], Record)) {
-    for_some_records(RECORDS, seed, test);
-}
-
-/// Calls `test` this many times, with random grammars that have a value, and a record of each.
-pub fn for_some_records(
-    count: usize,
-    seed: u64,
-    mut test: impl FnMut(&mut Random, &[u32], Record),
-) {
-    let mut random = Random::new(seed);
-    let mut records = 0;
-    while records < count {
-        let table = Table::any(&mut random);
-        let spare = random.pick(&[0, 5, 30, 100]);
-        if let Some(record) = Record::of(&table, &mut random, spare) {
-            test(&mut random, &table.words(), record);
-            records += 1;
-        }
-    }
-}
-
 /// A writer of random values: the table, its smallest values, the rows that values may have above
 /// them, and what is written.
 struct Writer<'a> {

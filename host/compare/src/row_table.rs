@@ -9,7 +9,7 @@ const LEAVES: [u64; 8] = [0, 1, 2, 3, 4, 5, 6, 7];
 const PARENTS: [u64; 3] = [3, 4, 8];
 
 /// The bytes of an element, if the kind is that of an array in the store.
-pub fn element_width(kind: u64) -> Option<usize> {
+fn element_width(kind: u64) -> Option<usize> {
     match kind {
         5 => Some(1),
         6 => Some(4),

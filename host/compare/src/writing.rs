@@ -1,4 +1,4 @@
-//! The comparisons of the writing calls.
+//! The cases of the writing calls.
 
 use route_record::Refusal;
 
@@ -55,34 +55,13 @@ impl Value {
         }
     }
 
-    /// Compares the writing at `index` to an output of this length, and gives the bytes written.
-    pub fn marshall_val(&self, length: usize, index: usize) -> Result<Vec<u8>, Refusal> {
-        let case = self.clone().marshall_val_case(lent(length), index);
-        written(&case, index)
-    }
-
     /// Compares the writing at byte 0 to an output of this length, and gives the bytes written.
     pub fn marshall(&self, length: usize) -> Result<Vec<u8>, Refusal> {
-        written(&self.clone().marshall_case(lent(length)), 0)
-    }
-}
-
-/// An output of this length.
-fn lent(length: usize) -> Vec<u8> {
-    let pattern: Vec<u8> = (0..251).map(|byte| byte ^ 0xa5).collect();
-    let mut out = pattern.repeat(length / 251 + 1);
-    out.truncate(length);
-    out
-}
-
-/// Compares a writing at `index`, and gives the bytes written.
-fn written(case: &Case, index: usize) -> Result<Vec<u8>, Refusal> {
-    let outcome = case.compare();
-    let [size] = outcome.answer.clone().result()?;
-    match outcome.after() {
-        Case::MarshallVal { out, .. } | Case::Marshall { out, .. } => {
-            Ok(out[index..][..size as usize].to_vec())
+        let outcome = self.clone().marshall_case(vec![0xa5; length]).compare();
+        let [size] = outcome.answer.clone().result()?;
+        match outcome.after() {
+            Case::Marshall { out, .. } => Ok(out[..size as usize].to_vec()),
+            other => panic!("{} is another call", other.call()),
         }
-        other => panic!("{} is no writing", other.call()),
     }
 }

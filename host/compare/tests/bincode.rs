@@ -3,21 +3,13 @@
 //! 1.0.152 by `bincode::serialize`, and `DefaultOptions::new().with_fixint_encoding()` gave the
 //! same. The Rust value of each is beside it. Unions are left out: bincode's tags have 4 bytes.
 
-use compare::{demarshall, table, Value};
-use route_record::Parsed;
+use compare::{table, Value};
 
 /// Reads bincode's bytes into these rows, and writes the rows to bincode's bytes.
 fn compare_with(bytes: &[u8], grammar: &[u32], rows: &[[u64; 4]]) {
-    let parsed = Parsed {
-        rows: rows.len(),
-        rest_index: bytes.len(),
-    };
-    assert_eq!(demarshall(grammar, bytes, 4 * rows.len()), Ok(parsed));
     let value = Value::read(grammar, bytes);
     assert_eq!(value.rows, rows.concat());
     assert_eq!(value.marshall(bytes.len()), Ok(bytes.to_vec()));
-    let length = bytes.len() + 9;
-    assert_eq!(value.marshall_val(length, 5), Ok(bytes.to_vec()));
 }
 
 #[test]

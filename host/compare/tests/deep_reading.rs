@@ -3,7 +3,7 @@
 
 use std::thread;
 
-use compare::{chain, check_whole, demarshall};
+use compare::{chain, Case};
 use route_record::{calls, Parsed, Place, Refusal, SameRouteRefusal};
 
 type Answer = Result<Parsed, Refusal>;
@@ -42,8 +42,13 @@ fn compare_chain(kind: u32, own: &[u8]) {
     });
     for (length, expected) in [(end + 4, sound), (end + 3, cut)] {
         let record = &record[..length];
-        assert_eq!(demarshall(&grammar, record, 4 * 256), expected);
-        assert_eq!(check_whole(&grammar, record), expected);
+        let case = Case::CheckWhole {
+            grammar: grammar.clone(),
+            record: record.to_vec(),
+        };
+        let answer: Result<[u64; 2], Refusal> = case.compare().answer.result();
+        let parsed = |parsed: Parsed| [parsed.rows as u64, parsed.rest_index as u64];
+        assert_eq!(answer, expected.map(parsed));
         let answers = on_small_stack(grammar.clone(), record.to_vec());
         let same = expected.map(|_| true).map_err(SameRouteRefusal::First);
         assert_eq!(answers, ([expected; 2], same));

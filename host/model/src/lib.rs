@@ -18,7 +18,7 @@ pub use grammar::check_grammar;
 pub use packed::{pack, pack_seq, unpack, unpack_seq};
 pub use reading::{capacity, check_val, check_whole, demarshall, parse_val, Reading};
 pub use refusal::{Place, Refusal};
-pub use rows::{array_bytes, check_rows, compute_size_of, locate_array};
+pub use rows::{compute_size_of, locate_array};
 pub use same_route::{same_route, SameRouteRefusal};
 pub use show::show;
 pub use writing::{marshall, marshall_val, Writing};

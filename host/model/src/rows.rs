@@ -159,7 +159,7 @@ pub(crate) fn size_of_v(value: &V) -> u64 {
 }
 
 /// Checks that `n` rows stand for a value.
-pub fn check_rows(rows: &[u64], n: usize, store: &[u8]) -> Result<(), Refusal> {
+fn check_rows(rows: &[u64], n: usize, store: &[u8]) -> Result<(), Refusal> {
     whole_value(rows, n, store).map(|_| ())
 }
 
@@ -185,13 +185,5 @@ pub fn locate_array(
         6 => Ok((place, 4 * count)),
         7 => Ok((place, 8 * count)),
         _ => Err(at_row(18, row)),
-    }
-}
-
-/// The bytes of an array row in the store, and the empty part at place 0 when there are none.
-pub fn array_bytes<'a>(rows: &[u64], n: usize, store: &'a [u8], row: usize) -> &'a [u8] {
-    match locate_array(rows, n, store, row) {
-        Ok((start, length)) => &store[start..start + length],
-        Err(_) => &store[..0],
     }
 }

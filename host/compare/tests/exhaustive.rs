@@ -1,0 +1,376 @@
+//! Every length, every index and all small tables, which no list of cases says. Each answer is
+//! compared with the model's, and how many are accepted is counted beforehand.
+
+use compare::{leaf, table, Answer, Calls, Case, Number, Random, U32, U64};
+
+/// Compares a case, and gives whether it is accepted.
+fn is_accepted(case: Case) -> bool {
+    matches!(case.compare().answer, Answer::Accepted(_))
+}
+
+/// How many of the cases are accepted.
+fn accepted(cases: impl Iterator<Item = Case>) -> usize {
+    cases.filter(|case| is_accepted(case.clone())).count()
+}
+
+/// All pairs of a length 0 to 20 and an index: 0 to 25, and indices so large that adding a size to
+/// them could wrap.
+fn lengths_and_indices() -> impl Iterator<Item = (usize, usize)> {
+    let indices: Vec<usize> = (0..=25)
+        .chain([31, 32, 61, 62, 63].map(|bits| 1 << bits))
+        .chain((1 << 32) - 8..1 << 32)
+        .chain((1 << 63) - 8..1 << 63)
+        .chain(usize::MAX - 64..=usize::MAX)
+        .collect();
+    let pairs = move |length| {
+        indices
+            .clone()
+            .into_iter()
+            .map(move |index| (length, index))
+    };
+    (0..=20).flat_map(pairs)
+}
+
+/// How many accepted cases each of the four packers and unpackers of a width has, the runs for the
+/// counts 0 to 6.
+fn packed<N: Number>(calls: &Calls<N>) -> [usize; 4] {
+    let random = &mut Random::new(1);
+    let mut counts = [0; 4];
+    for (length, index) in lengths_and_indices() {
+        let (bytes, number) = (random.bytes(length), calls.numbers(random, 1)[0]);
+        counts[0] += usize::from(is_accepted((calls.unpack)(bytes.clone(), index)));
+        counts[1] += usize::from(is_accepted((calls.pack)(number, bytes.clone(), index)));
+        for count in 0..=6 {
+            let numbers = calls.numbers(random, count);
+            let unpack = (calls.unpack_seq)(bytes.clone(), index, numbers.clone());
+            let pack = (calls.pack_seq)(numbers, bytes.clone(), index);
+            counts[2] += usize::from(is_accepted(unpack));
+            counts[3] += usize::from(is_accepted(pack));
+        }
+    }
+    counts
+}
+
+/// The pairs of a length and an index with room for one number are 1 + .. + 17 for 4 bytes and
+/// 1 + .. + 13 for 8; for the counts 0 to 6 they are 231 + 153 + 91 + 45 + 15 + 1 + 0 and
+/// 231 + 91 + 15 + 0.
+#[test]
+fn packed_everywhere() {
+    assert_eq!(packed(&U32), [153, 153, 536, 536]);
+    assert_eq!(packed(&U64), [91, 91, 337, 337]);
+}
+
+/// How many of all sequences of words whose word i is one of `choices[i]` are sound tables.
+fn sound_tables(choices: &[&[u32]]) -> usize {
+    let cases = choices.iter().map(|words| words.len()).product();
+    accepted((0..cases).map(|case| {
+        let mut rest = case;
+        let word = |words: &&[u32]| {
+            let word = words[rest % words.len()];
+            rest /= words.len();
+            word
+        };
+        let grammar = choices.iter().map(word).collect();
+        Case::CheckGrammar { grammar }
+    }))
+}
+
+#[test]
+fn tables_of_up_to_six_words() {
+    let words: &[u32] = &[0, 1, 2, 3, 4, 8, 9, u32::MAX];
+    let sound = [0, 1, 2, 3, 4, 5, 6].map(|length| sound_tables(&vec![words; length]));
+    // 5 words: the kinds 0, 1, 2, 4, 8 without children. 6 words: these, and first 1 for 4 and 8,
+    // with any child word.
+    assert_eq!(sound, [0, 0, 0, 0, 0, 5, 7 * 8]);
+}
+
+#[test]
+fn tables_of_two_nodes_and_two_child_words() {
+    let kind: &[u32] = &[0, 3, 4, 9];
+    let first: &[u32] = &[0, 1, 2, 3, u32::MAX];
+    let count: &[u32] = &[0, 1, 2, u32::MAX];
+    let child: &[u32] = &[0, 1, 2, u32::MAX];
+    let (two, node) = (&[2][..], [kind, first, count]);
+    let table = [&[two], &node[..], &node, &[two, child, child]].concat();
+    // Four nodes have no child: kind 0, and kind 4 with first 0, 1 or 2. Node 1 is one of these. As
+    // node 0 each of them goes with all 16 pairs of child words, each of the four nodes with one
+    // child (kind 3 or 4, first 0 or 1) with 4 pairs, and the tuple of two with 1.
+    assert_eq!(sound_tables(&table), 4 * (4 * 16 + 4 * 4 + 1));
+}
+
+type Row = [u64; 4];
+
+/// All rows of these kinds, spans, words 2, and of the words 3 0 and 1.
+fn all_rows(kinds: &[u64], spans: &[u64], words2: &[u64]) -> Vec<Row> {
+    let mut rows = Vec::new();
+    for &kind in kinds {
+        for &span in spans {
+            for &word2 in words2 {
+                rows.extend([0, 1].map(|word3| [kind, span, word2, word3]));
+            }
+        }
+    }
+    rows
+}
+
+#[test]
+fn sizes_of_two_rows() {
+    let rows = all_rows(&[0, 3, 4, 5, 8, 9], &[0, 1, 2, u64::MAX], &[0, 1, u64::MAX]);
+    let pairs = rows
+        .iter()
+        .flat_map(|root| rows.iter().map(|child| [*root, *child]));
+    let cases = pairs.map(|pair| Case::ComputeSizeOf {
+        rows: pair.concat(),
+        n: 2,
+        store: vec![0],
+    });
+    // The root is an array or a tuple of 1, or a case with one of 3 tags. In it there is a
+    // constant, an array or a tuple of 0, or an array of bytes: none at offset 0 or 1, one at 0.
+    assert_eq!(accepted(cases), (1 + 1 + 3) * (1 + 1 + 1 + 3));
+}
+
+/// The writing of these rows to an output of 100 bytes.
+fn writing(grammar: &[u32], rows: &[Row], store: &[u8]) -> Case {
+    Case::Marshall {
+        grammar: grammar.to_vec(),
+        rows: rows.concat(),
+        n: rows.len(),
+        store: store.to_vec(),
+        out: vec![0xee; 100],
+    }
+}
+
+/// All values of two rows, under all tables of a root and a child.
+#[test]
+fn writings_of_two_rows() {
+    let rows = all_rows(&[0, 1, 3, 4, 5, 8], &[1, 2], &[0, 1, 2]);
+    let mut written = 0;
+    for [kind, count] in [
+        [0, 0],
+        [3, 1],
+        [4, 0],
+        [4, 1],
+        [4, 2],
+        [8, 0],
+        [8, 1],
+        [8, 2],
+    ] {
+        for child in [0, 4, 5] {
+            let grammar = [2, kind, 0, count, child, 0, 0, 2, 1, 1];
+            let pairs = rows
+                .iter()
+                .flat_map(|root| rows.iter().map(|child| [*root, *child]));
+            written += accepted(pairs.map(|pair| writing(&grammar, &pair, &[9])));
+        }
+    }
+    // The root is an array or a tuple of 1, or a case of one union or of two of the other. In it
+    // there is a constant, a tuple of 0, or an array of bytes: none at offset 0 or 1, one at 0.
+    assert_eq!(written, (1 + 1 + 1 + 2) * (1 + 1 + 3));
+}
+
+/// Arrays of each width, of every count and at every offset of a store of 24 bytes.
+#[test]
+fn arrays_anywhere_in_the_store() {
+    let store: Vec<u8> = (1..=24).collect();
+    for (kind, width) in [(5, 1), (6, 4), (7, 8)] {
+        for count in 0..=24 / width {
+            let last = 24 - count * width;
+            let cases = (0..=last + 2).map(|offset| {
+                let row = [u64::from(kind), 1, count, offset];
+                writing(&leaf(kind), &[row], &store)
+            });
+            assert_eq!(accepted(cases), last as usize + 1);
+        }
+    }
+}
+
+/// A value of each kind, the values with parts first: nodes, child words and rows.
+const NODES: [[u32; 3]; 10] = [
+    [4, 0, 9],
+    [3, 9, 1],
+    [4, 10, 2],
+    [8, 12, 2],
+    [0, 0, 0],
+    [1, 0, 0],
+    [2, 0, 0],
+    [5, 0, 0],
+    [6, 0, 0],
+    [7, 0, 0],
+];
+const CHILDREN: [u32; 14] = [1, 2, 3, 4, 5, 6, 7, 8, 9, 5, 5, 4, 4, 5];
+const ROWS: [Row; 15] = [
+    [4, 15, 9, 0],
+    [3, 3, 2, 0],
+    [1, 1, 1, 0],
+    [1, 1, 2, 0],
+    [4, 3, 2, 0],
+    [1, 1, 3, 0],
+    [0, 1, 0, 0],
+    [8, 2, 1, 0],
+    [1, 1, 4, 0],
+    [0, 1, 0, 0],
+    [1, 1, 5, 0],
+    [2, 1, 6, 0],
+    [5, 1, 1, 0],
+    [6, 1, 1, 1],
+    [7, 1, 1, 2],
+];
+
+/// The rows of the value of each kind that have no part.
+const LEAVES: [usize; 11] = [2, 3, 5, 6, 8, 9, 10, 11, 12, 13, 14];
+
+/// Rows of every kind in the place of each row without parts, and of two of them at once: of these
+/// that which is of another kind first is refused, and the value itself is written.
+#[test]
+fn another_kind_in_each_row() {
+    let grammar = table(&NODES, &CHILDREN);
+    for first in LEAVES {
+        for second in LEAVES {
+            for kind in 0..8 {
+                let mut rows = ROWS;
+                (rows[first], rows[second]) = ([kind, 1, 0, 0], [kind, 1, 0, 0]);
+                let other = [first, second]
+                    .into_iter()
+                    .filter(|&row| ROWS[row][0] != kind);
+                let answer = writing(&grammar, &rows, &[9; 10]).compare().answer;
+                match other.min() {
+                    None => assert_eq!(answer.number(), 0),
+                    Some(row) => assert_eq!(answer.c_words()[..3], [15, 3, row as u64]),
+                }
+            }
+        }
+    }
+}
+
+/// Tuples of 0 to 5 fields under nodes of 0 to 5.
+#[test]
+fn tuple_counts() {
+    let constant = [0, 1, 0, 0];
+    let cases = (0..36).map(|both| {
+        let (fields, given) = (both / 6, u64::from(both % 6));
+        let grammar = table(&[[4, 0, fields], [0, 0, 0]], &[1; 6]);
+        let mut rows = vec![[4, given + 1, given, 0]];
+        rows.resize(given as usize + 1, constant);
+        writing(&grammar, &rows, &[])
+    });
+    assert_eq!(accepted(cases), 6);
+}
+
+/// The grammar and the record of the value of each kind: 81 bytes, 15 rows.
+fn each_kind() -> (Vec<u32>, Vec<u8>) {
+    let grammar = table(&NODES, &CHILDREN);
+    let outcome = writing(&grammar, &ROWS, &[9; 10]).compare();
+    let (Answer::Accepted(size), Case::Marshall { mut out, .. }) =
+        (&outcome.answer, outcome.after())
+    else {
+        panic!("the value is written");
+    };
+    out.truncate(size[0] as usize);
+    (grammar, out)
+}
+
+/// The whole reading with so many words lent.
+fn reading(grammar: &[u32], record: &[u8], words: usize) -> Case {
+    Case::Demarshall {
+        grammar: grammar.to_vec(),
+        record: record.to_vec(),
+        rows: (1_000..).take(words).collect(),
+    }
+}
+
+#[test]
+fn readings_of_every_length_and_capacity() {
+    let (grammar, record) = each_kind();
+    let longer = [&record[..], &[0; 9]].concat();
+    let lengths = (0..=longer.len()).map(|length| reading(&grammar, &longer[..length], 64));
+    assert_eq!(accepted(lengths), 1);
+    let words = (0..=70).map(|words| reading(&grammar, &record, words));
+    assert_eq!(accepted(words), 11);
+    let slices = (0..=record.len()).map(|length| {
+        // A comparison copies the record; here the bytes cut off stand behind it.
+        let cut = &record[..length];
+        let answer = route_record::calls::check_whole(&grammar, cut);
+        let case = Case::CheckWhole {
+            grammar: grammar.clone(),
+            record: cut.to_vec(),
+        };
+        assert_eq!(is_accepted(case.clone()), answer.is_ok());
+        case
+    });
+    assert_eq!(accepted(slices), 1);
+}
+
+#[test]
+fn readings_from_every_index() {
+    let (grammar, record) = each_kind();
+    let record = [&[7; 3], &record[..], &[7; 3]].concat();
+    let far = [1 << 20, 1 << 32, 1 << 63, usize::MAX - 7, usize::MAX];
+    let indices = (0..=record.len() + 2).chain(far);
+    let cases = indices.map(|index| Case::ParseVal {
+        grammar: grammar.clone(),
+        record: record.clone(),
+        index,
+        rows: vec![99; 64],
+    });
+    assert_eq!(accepted(cases), 1);
+}
+
+/// The record with each of its bytes made each other one: the bytes of numbers and of elements may
+/// be any, and of the 40 bytes of counts and of the tag none may be another one.
+#[test]
+fn readings_of_every_byte() {
+    let (grammar, record) = each_kind();
+    let free = record.len() - 40;
+    let others = (0..record.len()).flat_map(|at| (1..=255).map(move |flip| (at, flip)));
+    let cases = others.map(|(at, flip)| {
+        let mut other = record.clone();
+        other[at] ^= flip;
+        reading(&grammar, &other, 64)
+    });
+    assert_eq!(accepted(cases), 255 * free);
+}
+
+/// Records that differ in a byte of a number or of an element are of different routes, whichever
+/// byte it is.
+#[test]
+fn routes_that_differ_in_each_byte() {
+    let (grammar, record) = each_kind();
+    let mut different = 0;
+    for at in 0..record.len() {
+        let mut second = record.clone();
+        second[at] ^= 0x80;
+        let (grammar, first) = (grammar.clone(), record.clone());
+        let case = Case::SameRoute {
+            grammar,
+            first,
+            second,
+        };
+        different += usize::from(case.compare().answer == Answer::Accepted(vec![0]));
+    }
+    assert_eq!(different, record.len() - 40);
+}
+
+/// Writings of example A at every index of outputs of every length.
+#[test]
+fn writings_at_every_index() {
+    let far = [
+        1 << 20,
+        1 << 32,
+        1 << 63,
+        usize::MAX - 14,
+        usize::MAX - 13,
+        usize::MAX,
+    ];
+    for length in 0..=40 {
+        let indices = (0..=length + 1).chain(far);
+        let cases = indices.map(|index| Case::MarshallVal {
+            grammar: vec![3, 4, 0, 2, 1, 0, 0, 5, 0, 0, 2, 1, 2],
+            rows: vec![4, 3, 2, 0, 1, 1, 7, 0, 5, 1, 2, 12],
+            n: 3,
+            store: b"\x07\0\0\0\x02\0\0\0\0\0\0\0AB".to_vec(),
+            out: vec![0xee; length],
+            index,
+        });
+        assert_eq!(accepted(cases), (length + 1).saturating_sub(14));
+    }
+}
