@@ -3,10 +3,7 @@
 use std::hint::black_box;
 
 use crate::measure::Contender;
-use crate::records::Input;
-
-/// The words of the most rows.
-const WORDS: usize = 4 * 4_096;
+use crate::records::{Input, WORDS};
 
 /// What is measured of a record that is accepted whole.
 #[derive(Clone, Copy, Debug, PartialEq, Eq)]

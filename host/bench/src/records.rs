@@ -1,6 +1,9 @@
 //! The grammars, the records that are read and the values that are written. They are the same in
 //! every run.
 
+use compare::table;
+use route_record::{MAX_BYTES, MAX_ROWS, ROW_WORDS};
+
 /// A grammar table and a record to be read by it.
 pub struct Input {
     /// The words of the grammar.
@@ -9,44 +12,18 @@ pub struct Input {
     pub record: Vec<u8>,
 }
 
-/// A value to be written: a grammar, `n` rows and their store.
-pub struct Value {
-    /// The words of the grammar.
-    pub grammar: Vec<u32>,
-    /// The words of the rows.
-    pub rows: Vec<u64>,
-    /// The number of rows.
-    pub n: usize,
-    /// The bytes of the store.
-    pub store: Vec<u8>,
-}
+/// The words of the most rows.
+pub const WORDS: usize = ROW_WORDS * MAX_ROWS;
 
 impl Input {
     /// The words of the rows of a record that is accepted, and the row count.
     pub fn rows(&self) -> (Vec<u64>, usize) {
-        let mut rows = vec![0; 4 * 4_096];
+        let mut rows = vec![0; WORDS];
         let parsed = route_record::calls::demarshall(&self.grammar, &self.record, &mut rows);
         let n = parsed.expect("a sound record").rows;
-        rows.truncate(4 * n);
+        rows.truncate(ROW_WORDS * n);
         (rows, n)
     }
-
-    /// The value of a record that is accepted, with the record as the store.
-    pub fn into_value(self) -> Value {
-        let (rows, n) = self.rows();
-        Value {
-            grammar: self.grammar,
-            rows,
-            n,
-            store: self.record,
-        }
-    }
-}
-
-/// The words of a table: kind, first and count of each node, and the child words.
-fn table(nodes: &[[u32; 3]], children: &[u32]) -> Vec<u32> {
-    let (n, m) = (nodes.len() as u32, children.len() as u32);
-    [&[n], nodes.concat().as_slice(), &[m], children].concat()
 }
 
 /// A record of `rows` rows: an array of cases, in which four stand over and over, 15 rows together:
@@ -123,7 +100,7 @@ pub fn wide_tuple() -> Input {
 /// One byte array, the record of which has 1,048,576 bytes.
 pub fn long_array() -> Input {
     let mut record = Vec::new();
-    put_bytes(&mut record, 1_048_576 - 8);
+    put_bytes(&mut record, MAX_BYTES - 8);
     Input {
         grammar: table(&[[5, 0, 0]], &[]),
         record,

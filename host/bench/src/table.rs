@@ -1,6 +1,6 @@
 //! The measurements: the calls on records of several sizes, and the time per row.
 
-use crate::answers;
+use crate::answers::{case_of, of_rust};
 use crate::measure::measure;
 use crate::picture::Curve;
 use crate::program::{Call, Program};
@@ -94,7 +94,9 @@ fn times(programs: &[&dyn Program], call: Call, inputs: &[Input]) -> Vec<Vec<Opt
     let mut places = Vec::new();
     let mut contenders = Vec::new();
     for (size, input) in inputs.iter().enumerate() {
-        answers::compare(call, input);
+        let case = case_of(call, input);
+        let differ = case.of_library() != of_rust(&case);
+        assert!(!differ, "the library and safe Rust differ: {}", call.name());
         for (place, program) in programs.iter().enumerate() {
             if let Some(contender) = program.contender(call, input) {
                 places.push((size, place));
