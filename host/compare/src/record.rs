@@ -1,9 +1,8 @@
 //! Random records of a grammar, written by the byte rule, and faults in them.
 
-use crate::{Random, Table};
+use route_record::MAX_ROWS;
 
-/// The most rows of a value.
-const MOST_ROWS: usize = 4_096;
+use crate::{Random, Table};
 
 /// A random value of a grammar's root, as its bytes.
 pub struct Record {
@@ -20,7 +19,7 @@ fn children_of(table: &Table, [_, first, count]: [u32; 3]) -> &[u32] {
     &table.children[first as usize..][..count as usize]
 }
 
-/// The rows of the smallest value of each node, if it has one of at most 4,096.
+/// The rows of the smallest value of each node, if it has one of at most [`MAX_ROWS`].
 fn least_rows(table: &Table) -> Vec<Option<usize>> {
     let mut least = vec![None; table.nodes.len()];
     for (k, &node) in table.nodes.iter().enumerate().rev() {
@@ -30,14 +29,14 @@ fn least_rows(table: &Table) -> Vec<Option<usize>> {
             8 => children().flatten().min(),
             _ => Some(0),
         };
-        least[k] = below.map(|rows| rows + 1).filter(|&rows| rows <= MOST_ROWS);
+        least[k] = below.map(|rows| rows + 1).filter(|&rows| rows <= MAX_ROWS);
     }
     least
 }
 
 impl Record {
     /// A record of a sound table's root, of at most `spare` rows above the smallest value, or none
-    /// if the root has no value of at most 4,096 rows.
+    /// if the root has no value of at most [`MAX_ROWS`] rows.
     pub fn of(table: &Table, random: &mut Random, spare: usize) -> Option<Record> {
         let least = least_rows(table);
         let smallest = least[0]?;
@@ -45,7 +44,7 @@ impl Record {
             table,
             random,
             least,
-            spare: spare.min(MOST_ROWS - smallest),
+            spare: spare.min(MAX_ROWS - smallest),
             record: Record {
                 bytes: Vec::new(),
                 rows: 0,
@@ -68,7 +67,16 @@ impl Record {
         let count = &mut self.bytes[at..at + 8];
         let old = u64::from_le_bytes((&*count).try_into().expect("8 bytes"));
         let left = (end - at - 8) as u64;
-        let limits = [old, left, left / 4, left / 8, 4_096, 1 << 61, 1 << 62, 0];
+        let limits = [
+            old,
+            left,
+            left / 4,
+            left / 8,
+            MAX_ROWS as u64,
+            1 << 61,
+            1 << 62,
+            0,
+        ];
         let new = random
             .pick(&limits)
             .wrapping_add(random.pick(&[0, 1, u64::MAX]));

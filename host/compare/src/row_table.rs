@@ -1,5 +1,7 @@
 //! Random row tables: sound ones, and faults in their words, in the row count and in the store.
 
+use route_record::{MAX_BYTES, MAX_ROWS, ROW_WORDS};
+
 use crate::Random;
 
 /// The kinds of values of one row, arrays and tuples of no value among them.
@@ -30,7 +32,7 @@ pub struct RowTable {
 impl RowTable {
     /// The rows of these words, with their store.
     pub fn of(words: &[u64], record: Vec<u8>) -> RowTable {
-        let rows = words.chunks_exact(4);
+        let rows = words.chunks_exact(ROW_WORDS);
         RowTable {
             rows: rows.map(|row| [row[0], row[1], row[2], row[3]]).collect(),
             record,
@@ -175,7 +177,7 @@ impl RowInput {
             n.wrapping_add(1),
             n.wrapping_add(1 << 62),
         ];
-        self.n = random.pick(&[&other[..], &[0, 4_096, 4_097, usize::MAX]].concat());
+        self.n = random.pick(&[&other[..], &[0, MAX_ROWS, MAX_ROWS + 1, usize::MAX]].concat());
     }
 
     /// Leaves out the last words, or puts a few behind the others.
@@ -189,8 +191,8 @@ impl RowInput {
     pub fn damage_store(&mut self, random: &mut Random) {
         let length = self.store.len();
         let other = match random.below(80) {
-            0 => 1_048_576,
-            1 => 1_048_577,
+            0 => MAX_BYTES,
+            1 => MAX_BYTES + 1,
             2..40 => length.saturating_sub(1),
             _ => random.within(0..=length),
         };

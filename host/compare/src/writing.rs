@@ -1,6 +1,6 @@
 //! The cases of the writing calls.
 
-use route_record::Refusal;
+use route_record::{Refusal, MAX_ROWS, ROW_WORDS};
 
 use crate::Case;
 
@@ -20,10 +20,10 @@ pub struct Value {
 impl Value {
     /// The value of a record that the library reads whole, with the record as the store.
     pub fn read(grammar: &[u32], record: &[u8]) -> Value {
-        let mut rows = vec![0; 4 * 4_096];
+        let mut rows = vec![0; ROW_WORDS * MAX_ROWS];
         let parsed = route_record::calls::demarshall(grammar, record, &mut rows);
         let n = parsed.expect("a record of the grammar").rows;
-        rows.truncate(4 * n);
+        rows.truncate(ROW_WORDS * n);
         Value {
             grammar: grammar.to_vec(),
             rows,

@@ -2,6 +2,8 @@
 
 use std::hash::{DefaultHasher, Hash, Hasher};
 
+use route_record::{MAX_BYTES, MAX_ROWS, ROW_WORDS};
+
 use compare::{shrink, Answer, Case, Field, Outcome, Random, Record, RowTable, Table, Value};
 
 /// A library that answers as the model does, but for an error.
@@ -42,7 +44,7 @@ fn records_and_grammars() {
     for seed in 0..5 {
         let (grammar, mut record) = large_record(&mut Random::new(seed));
         record.extend([7; 100]);
-        let rows = vec![99; 4 * 4_096];
+        let rows = vec![99; ROW_WORDS * MAX_ROWS];
         let large = Case::Demarshall {
             grammar,
             record,
@@ -63,7 +65,7 @@ fn skips_empty_arrays(case: &Case) -> Outcome {
     match (case, outcome.answer.number()) {
         (Case::ComputeSizeOf { rows, n, store }, 14) => {
             let mut rows = rows.clone();
-            for row in rows.chunks_mut(4).filter(|row| row[2] == 0) {
+            for row in rows.chunks_mut(ROW_WORDS).filter(|row| row[2] == 0) {
                 row[3] = 0;
             }
             let (n, store) = (*n, store.clone());
@@ -173,7 +175,7 @@ fn refuses_long_records(case: &Case) -> Outcome {
 fn long_records() {
     let large = Case::CheckWhole {
         grammar: Table::sound(&mut Random::new(1), 100, 100).words(),
-        record: vec![9; 1_048_576],
+        record: vec![9; MAX_BYTES],
     };
     let Case::CheckWhole { grammar, record } = smallest(refuses_long_records, &large) else {
         panic!("a check");

@@ -11,9 +11,3 @@ pub use grammar::check_grammar;
 pub use reading::{check_whole, demarshall, same_route, Parsed};
 pub use refusal::{Place, Refusal};
 pub use writing::{compute_size_of, marshall, marshall_val};
-
-/// The bytes of the longest record.
-const MOST_BYTES: usize = 1_048_576;
-
-/// The rows of the largest value.
-const MOST_ROWS: usize = 4_096;

@@ -2,7 +2,9 @@
 //! does not arise.
 
 use super::grammar::Grammar;
-use super::{Refusal, MOST_BYTES, MOST_ROWS};
+use route_record::{MAX_BYTES, MAX_ROWS};
+
+use super::Refusal;
 
 /// What an accepted reading gives.
 #[derive(Clone, Copy, Debug, PartialEq, Eq)]
@@ -16,14 +18,14 @@ pub struct Parsed {
 /// Reads a record as a check, with no rows.
 pub fn check_whole(words: &[u32], record: &[u8]) -> Result<Parsed, Refusal> {
     let grammar = Grammar::of(words)?;
-    check(grammar, record, MOST_ROWS)
+    check(grammar, record, MAX_ROWS)
 }
 
 /// Reads a record and lays it out in rows: first as a check, so that a refusal changes no row.
 pub fn demarshall(words: &[u32], record: &[u8], rows: &mut [u64]) -> Result<Parsed, Refusal> {
     let grammar = Grammar::of(words)?;
     let (rows, _) = rows.as_chunks_mut();
-    let capacity = rows.len().min(MOST_ROWS);
+    let capacity = rows.len().min(MAX_ROWS);
     check(grammar, record, capacity)?;
     read(grammar, record, rows, capacity)
 }
@@ -31,14 +33,14 @@ pub fn demarshall(words: &[u32], record: &[u8], rows: &mut [u64]) -> Result<Pars
 /// Whether two records are of the same route. Values are equal where their bytes are.
 pub fn same_route(words: &[u32], first: &[u8], second: &[u8]) -> Result<bool, Refusal> {
     let grammar = Grammar::of(words)?;
-    check(grammar, first, MOST_ROWS)?;
-    check(grammar, second, MOST_ROWS)?;
+    check(grammar, first, MAX_ROWS)?;
+    check(grammar, second, MAX_ROWS)?;
     Ok(first == second)
 }
 
 /// The first pass.
 fn check(grammar: Grammar, record: &[u8], capacity: usize) -> Result<Parsed, Refusal> {
-    if record.len() > MOST_BYTES {
+    if record.len() > MAX_BYTES {
         return Err(Refusal::at_byte(6, 0));
     }
     let parsed = read(grammar, record, &mut [], capacity)?;

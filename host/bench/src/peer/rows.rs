@@ -1,17 +1,19 @@
 //! The walk over value rows: refusals 6, 12, 13 and 14.
 
-use super::{Refusal, MOST_BYTES, MOST_ROWS};
+use route_record::{MAX_BYTES, MAX_ROWS};
+
+use super::Refusal;
 
 /// Kind, span, word 2 and word 3.
 pub type Row = [u64; 4];
 
 /// The rows of a value, if `n` rows stand for one.
 pub fn check_rows<'a>(words: &'a [u64], n: usize, store: &[u8]) -> Result<&'a [Row], Refusal> {
-    if store.len() > MOST_BYTES {
+    if store.len() > MAX_BYTES {
         return Err(Refusal::at_byte(6, 0));
     }
     let (rows, _): (&[Row], _) = words.as_chunks();
-    if n == 0 || n > MOST_ROWS || n > rows.len() {
+    if n == 0 || n > MAX_ROWS || n > rows.len() {
         return Err(Refusal::at_row(12, 0));
     }
     let rows = &rows[..n];

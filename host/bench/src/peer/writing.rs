@@ -2,7 +2,9 @@
 
 use super::grammar::Grammar;
 use super::rows::{check_rows, Row};
-use super::{Refusal, MOST_BYTES};
+use route_record::MAX_BYTES;
+
+use super::Refusal;
 
 /// Writes the bytes of the value that `n` rows stand for from byte 0 on, and gives how many.
 pub fn marshall(
@@ -28,7 +30,7 @@ pub fn marshall_val(
     let rows = check_rows(rows, n, store)?;
     check_value(grammar, rows, 0, 0)?;
     let size = size_of(rows);
-    if size > MOST_BYTES as u64 {
+    if size > MAX_BYTES as u64 {
         return Err(Refusal::at_row(16, 0));
     }
     let (size, length) = (size as usize, out.len());

@@ -2,6 +2,7 @@
 //! model gives for it is put there.
 
 use model::{Reading, Refusal, SameRouteRefusal, Writing};
+use route_record::ROW_WORDS;
 
 use super::field::between_margins;
 use super::Answer;
@@ -75,7 +76,10 @@ pub fn locate_array(rows: &[u64], n: usize, store: &[u8], row: usize) -> Answer 
 
 /// The row count and `rest_index` of a reading.
 fn counts(reading: &Reading) -> [u64; 2] {
-    [reading.rows.len() as u64 / 4, reading.rest_index as u64]
+    [
+        (reading.rows.len() / ROW_WORDS) as u64,
+        reading.rest_index as u64,
+    ]
 }
 
 /// The answer of a reading, whose rows are put into the lent ones.

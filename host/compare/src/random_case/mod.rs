@@ -3,10 +3,9 @@
 mod reading;
 mod writing;
 
-use crate::{Calls, Case, Number, Random, RowInput, RowTable, Table, U32, U64};
+use route_record::{MAX_BYTES, MAX_ROWS};
 
-/// The most bytes of a record or a store, and of a value that is written.
-const MOST_BYTES: usize = 1_048_576;
+use crate::{Calls, Case, Number, Random, RowInput, RowTable, Table, U32, U64};
 
 impl Case {
     /// A random case of any call. The calls on grammars, rows and records come more often than the
@@ -117,7 +116,7 @@ fn check_grammar(random: &mut Random) -> Case {
 /// A sound row table, most often a small one.
 fn row_table(random: &mut Random) -> RowTable {
     let most = match random.below(300) {
-        0 => 4_096,
+        0 => MAX_ROWS,
         1 => return sharing_a_store(random),
         2..5 => return deep_rows(random),
         _ => random.pick(&[1, 2, 3, 4, 8, 20, 60]),
@@ -132,7 +131,7 @@ fn row_table(random: &mut Random) -> RowTable {
 
 /// Rows each of which but the last has the next one as its child.
 fn deep_rows(random: &mut Random) -> RowTable {
-    let n = random.within(1..=4_096) as u64;
+    let n = random.within(1..=MAX_ROWS) as u64;
     let parents = (2..=n)
         .rev()
         .map(|span| [random.pick(&[3, 4, 8]), span, 1, 0]);
@@ -143,8 +142,8 @@ fn deep_rows(random: &mut Random) -> RowTable {
 
 /// The bytes with zeros behind them, as long as a record or a store may be, or too long.
 fn lengthened(random: &mut Random, bytes: &[u8]) -> Vec<u8> {
-    let mut long = vec![0; MOST_BYTES + random.below(2)];
-    let kept = bytes.len().min(MOST_BYTES);
+    let mut long = vec![0; MAX_BYTES + random.below(2)];
+    let kept = bytes.len().min(MAX_BYTES);
     long[..kept].copy_from_slice(&bytes[..kept]);
     long
 }
@@ -162,7 +161,7 @@ fn spoil_rows(random: &mut Random, input: &mut RowInput) {
 /// An array of many arrays that overlap in one store, so that the size may be far above it.
 fn sharing_a_store(random: &mut Random) -> RowTable {
     let arrays = random.within(1..=4_095);
-    let length = random.pick(&[100, 10_000, MOST_BYTES]);
+    let length = random.pick(&[100, 10_000, MAX_BYTES]);
     let mut rows = vec![[3, arrays as u64 + 1, arrays as u64, 0]];
     for _ in 0..arrays {
         let (kind, width) = random.pick(&[(5, 1), (6, 4), (7, 8)]);

@@ -1,8 +1,10 @@
 //! Random cases of the readers and of same route.
 
+use route_record::{MAX_BYTES, MAX_ROWS, ROW_WORDS};
+
 use crate::{leaf, Case, Random, Record, Table};
 
-use super::{index_near, lengthened, lent, spoil_grammar, table, MOST_BYTES};
+use super::{index_near, lengthened, lent, spoil_grammar, table};
 
 /// A record of the table's root, and how many rows it needs when it is sound.
 pub(super) struct Input {
@@ -13,7 +15,7 @@ pub(super) struct Input {
 /// A sound record of the table, if there is one, small or large.
 pub(super) fn sound(random: &mut Random, table: &Table) -> Option<Record> {
     let spare = match random.below(100) {
-        0..2 => 4_096,
+        0..2 => MAX_ROWS,
         _ => random.pick(&[0, 0, 5, 30, 100]),
     };
     Record::of(table, random, spare)
@@ -67,11 +69,12 @@ fn input(random: &mut Random, table: &Table) -> Input {
 
 /// How many words are lent to a reading that needs so many rows: near the need, or not.
 fn words(random: &mut Random, rows: usize) -> usize {
+    let need = ROW_WORDS * rows;
     match random.below(8) {
         0 => random.pick(&[0, 3, 4, 9, 100]),
-        1 => random.pick(&[4 * 4_096, 4 * 4_096 + 7]),
-        2..4 => random.within((4 * rows).saturating_sub(9)..=4 * rows + 9),
-        _ => 4 * rows + random.below(10),
+        1 => ROW_WORDS * MAX_ROWS + random.pick(&[0, 7]),
+        2..4 => random.within(need.saturating_sub(9)..=need + 9),
+        _ => need + random.below(10),
     }
 }
 
@@ -88,7 +91,7 @@ pub(super) fn grammar(random: &mut Random) -> (Table, Vec<u32>) {
 /// A grammar and a record: an array of numbers, about as long as a record may be.
 fn long_array(random: &mut Random) -> (Vec<u32>, Input) {
     let (kind, width) = random.pick(&[(5, 1), (6, 4), (7, 8)]);
-    let length = random.within(MOST_BYTES - 9..=MOST_BYTES + 1);
+    let length = random.within(MAX_BYTES - 9..=MAX_BYTES + 1);
     let count = (length - 8) / width + random.below(2);
     let mut bytes = vec![random.number() as u8; length];
     bytes[..8].copy_from_slice(&(count as u64).to_le_bytes());
@@ -133,7 +136,7 @@ pub(super) fn case(random: &mut Random) -> Case {
             record: bytes,
         },
         form => {
-            let before = random.below(5).min(MOST_BYTES.saturating_sub(bytes.len()));
+            let before = random.below(5).min(MAX_BYTES.saturating_sub(bytes.len()));
             let front = random.bytes(before);
             let record = [front, bytes].concat();
             let index = match random.below(4) {

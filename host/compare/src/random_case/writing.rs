@@ -1,9 +1,11 @@
 //! Random cases of the writers.
 
+use route_record::MAX_BYTES;
+
 use crate::{Case, Random, RowInput, RowTable, Table, Value};
 
 use super::reading::{grammar, sound};
-use super::{index_near, lent, row_table, spoil_grammar, spoil_rows, MOST_BYTES};
+use super::{index_near, lent, row_table, spoil_grammar, spoil_rows};
 
 /// A value to be written, with the table of its grammar and its size when it is sound.
 struct Input {
@@ -44,7 +46,7 @@ fn any_value(random: &mut Random) -> Input {
 fn large_value(random: &mut Random) -> Input {
     let (kind, width) = random.pick(&[(5, 1), (6, 4), (7, 8)]);
     let arrays = random.within(1..=20);
-    let mut left = (MOST_BYTES - 8 - 8 * arrays) / width + random.below(3);
+    let mut left = (MAX_BYTES - 8 - 8 * arrays) / width + random.below(3);
     let mut rows = vec![[3, arrays as u64 + 1, arrays as u64, 0]];
     for others in (0..arrays).rev() {
         let count = left / (others + 1);
@@ -61,7 +63,7 @@ fn large_value(random: &mut Random) -> Input {
         table,
         rows: RowTable {
             rows,
-            record: lent(random, (longest + 8).min(MOST_BYTES)),
+            record: lent(random, (longest + 8).min(MAX_BYTES)),
         },
         size: size + 8 + 8 * arrays,
     }

@@ -3,6 +3,8 @@
 
 use std::ops::Range;
 
+use route_record::ROW_WORDS;
+
 use crate::{Case, Field};
 
 /// The words of the grammar that a call is given.
@@ -50,7 +52,9 @@ pub(super) fn counts(case: &mut Case) -> Counts {
     let grammar = grammar_of(case).and_then(|words| sections(words));
     let (nodes, child_words) = grammar.unwrap_or((0, 0));
     let (rows, in_root) = match rows_of(case) {
-        Some((rows, n)) if (1..=rows.len() / 4).contains(n) => (*n, children(rows, *n).len()),
+        Some((rows, n)) if (1..=rows.len() / ROW_WORDS).contains(n) => {
+            (*n, children(rows, *n).len())
+        }
         _ => (0, 0),
     };
     Counts {
@@ -63,8 +67,8 @@ pub(super) fn counts(case: &mut Case) -> Counts {
 
 /// The rows of a row's value, as far as there are so many.
 fn value(rows: &[u64], n: usize, row: usize) -> Range<usize> {
-    let most = n.min(rows.len() / 4);
-    let end = (row as u64).saturating_add(rows[4 * row + 1]);
+    let most = n.min(rows.len() / ROW_WORDS);
+    let end = (row as u64).saturating_add(rows[ROW_WORDS * row + 1]);
     row..(end.min(most as u64) as usize).max(row + 1)
 }
 
@@ -83,7 +87,7 @@ fn children(rows: &[u64], n: usize) -> Vec<Range<usize>> {
 /// Keeps these rows alone.
 fn keep(rows: &mut Vec<u64>, n: &mut usize, kept: Range<usize>) {
     *n = kept.len();
-    *rows = rows[4 * kept.start..4 * kept.end].to_vec();
+    *rows = rows[ROW_WORDS * kept.start..ROW_WORDS * kept.end].to_vec();
 }
 
 /// Keeps the rows of a row's value alone.
@@ -124,16 +128,16 @@ fn remove_values(rows: &mut Vec<u64>, n: &mut usize, removed: Range<usize>, valu
     for other in 0..removed.start {
         if value(rows, *n, other).end >= removed.end {
             parent = Some(other);
-            let span = &mut rows[4 * other + 1];
+            let span = &mut rows[ROW_WORDS * other + 1];
             *span = span.saturating_sub(removed.len() as u64);
         }
     }
-    if let Some(parent) = parent.filter(|&parent| matches!(rows[4 * parent], 3 | 4)) {
-        let count = &mut rows[4 * parent + 2];
+    if let Some(parent) = parent.filter(|&parent| matches!(rows[ROW_WORDS * parent], 3 | 4)) {
+        let count = &mut rows[ROW_WORDS * parent + 2];
         *count = count.saturating_sub(values as u64);
     }
     *n -= removed.len();
-    rows.drain(4 * removed.start..4 * removed.end);
+    rows.drain(ROW_WORDS * removed.start..ROW_WORDS * removed.end);
 }
 
 /// Leaves out the rows of a row's value.
