@@ -138,27 +138,33 @@ fn fields_are_exactly_those_of_the_call() {
 
 #[test]
 fn numbers_and_bytes_have_one_spelling() {
-    for (old, new) in [
-        (r#""1""#, r#""01""#),
-        (r#""1""#, r#""+1""#),
-        (r#""1""#, r#""-1""#),
-        (r#""1""#, r#""""#),
-        (r#""1""#, "1"),
-        (r#""1""#, r#""18446744073709551616""#),
-        (r#""7""#, r#""4294967296""#),
-        ("EE07000000", "ee07000000"),
-        ("EE07000000", "EE0700000"),
-        ("EE07000000", "EE 07000000"),
-        ("EE07000000", ""),
-        (r#"["EE07000000"]"#, r#""EE07000000""#),
-        (r#"["EE07000000"]"#, r#"[{"repeat": "EE", "times": 0}]"#),
+    let out = r#"["EE07000000"]"#;
+    for (old, new, expected) in [
+        (r#""1""#, r#""01""#, "`01` is no number"),
+        (r#""1""#, r#""+1""#, "`+1` is no number"),
+        (r#""1""#, r#""-1""#, "`-1` is no number"),
+        (r#""1""#, r#""""#, "`` is no number"),
+        (r#""1""#, "1", "1 is no text of a number"),
         (
-            r#"["EE07000000"]"#,
-            r#"[{"repeat": "EE", "times": 99999999}]"#,
+            r#""1""#,
+            r#""18446744073709551616""#,
+            "`18446744073709551616` is no number",
         ),
-        (r#"["EE07000000"]"#, r#"[{"repeat": "EE"}]"#),
+        (r#""7""#, r#""4294967296""#, "`4294967296` is too large"),
+        ("EE07000000", "ee07000000", "`ee07000000` are no bytes"),
+        ("EE07000000", "EE0700000", "`EE0700000` are no bytes"),
+        ("EE07000000", "EE 07000000", "`EE 07000000` are no bytes"),
+        ("EE07000000", "", "`` 1 times: no element, or too many"),
+        (out, r#""EE07000000""#, "\"EE07000000\" is no list"),
+        (out, r#"[{"repeat": "EE", "times": 0}]"#, "repeated 0 times"),
+        (
+            out,
+            r#"[{"repeat": "EE", "times": 99999999}]"#,
+            "`EE` 99999999 times: no element, or too many",
+        ),
+        (out, r#"[{"repeat": "EE"}]"#, "`times` is missing"),
     ] {
-        assert!(!error(old, new).is_empty());
+        assert_eq!(error(old, new), expected);
     }
 }
 
