@@ -103,277 +103,70 @@ fn each_call_gives_each_of_its_answers() {
     }
 }
 
-/// Refusals with their borders: the number, a line that just passes its test, and one that just
-/// does not.
-const BORDERS: [(u64, &str, &str); 60] = [
-    (
-        1,
-        "check_grammar: example F, N 256",
-        "check_grammar: example F, N 257",
-    ),
-    (
-        1,
-        "check_grammar: example B, constant",
-        "check_grammar: N 0",
-    ),
-    (2, "check_grammar: M 1,024", "check_grammar: M 1,025"),
-    (
-        2,
-        "check_grammar: 1,794 words",
-        "check_grammar: 1,793 words, one missing",
-    ),
-    (
-        2,
-        "check_grammar: 1,794 words",
-        "check_grammar: 1,795 words, one too many",
-    ),
-    (
-        3,
-        "check_grammar: example D, union without cases",
-        "check_grammar: kind 9",
-    ),
-    (
-        4,
-        "check_grammar: example C, array of constants",
-        "check_grammar: array with count 0",
-    ),
-    (
-        4,
-        "check_grammar: example C, array of constants",
-        "check_grammar: array with count 2",
-    ),
-    (
-        4,
-        "check_grammar: array with the last child word",
-        "check_grammar: array with its child at M",
-    ),
-    (
-        4,
-        "check_grammar: tuple with first+count at M",
-        "check_grammar: tuple with first+count above M",
-    ),
-    (
-        4,
-        "check_grammar: count 0 and first at M",
-        "check_grammar: tuple with count 0 and first above M",
-    ),
-    (
-        4,
-        "check_grammar: union with first+count at M",
-        "check_grammar: union with first+count above M",
-    ),
-    (
-        4,
-        "check_grammar: a tuple of 1,024 fields",
-        "check_grammar: first+count 1,025",
-    ),
-    (
-        5,
-        "check_grammar: child that is the next node",
-        "check_grammar: child that is its node",
-    ),
-    (
-        5,
-        "check_grammar: child that is the next node",
-        "check_grammar: child number N",
-    ),
-    (
-        5,
-        "check_grammar: node 255 as the last child word",
-        "check_grammar: child number 256 of N 256",
-    ),
-    (
-        6,
-        "demarshall: a record of 1,048,576 bytes",
-        "demarshall: a record of 1,048,577 bytes",
-    ),
-    (
-        6,
-        "check_whole: a record of 1,048,576 bytes",
-        "check_whole: a record of 1,048,577 bytes",
-    ),
-    (
-        6,
-        "parse_val: the end of 1,048,576 bytes",
-        "parse_val: the end of 1,048,577 bytes",
-    ),
-    (
-        6,
-        "check_val: the end of 1,048,576 bytes",
-        "check_val: the end of 1,048,577 bytes",
-    ),
-    (
-        6,
-        "compute_size_of: a store of 1,048,576 bytes",
-        "compute_size_of: a store of 1,048,577 bytes",
-    ),
-    (
-        6,
-        "locate_array: a store of 1,048,576 bytes",
-        "locate_array: a store of 1,048,577 bytes",
-    ),
-    (
-        6,
-        "marshall: a store of 1,048,576 bytes",
-        "marshall: a store of 1,048,577 bytes",
-    ),
-    (
-        6,
-        "same_route: records of 1,048,576 bytes",
-        "same_route: 6 of both records",
-    ),
-    (
-        7,
-        "unpack_u32: index at the length",
-        "unpack_u32: index above the length, 7 before 9",
-    ),
-    (
-        7,
-        "unpack_u64_seq: no numbers at the length",
-        "unpack_u64_seq: no numbers above the length",
-    ),
-    (
-        7,
-        "parse_val: index at the length of a constant",
-        "parse_val: index above the length",
-    ),
-    (
-        7,
-        "check_val: index at the length of a constant",
-        "check_val: index above the length",
-    ),
-    (
-        8,
-        "demarshall: example C, capacity 4",
-        "demarshall: example C, capacity 3",
-    ),
-    (
-        8,
-        "demarshall: 17 words for 4 rows",
-        "demarshall: 15 words for 4 rows",
-    ),
-    (
-        8,
-        "demarshall: 4 words for 1 row",
-        "demarshall: 3 words for 1 row",
-    ),
-    (
-        8,
-        "demarshall: count at the rows left",
-        "demarshall: count above the rows left",
-    ),
-    (
-        8,
-        "demarshall: as many rows as needed",
-        "demarshall: no row left at the last field",
-    ),
-    (
-        8,
-        "demarshall: 4,096 rows",
-        "demarshall: more rows than 4,096 lent are none",
-    ),
-    (8, "check_whole: 4,096 rows", "check_whole: 4,097 rows"),
-    (8, "check_val: 4,096 rows", "check_val: 4,097 rows"),
-    (9, "demarshall: uint32", "demarshall: uint32, 3 bytes"),
-    (9, "demarshall: uint64", "demarshall: uint64, 7 bytes"),
-    (
-        9,
-        "demarshall: byte array",
-        "demarshall: an element of a byte array is missing",
-    ),
-    (
-        9,
-        "demarshall: uint32 array of two",
-        "demarshall: a byte of the last uint32 is missing",
-    ),
-    (
-        9,
-        "demarshall: uint64 array",
-        "demarshall: a byte of the last uint64 is missing",
-    ),
-    (
-        9,
-        "unpack_u32: the last 4 bytes",
-        "unpack_u32: 3 bytes left",
-    ),
-    (
-        9,
-        "unpack_u64: the last 8 bytes",
-        "unpack_u64: 7 bytes left",
-    ),
-    (
-        9,
-        "unpack_u32_seq: two numbers up to the end",
-        "unpack_u32_seq: a byte of the second is missing",
-    ),
-    (
-        10,
-        "demarshall: tag below the case count",
-        "demarshall: tag at the case count",
-    ),
-    (
-        11,
-        "demarshall: uint32",
-        "demarshall: uint32, a byte left over",
-    ),
-    (
-        11,
-        "demarshall: example B, constant",
-        "demarshall: example B, one byte",
-    ),
-    (12, "compute_size_of: n 4,096", "compute_size_of: n 4,097"),
-    (12, "compute_size_of: constant", "compute_size_of: n 0"),
-    (
-        12,
-        "compute_size_of: constant",
-        "compute_size_of: a word missing for n",
-    ),
-    (
-        13,
-        "compute_size_of: example H, number 4,294,967,295",
-        "compute_size_of: example H, number 4,294,967,296",
-    ),
-    (
-        14,
-        "compute_size_of: byte array up to the store's end",
-        "compute_size_of: byte array a byte beyond the store",
-    ),
-    (
-        14,
-        "compute_size_of: uint32 array up to the store's end",
-        "compute_size_of: uint32 array a byte beyond the store",
-    ),
-    (
-        14,
-        "compute_size_of: uint64 array up to the store's end",
-        "compute_size_of: uint64 array a byte beyond the store",
-    ),
-    (
-        15,
-        "marshall: case 1, a uint32",
-        "marshall: tag at the case count",
-    ),
-    (16, "marshall: size 1,048,576", "marshall: size 1,048,577"),
-    (
-        17,
-        "marshall: example G, 14 bytes",
-        "marshall: example G, 13 bytes",
-    ),
-    (
-        17,
-        "pack_u32: the last 4 bytes",
-        "pack_u32: 3 bytes of room",
-    ),
-    (
-        18,
-        "locate_array: example A, the byte array",
-        "locate_array: row number n",
-    ),
-    (
-        18,
-        "locate_array: example A, the byte array",
-        "locate_array: example A, the uint32",
-    ),
+/// Refusals with their borders: the number, the call, what the line shows that just passes its test,
+/// and what the one that just does not.
+#[rustfmt::skip]
+const BORDERS: [(u64, &str, &str, &str); 60] = [
+    (1, "check_grammar", "example F, N 256", "example F, N 257"),
+    (1, "check_grammar", "example B, constant", "N 0"),
+    (2, "check_grammar", "M 1,024", "M 1,025"),
+    (2, "check_grammar", "1,794 words", "1,793 words, one missing"),
+    (2, "check_grammar", "1,794 words", "1,795 words, one too many"),
+    (3, "check_grammar", "example D, union without cases", "kind 9"),
+    (4, "check_grammar", "example C, array of constants", "array with count 0"),
+    (4, "check_grammar", "example C, array of constants", "array with count 2"),
+    (4, "check_grammar", "array with the last child word", "array with its child at M"),
+    (4, "check_grammar", "tuple with first+count at M", "tuple with first+count above M"),
+    (4, "check_grammar", "count 0 and first at M", "tuple with count 0 and first above M"),
+    (4, "check_grammar", "union with first+count at M", "union with first+count above M"),
+    (4, "check_grammar", "a tuple of 1,024 fields", "first+count 1,025"),
+    (5, "check_grammar", "child that is the next node", "child that is its node"),
+    (5, "check_grammar", "child that is the next node", "child number N"),
+    (5, "check_grammar", "node 255 as the last child word", "child number 256 of N 256"),
+    (6, "demarshall", "a record of 1,048,576 bytes", "a record of 1,048,577 bytes"),
+    (6, "check_whole", "a record of 1,048,576 bytes", "a record of 1,048,577 bytes"),
+    (6, "parse_val", "the end of 1,048,576 bytes", "the end of 1,048,577 bytes"),
+    (6, "check_val", "the end of 1,048,576 bytes", "the end of 1,048,577 bytes"),
+    (6, "compute_size_of", "a store of 1,048,576 bytes", "a store of 1,048,577 bytes"),
+    (6, "locate_array", "a store of 1,048,576 bytes", "a store of 1,048,577 bytes"),
+    (6, "marshall", "a store of 1,048,576 bytes", "a store of 1,048,577 bytes"),
+    (6, "same_route", "records of 1,048,576 bytes", "6 of both records"),
+    (7, "unpack_u32", "index at the length", "index above the length, 7 before 9"),
+    (7, "unpack_u64_seq", "no numbers at the length", "no numbers above the length"),
+    (7, "parse_val", "index at the length of a constant", "index above the length"),
+    (7, "check_val", "index at the length of a constant", "index above the length"),
+    (8, "demarshall", "example C, capacity 4", "example C, capacity 3"),
+    (8, "demarshall", "17 words for 4 rows", "15 words for 4 rows"),
+    (8, "demarshall", "4 words for 1 row", "3 words for 1 row"),
+    (8, "demarshall", "count at the rows left", "count above the rows left"),
+    (8, "demarshall", "as many rows as needed", "no row left at the last field"),
+    (8, "demarshall", "4,096 rows", "more rows than 4,096 lent are none"),
+    (8, "check_whole", "4,096 rows", "4,097 rows"),
+    (8, "check_val", "4,096 rows", "4,097 rows"),
+    (9, "demarshall", "uint32", "uint32, 3 bytes"),
+    (9, "demarshall", "uint64", "uint64, 7 bytes"),
+    (9, "demarshall", "byte array", "an element of a byte array is missing"),
+    (9, "demarshall", "uint32 array of two", "a byte of the last uint32 is missing"),
+    (9, "demarshall", "uint64 array", "a byte of the last uint64 is missing"),
+    (9, "unpack_u32", "the last 4 bytes", "3 bytes left"),
+    (9, "unpack_u64", "the last 8 bytes", "7 bytes left"),
+    (9, "unpack_u32_seq", "two numbers up to the end", "a byte of the second is missing"),
+    (10, "demarshall", "tag below the case count", "tag at the case count"),
+    (11, "demarshall", "uint32", "uint32, a byte left over"),
+    (11, "demarshall", "example B, constant", "example B, one byte"),
+    (12, "compute_size_of", "n 4,096", "n 4,097"),
+    (12, "compute_size_of", "constant", "n 0"),
+    (12, "compute_size_of", "constant", "a word missing for n"),
+    (13, "compute_size_of", "example H, number 4,294,967,295", "example H, number 4,294,967,296"),
+    (14, "compute_size_of", "byte array up to the store's end", "byte array a byte beyond the store"),
+    (14, "compute_size_of", "uint32 array up to the store's end", "uint32 array a byte beyond the store"),
+    (14, "compute_size_of", "uint64 array up to the store's end", "uint64 array a byte beyond the store"),
+    (15, "marshall", "case 1, a uint32", "tag at the case count"),
+    (16, "marshall", "size 1,048,576", "size 1,048,577"),
+    (17, "marshall", "example G, 14 bytes", "example G, 13 bytes"),
+    (17, "pack_u32", "the last 4 bytes", "3 bytes of room"),
+    (18, "locate_array", "example A, the byte array", "row number n"),
+    (18, "locate_array", "example A, the byte array", "example A, the uint32"),
 ];
 
 /// The line that passes a border and is refused by what is behind it: no byte is left at the length.
@@ -386,14 +179,16 @@ fn both_sides_of_each_border() {
         let line = calls.iter().find(|line| line.name == name);
         line.expect(name).outcome.answer.number()
     };
-    for (number, passes, is_refused) in BORDERS {
+    for (number, call, passes, is_refused) in BORDERS {
+        let passes = format!("{call}: {passes}");
         let expected = if passes == PASSES_ONE.0 {
             PASSES_ONE.1
         } else {
             0
         };
-        assert_eq!(number_of(passes), expected, "{passes}");
-        assert_eq!(number_of(is_refused), number, "{is_refused}");
+        assert_eq!(number_of(&passes), expected, "{passes}");
+        let is_refused = format!("{call}: {is_refused}");
+        assert_eq!(number_of(&is_refused), number, "{is_refused}");
     }
     let numbers: BTreeSet<u64> = BORDERS.iter().map(|border| border.0).collect();
     assert!(numbers.into_iter().eq(1..=18));
