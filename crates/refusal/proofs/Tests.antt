@@ -53,7 +53,3 @@ NoneBelow (suc b) k = NoneBelow b k × (k ≡ b → ⊥)
 pub none-below : (b k : ℕ) → NoneBelow b k → b ≤ k
 none-below zero k h = zero-le
 none-below (suc b) k h = let l = none-below b k (h .0) in let n = h .1 in omega arith
-
--- a number that is none of those below, one after the other: for the last arm of a match
-pub next-key : {k x : ℕ} → k ≤ x → (x ≡ k → ⊥) → suc k ≤ x
-next-key h n = omega arith
