@@ -1,5 +1,5 @@
 -- The steps of a reading as the code takes them.
-use mathlib.Core.Path.{_≡_, refl, ap, sym, subst, _∙_}
+use mathlib.Core.Path.{_≡_, refl, ap, sym, _∙_}
 use mathlib.Core.Bool.{Bool, true, false}
 use mathlib.Core.List.{List}
 use Prim.Native.Nat.{ℕ, _+_, _-_, _*_, _/_, _≤_, _<_}
@@ -18,9 +18,9 @@ use Rattle.packed.proofs.Calls.{present-fits}
 use Rattle.value.specs.Step.{Step, yield, next}
 use Rattle.value.specs.Reading.{State, Stop, Reading, stop, move, claim, takeNumber, takeNumbers}
 use Rattle.value.specs.Kinds.{lastKind}
-use Rattle.tables.specs.Grammar.{nodeCount, kindWord, firstWord, countWord, childWord}
-use Rattle.grammar.specs.Rule.{ChildrenRule}
-use Rattle.grammar.proofs.Rule.{node-inside as grammar-node-inside, child-inside}
+use Rattle.tables.specs.Grammar.{nodeCount, kindWord, firstWord, countWord}
+use Rattle.grammar.specs.Rule.{ChildRule, ChildrenRule}
+use Rattle.grammar.proofs.Rule.{node-inside as grammar-node-inside, child-inside as grammar-child-inside}
 use Rattle.tables.specs.Row.{laid}
 use Rattle.readers.specs.declared.State.{State as CodeState}
 use Rattle.readers.specs.declared.Step.the-variants.{Next, Stopped}
@@ -114,9 +114,9 @@ unpacked-fits w d at n h =
     let y = map-accepted (λ _. take w (drop at d)) (present (length d) at w) (x .1) in
     present-fits (length d) at w (sym (y .1))
 
--- a child of a node is a node
-pub child-node : (t : List ℕ) (k i r : ℕ) → Node t k → i < countWord t k → r ≡ childWord t (firstWord t k + i) → Node t r
-child-node t k i r n h e = record { passes = n .passes; below = subst (λ (m : ℕ). m < nodeCount t) (sym e) (child-inside t (n .passes) k (n .below) i h .4 .1); words = n .words }
+-- the child words of a node in a table that passes lie within it
+pub child-inside : (t : List ℕ) (k i : ℕ) → Node t k → i < countWord t k → (3 + 3 * k < length t) × (2 + 3 * nodeCount t + (firstWord t k + i) < length t) × (nodeCount t ≤ 256) × (firstWord t k ≤ 1024) × ChildRule t k (firstWord t k + i)
+child-inside t k i n h = grammar-child-inside t (n .passes) k (n .below) i h
 
 -- Matched answers of the state's methods.
 

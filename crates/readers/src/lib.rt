@@ -2,14 +2,14 @@
 ghost use mathlib.Core.Path.{_≡_};
 ghost use mathlib.Core.List.{_∷_, []};
 ghost use Prim.Native.Nat.{ℕ, _+_, _-_, _*_, _/_, _≤_, _<_, min};
-ghost use lib.ListN.{length};
+ghost use lib.ListN.{length, getD};
 ghost use lib.Dec.{leb};
 ghost use Rattle.refusal.specs.Outcome.{accepted, test, reason, byte, map};
 ghost use Rattle.value.specs.Kinds.{Number, numberKind, Elements, elementsKind, elementWidth};
 ghost use Rattle.value.specs.Tree.{VNumber, VNumberArray};
 ghost use Rattle.value.specs.Reading.{claim as claimOf, takeNumber, takeNumbers, move, start, readBody, readVal, readFields};
 ghost use Rattle.value.specs.Step.{give, elements};
-ghost use Rattle.tables.specs.Grammar.{firstWord, countWord};
+ghost use Rattle.tables.specs.Grammar.{nodeCount, firstWord, countWord, childWord};
 ghost use Rattle.grammar.specs.Tree.{treeOf, childTrees};
 ghost use Rattle.tables.specs.Row.{rowWidth, laid};
 ghost use Rattle.rows.specs.Layout.{rowsOf, rowsOfAll};
@@ -117,6 +117,24 @@ impl State {
             }
         }
     }
+}
+
+// A word of a table that passes: without the test of `tables::word`, which the readers would make at each field.
+fn word(words: &[u32], at: usize) -> usize
+    requires { ⌜ at < length (now words) ⌝ }
+    ensures { λ r. ⌜ (r ≡ getD (now (words .entry)) at 0) × (r < 4294967296) ⌝ }
+{
+    words[at] as usize
+}
+
+// Child i of a node.
+fn child_at(grammar: &[u32], node: usize, i: usize) -> usize
+    requires { ⌜ Node (now grammar) node × (i < countWord (now grammar) node) ⌝ }
+    ensures { λ r. ⌜ (r ≡ childWord (now (grammar .entry)) (firstWord (now (grammar .entry)) node + i)) × (r < nodeCount (now (grammar .entry))) ⌝ }
+{
+    let nodes = word(grammar, 0);
+    let first = word(grammar, 2 + 3 * node);
+    word(grammar, 2 + 3 * nodes + (first + i))
 }
 
 // The row of a parent, whose span is known once its children are read.
@@ -262,7 +280,7 @@ fn read_array(
     match s.take_below(bytes, limit, refusal::ROWS_EXHAUSTED) {
         Taken::Stopped(u, r) => Step::Stopped(u, r),
         Taken::Number(count, u) => {
-            let child = tables::child_at(grammar, node, 0);
+            let child = child_at(grammar, node, 0);
             let read = read_array_contents(grammar, child, bytes, rows, count, u);
             close_row(rows, row, 3, count, read)
         }
@@ -282,7 +300,7 @@ fn read_tuple(
     ensures { λ r. ⌜ Reads rowsOf (readBody (s .capacity) (now (bytes .entry)) (treeOf (now (grammar .entry)) node) (stateOf s)) (s .capacity) row (s .at) (now (rows .entry)) r (now (rows .exit)) ⌝ }
 {
     let read = read_tuple_contents(grammar, node, bytes, rows, s);
-    let count = tables::word(grammar, 3 + 3 * node);
+    let count = word(grammar, 3 + 3 * node);
     close_row(rows, row, 4, count as u64, read)
 }
 
@@ -298,11 +316,11 @@ fn read_case(
     requires { ⌜ RowClaimed (now grammar) (now bytes) (now rows) node 8 row s ⌝ }
     ensures { λ r. ⌜ Reads rowsOf (readBody (s .capacity) (now (bytes .entry)) (treeOf (now (grammar .entry)) node) (stateOf s)) (s .capacity) row (s .at) (now (rows .entry)) r (now (rows .exit)) ⌝ }
 {
-    let limit = tables::word(grammar, 3 + 3 * node) as u64;
+    let limit = word(grammar, 3 + 3 * node) as u64;
     match s.take_below(bytes, limit, refusal::TAG_UNKNOWN) {
         Taken::Stopped(u, r) => Step::Stopped(u, r),
         Taken::Number(tag, u) => {
-            let child = tables::child_at(grammar, node, tag as usize);
+            let child = child_at(grammar, node, tag as usize);
             let read = read_value(grammar, child, bytes, rows, u);
             close_row(rows, row, 8, tag, read)
         }
@@ -351,11 +369,11 @@ fn read_tuple_contents(
     requires { ⌜ Node (now grammar) node × Ready (now bytes) (now rows) s ⌝ }
     ensures { λ r. ⌜ Reads rowsOfAll (readFields (s .capacity) (now (bytes .entry)) (childTrees (now (grammar .entry)) (treeOf (now (grammar .entry))) (firstWord (now (grammar .entry)) node) (countWord (now (grammar .entry)) node)) (stateOf s)) (s .capacity) (s .begun) (s .at) (now (rows .entry)) r (now (rows .exit)) ⌝ }
 {
-    let count = tables::word(grammar, 3 + 3 * node);
+    let count = word(grammar, 3 + 3 * node);
     let mut t = s;
     let mut i: usize = 0;
     while i < count {
-        let child = tables::child_at(grammar, node, i);
+        let child = child_at(grammar, node, i);
         match read_value(grammar, child, bytes, rows, t) {
             Step::Stopped(u, r) => return Step::Stopped(u, r),
             // Field by field: a copy of the whole waits for what the call has just stored (docs/PERFORMANCE.md).

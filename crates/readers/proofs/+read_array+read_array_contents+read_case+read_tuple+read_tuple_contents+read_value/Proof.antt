@@ -13,7 +13,7 @@ use Rattle.grammar.proofs.Tree.{tree-valid}
 use Rattle.readers.specs.Meaning.{stateOf}
 use Rattle.readers.specs.Reads.{Ready, takeBelow}
 use Rattle.readers.proofs.Loop.{Remaining, remaining-start, remaining-stopped, remaining-next, remaining-done, few-elements, few-fields, elements-next, elements-none, fields-next, fields-none}
-use Rattle.readers.proofs.Laws.{node-inside, child-node, taken-number, taken-stopped}
+use Rattle.readers.proofs.Laws.{node-inside, taken-number, taken-stopped}
 use Rattle.readers.proofs.Arms.{Claimed, claimed-next, claim-refused, row-claimed, head-begun, head-below, head-ready, array-count, counted-elements, counted-fields, counted-value, arm-body, arm-array, arm-array-stopped, arm-tuple, arm-case, arm-case-stopped}
 use borrow.Author.Needs.{needs}
 use Prim.Native.Nat.{ℕ, _<_}
@@ -39,9 +39,9 @@ use Rattle.readers.proofs.read_value.Kinds as read-value-kinds
 use Rattle.readers.proofs.+read_array+read_array_contents+read_case+read_tuple+read_tuple_contents+read_value.Lts-read_value as read-value-lts
 use Rattle.readers.proofs.State.claim.Reads as claim-reads
 use Rattle.readers.proofs.State.take_below.Reads as take-below-reads
-use Rattle.tables.proofs.child_at.Reads as child-at-reads
+use Rattle.readers.proofs.child_at.Reads as child-at-reads
 use Rattle.readers.proofs.close_row.Reads as close-row-reads
-use Rattle.tables.proofs.word.Reads as word-reads
+use Rattle.readers.proofs.word.Reads as word-reads
 use Rattle.readers.proofs.read_leaf.Reads as read-leaf-reads
 use Rattle.refusal.proofs.at_word.Reads as at-word-reads
 use Rattle.readers.proofs.+read_array+read_array_contents+read_case+read_tuple+read_tuple_contents+read_value.{statement}
@@ -175,14 +175,14 @@ read-array-enum-known-count : (t : ℕ) → read-array-lts.Need-enum-known-count
 read-array-enum-known-count t c = search needs
 
 read-array-child-at-requires : (t : ℕ) → read-array-lts.Need-child-at-requires (read-array-calls t) (read-array-at t) read-array.Post
-read-array-child-at-requires t c κs = search needs
+read-array-child-at-requires t c κs =
+    let p = c .before .before .before .before .before .before .before .before .pre .1 in
+    (p .node, omega (arith, array-count (c .before .before .before .before .before .before .before .before .args .grammar .now) (c .before .before .before .before .before .before .before .before .args .node) (p .node) (p .kind)))
 
 read-array-read-array-contents-requires : (t : ℕ) → read-array-lts.Need-read-array-contents-requires (read-array-calls t) (read-array-at t) read-array.Post
 read-array-read-array-contents-requires t c κs =
-    let a = c .before .before .before .before .before .before .before .before .before .before .args in
     let p = c .before .before .before .before .before .before .before .before .before .before .pre in
-    let k = c .before .before .before in
-    (omega (arith, p .0, count-begun t k, count-keeps t k), (child-node (a .grammar .now) (a .node) 0 (c .before .child-at .result) (p .1 .node) (omega (arith, array-count (a .grammar .now) (a .node) (p .1 .node) (p .1 .kind))) (c .before .child-at .ensures .0), count-ready t k))
+    (omega (arith, p .0, count-begun t (c .before .before .before), count-keeps t (c .before .before .before)), (record { passes = p .1 .node .passes; below = c .before .child-at .ensures .1; words = p .1 .node .words }, count-ready t (c .before .before .before)))
 
 read-array-close-row-requires : (t : ℕ) → read-array-lts.Need-close-row-requires (read-array-calls t) (read-array-at t) read-array.Post
 read-array-close-row-requires t c κs =
@@ -345,16 +345,15 @@ read-case-enum-known-tag : (t : ℕ) → read-case-lts.Need-enum-known-tag (read
 read-case-enum-known-tag t c = search needs
 
 read-case-child-at-requires : (t : ℕ) → read-case-lts.Need-child-at-requires (read-case-calls t) (read-case-at t) read-case.Post
-read-case-child-at-requires t c κs = search needs
+read-case-child-at-requires t c κs =
+    let p = c .before .before .before .before .before .before .before .before .pre .1 in
+    let k = c .before in
+    (p .node, omega (arith, head-below p _ 10 (k .tag .given .0 .0) (k .tag .given .0 .1 .0) (tag-taken t k) (tag-keeps t k), c .before .before .before .before .word .ensures .0))
 
 read-case-read-value-requires : (t : ℕ) → read-case-lts.Need-read-value-requires (read-case-calls t) (read-case-at t) read-case.Post
 read-case-read-value-requires t c κs =
-    let a = c .before .before .before .before .before .before .before .before .before .before .args in
     let p = c .before .before .before .before .before .before .before .before .before .before .pre in
-    let k = c .before .before .before in
-    let tag = k .tag .given .0 in
-    let below = head-below (p .1) _ 10 (tag .0) (tag .1 .0) (tag-taken t k) (tag-keeps t k) in
-    (omega (arith, p .0, tag-begun t k, tag-keeps t k), (child-node (a .grammar .now) (a .node) (tag .0) (c .before .child-at .result) (p .1 .node) (omega (arith, below, c .before .before .before .before .before .before .word .ensures .0)) (c .before .child-at .ensures .0), tag-ready t k))
+    (omega (arith, p .0, tag-begun t (c .before .before .before), tag-keeps t (c .before .before .before)), (record { passes = p .1 .node .passes; below = c .before .child-at .ensures .1; words = p .1 .node .words }, tag-ready t (c .before .before .before)))
 
 read-case-close-row-requires : (t : ℕ) → read-case-lts.Need-close-row-requires (read-case-calls t) (read-case-at t) read-case.Post
 read-case-close-row-requires t c κs =
@@ -436,7 +435,9 @@ read-tuple-contents-word-requires : (t : ℕ) → read-tuple-contents-lts.Need-w
     read-tuple-contents.Post
     read-tuple-contents-Inv-loop
     read-tuple-contents-μ-loop
-read-tuple-contents-word-requires t c κs = search needs
+read-tuple-contents-word-requires t c κs =
+    let h = node-inside (c .before .before .before .args .grammar .now) (c .before .before .before .args .node) (c .before .before .before .pre .1 .0) in
+    omega (arith, h .0)
 
 read-tuple-contents-loop-holds : (t : ℕ) → read-tuple-contents-lts.Need-loop-holds (read-tuple-contents-calls t)
     (read-tuple-contents-at t)
@@ -455,7 +456,7 @@ read-tuple-contents-child-at-requires : (t : ℕ) → read-tuple-contents-lts.Ne
     read-tuple-contents.Post
     read-tuple-contents-Inv-loop
     read-tuple-contents-μ-loop
-read-tuple-contents-child-at-requires t c κs = search needs
+read-tuple-contents-child-at-requires t c κs = (c .before .before .before .before .before .before .pre .1 .0, omega (arith, c .before .loop .inv .1))
 
 read-tuple-contents-read-value-requires :
     (t : ℕ) → read-tuple-contents-lts.Need-read-value-requires (
@@ -473,8 +474,8 @@ read-tuple-contents-read-value-requires :
 read-tuple-contents-read-value-requires t c κs =
     let l = c .before .before .before .loop in
     let p = c .before .before .before .before .before .before .before .before .pre in
-    let a = c .before .before .before .before .before .before .before .before .args in
-    (omega (arith, p .0, l .inv .2 .grown, l .inv .2 .capacity), (child-node (a .grammar .now) (a .node) (l .i) (c .before .child-at .result) (p .1 .0) (omega (arith, l .inv .1)) (c .before .child-at .ensures .0), l .inv .2 .ready))
+    let h = c .before .child-at .ensures .1 in
+    (omega (arith, p .0, l .inv .2 .grown, l .inv .2 .capacity), (record { passes = p .1 .0 .passes; below = h; words = p .1 .0 .words }, l .inv .2 .ready))
 
 read-tuple-contents-enum-known-u : (t : ℕ) → read-tuple-contents-lts.Need-enum-known-u (read-tuple-contents-calls t)
     (read-tuple-contents-at t)
