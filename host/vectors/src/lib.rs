@@ -8,6 +8,7 @@ mod c_table;
 mod cases;
 mod check;
 mod show;
+pub mod variants;
 mod vector;
 
 pub use c_table::c_table;

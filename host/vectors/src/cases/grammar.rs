@@ -2,6 +2,7 @@
 
 use compare::Case;
 
+use super::magnitudes;
 use super::{doubling, numbers, table, Cases, List};
 use super::{A, ARR, B, BYT, C, D, E, KIND_9, MIX, PAIR, TUP0, U32, U64, UNI};
 
@@ -223,5 +224,6 @@ pub fn grammar() -> Cases {
     check_all(&mut list, &ORDER);
     limits(&mut list);
     last_words(&mut list);
+    list.0.extend(magnitudes::grammar());
     list.0
 }

@@ -3,6 +3,7 @@
 
 pub mod borders;
 mod grammar;
+mod magnitudes;
 mod packed;
 mod reading;
 mod rows;

@@ -2,6 +2,7 @@
 
 use compare::Case;
 
+use super::magnitudes;
 use super::{hex, Cases, List, MOST_BYTES};
 
 fn unpack_u32(packed: &str, index: usize) -> Case {
@@ -201,5 +202,6 @@ pub fn packed() -> Cases {
     pack_one(&mut list);
     unpack_several(&mut list);
     pack_several(&mut list);
+    list.0.extend(magnitudes::packed());
     list.0
 }

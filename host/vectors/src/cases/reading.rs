@@ -2,6 +2,7 @@
 
 use compare::Case;
 
+use super::magnitudes;
 use super::{counted, doubling, hex, numbers, table, Cases, List, MOST_BYTES};
 use super::{A, A64, ARR, A_RECORD, B, BYT, C, D, E, KIND_9, MIX, MIX_RECORD, PAIR, TUP0};
 use super::{REFUSED_GRAMMARS, U32, U64, UNI};
@@ -525,5 +526,6 @@ pub fn reading() -> Cases {
     longest(&mut list);
     large_grammars(&mut list);
     deep_grammars(&mut list);
+    list.0.extend(magnitudes::reading());
     list.0
 }

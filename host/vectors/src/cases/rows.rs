@@ -2,6 +2,7 @@
 
 use compare::Case;
 
+use super::magnitudes;
 use super::{hex, numbers, Cases, List, A_RECORD, MIX_ROWS, MOST_BYTES};
 
 /// The size of these rows, of which `n` are the value's.
@@ -342,5 +343,6 @@ pub fn rows() -> Cases {
     located(&mut list);
     refused_located(&mut list);
     limits(&mut list);
+    list.0.extend(magnitudes::rows());
     list.0
 }

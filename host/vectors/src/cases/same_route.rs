@@ -2,6 +2,7 @@
 
 use compare::Case;
 
+use super::magnitudes;
 use super::{counted, hex, numbers, Cases, List, MOST_BYTES, REFUSED_GRAMMARS};
 use super::{A, A_RECORD, B, BYT, C, D, E, KIND_9, MIX, MIX_RECORD, PAIR, TUP0, U32, U64, UNI};
 
@@ -179,5 +180,6 @@ pub fn same_route() -> Cases {
         add(&mut list, name, grammar, &hex(first), &hex(second));
     }
     long_records(&mut list);
+    list.0.extend(magnitudes::same_route());
     list.0
 }

@@ -2,6 +2,7 @@
 
 use compare::show_input;
 
+use super::magnitudes;
 use super::{counted, hex, numbers};
 use super::{A, A_RECORD, B, BYT, C, D, E, KIND_9, MIX, MIX_RECORD, U64};
 
@@ -77,5 +78,6 @@ pub fn show() -> Vec<(String, Vec<u8>)> {
     add("1,794 words", show_input(&words, &[]));
     words.push(0);
     add("1,795 words", show_input(&words, &[]));
+    list.extend(magnitudes::show());
     list
 }

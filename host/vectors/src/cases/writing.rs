@@ -2,6 +2,7 @@
 
 use compare::{Case, Value};
 
+use super::magnitudes;
 use super::{hex, numbers, table, Cases, List, MOST_BYTES};
 use super::{A, A64, ARR, A_RECORD, B, BYT, C, D, E, MIX, MIX_RECORD, MIX_ROWS, PAIR};
 use super::{REFUSED_GRAMMARS, TUP0, U32, U64, UNI};
@@ -359,5 +360,6 @@ pub fn writing() -> Cases {
     stores(&mut list);
     grammars(&mut list);
     many_rows(&mut list);
+    list.0.extend(magnitudes::writing());
     list.0
 }

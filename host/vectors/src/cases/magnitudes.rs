@@ -1,0 +1,1000 @@
+//! Numbers of every magnitude, for implementations that hold one of them in 8, 16 or 32 bits, or
+//! in a signed type: each just above a power of two, beside a small number with the same low bits.
+
+use compare::{Case, Value};
+
+use super::{counted, numbers, table, Cases, List};
+use super::{A64, ARR, B, BYT, C, E, U32, U64, UNI};
+
+/// What is added to a number so that its lowest 8, 16 or 32 bits stay, or its sign changes.
+const STEPS: [(&str, u64); 5] = [
+    ("2^8", 1 << 8),
+    ("2^16", 1 << 16),
+    ("2^31", 1 << 31),
+    ("2^32", 1 << 32),
+    ("2^63", 1 << 63),
+];
+
+/// More bytes, and more elements, than 16 bits count.
+const MANY: usize = 70_000;
+
+const CONSTANT: [u32; 3] = [0, 0, 0];
+
+fn check(list: &mut List, name: &str, nodes: &[[u32; 3]], children: &[u32]) {
+    let grammar = table(nodes, children);
+    list.add(name, Case::CheckGrammar { grammar });
+}
+
+/// Kinds, firsts and counts.
+fn grammar_words(list: &mut List) {
+    for (step, add) in &STEPS[..3] {
+        let add = *add as u32;
+        for kind in [1, 5, 8] {
+            let name = format!("kind {step} + {kind}");
+            check(list, &name, &[[kind + add, 0, 0]], &[]);
+        }
+        for kind in [0, 1, 2, 5, 6, 7] {
+            let name = format!("kind {kind} with first {step}");
+            check(list, &name, &[[kind, add, 0]], &[0; 512]);
+            let name = format!("kind {kind} with count {step}");
+            check(list, &name, &[[kind, 0, add]], &[0; 512]);
+        }
+        let array = |first, count| [[3, first, count], CONSTANT];
+        let name = format!("array with count {step} + 1");
+        check(list, &name, &array(0, add + 1), &[1; 512]);
+        for kind in [3, 4, 8] {
+            let nodes = [[kind, add, 1], CONSTANT];
+            let name = format!("kind {kind} with first {step} above M");
+            check(list, &name, &nodes, &[1; 2]);
+            let name = format!("kind {kind} with child {step} + 1");
+            check(list, &name, &[[kind, 0, 1], CONSTANT], &[add + 1, 1]);
+        }
+        for kind in [4, 8] {
+            let name = format!("kind {kind} with count {step} + 1 above M");
+            check(list, &name, &[[kind, 0, add + 1], CONSTANT], &[1; 2]);
+        }
+        let name = format!("M {step} and no child words");
+        let grammar = vec![1, 0, 0, 0, add];
+        list.add(&name, Case::CheckGrammar { grammar });
+        let name = format!("N {step} + 1");
+        let grammar = vec![add + 1, 0, 0, 0, 0];
+        list.add(&name, Case::CheckGrammar { grammar });
+    }
+    for kind in [3, 8] {
+        let name = format!("kind {kind} with first 2^32-1 and count 1");
+        check(list, &name, &[[kind, u32::MAX, 1], CONSTANT], &[1]);
+    }
+    let mut grammar = numbers::<u32>(B);
+    grammar.resize(5 + (1 << 16), 0);
+    list.add(
+        "2^16 words too many",
+        Case::CheckGrammar {
+            grammar: grammar.clone(),
+        },
+    );
+    grammar[4] = 1 << 16;
+    list.add(
+        "M 2^16, with its child words",
+        Case::CheckGrammar { grammar },
+    );
+}
+
+/// Nodes, child words and numbers of children from 128 and from 256 on.
+fn grammar_places(list: &mut List) {
+    for kind in [3, 4, 8] {
+        let mut nodes = [CONSTANT; 256];
+        nodes[200] = [kind, 600, 1];
+        let mut children = [255; 700];
+        let name = |what: &str| format!("kind {kind} at node 200, {what}");
+        check(list, &name("child 255"), &nodes, &children);
+        for (child, what) in [(200, "child 200"), (199, "child 199"), (0, "child 0")] {
+            children[600] = child;
+            check(list, &name(what), &nodes, &children);
+        }
+        children[600] = 256;
+        check(list, &name("child 256"), &nodes, &children);
+        nodes[200] = [kind, 700, 1];
+        check(list, &name("first 700 of M 700"), &nodes, &children);
+        nodes[200] = [9, 0, 0];
+        let what = format!("kind 9 at node 200 behind a node of kind {kind}");
+        nodes[0] = [kind, 0, 1];
+        check(list, &what, &nodes, &children);
+    }
+    for kind in [4, 8] {
+        let mut children = [1; 700];
+        children[600] = 2;
+        let nodes = [[kind, 100, 600], CONSTANT];
+        let name = format!("kind {kind}, child 500 of 600 is bad");
+        check(list, &name, &nodes, &children);
+        let nodes = [[kind, 300, 300], CONSTANT];
+        let name = format!("kind {kind}, children 300 to 599");
+        check(list, &name, &nodes, &children);
+    }
+}
+
+/// The cases of the grammar check.
+pub fn grammar() -> Cases {
+    let mut list = List::default();
+    grammar_words(&mut list);
+    grammar_places(&mut list);
+    list.0
+}
+
+fn demarshall(grammar: &[u32], record: &[u8], words: usize) -> Case {
+    Case::Demarshall {
+        grammar: grammar.to_vec(),
+        record: record.to_vec(),
+        rows: vec![99; words],
+    }
+}
+
+/// Counts and tags whose low bits are those of a value that is there.
+fn counts_read(list: &mut List) {
+    for (step, add) in STEPS {
+        for (what, grammar, behind) in [
+            ("byte array", BYT, 1),
+            ("uint32 array", E, 4),
+            ("uint64 array", A64, 8),
+            ("array of constants", C, 0),
+            ("array of uint32 values", ARR, 4),
+            ("union", UNI, 4),
+        ] {
+            let record = counted(add + 1, &vec![7; behind]);
+            let name = format!("{what}, count or tag {step} + 1");
+            list.add(&name, demarshall(&numbers::<u32>(grammar), &record, 8));
+        }
+    }
+    for (what, grammar, width) in [
+        ("byte array", BYT, 1),
+        ("uint32 array", E, 4),
+        ("uint64 array", A64, 8),
+    ] {
+        let grammar = numbers::<u32>(grammar);
+        for count in [200, 300, 40_000, MANY] {
+            let record = counted(count as u64, &vec![0x5a; count * width]);
+            let name = format!("{what}, {count} elements");
+            list.add(&name, demarshall(&grammar, &record, 4));
+            let name = format!("{what}, {count} elements, one missing");
+            list.add(
+                &name,
+                demarshall(&grammar, &record[..record.len() - width], 4),
+            );
+            let short = counted(count as u64 + 1, &vec![0x5a; count * width]);
+            let name = format!("{what}, {count} elements and one more counted");
+            list.add(&name, demarshall(&grammar, &short, 4));
+        }
+    }
+}
+
+/// Arrays with bytes behind them.
+fn bytes_behind(list: &mut List) {
+    for (kind, width) in [(5, 1), (6, 4), (7, 8)] {
+        for count in [1, 200, 40_000, MANY] {
+            let record = counted(count as u64, &vec![0x5a; (count + 2) * width]);
+            let (grammar, index) = (grammar_of(kind), 0);
+            let name = format!("kind {kind}, {count} elements, and bytes of two behind them");
+            list.add(
+                &name,
+                Case::CheckVal {
+                    grammar,
+                    record,
+                    index,
+                },
+            );
+        }
+    }
+}
+
+/// A tuple of a byte array and a value of the grammar of one or two nodes below it; and a record of
+/// it, with so many bytes before that value.
+fn behind_bytes(kind: u32, bytes: usize, value: &[u8]) -> (Vec<u32>, Vec<u8>) {
+    let count = u32::from(matches!(kind, 3 | 4 | 8));
+    let nodes = [[4, 0, 2], [5, 0, 0], [kind, 2 * count, count], [1, 0, 0]];
+    let record = [
+        counted(bytes as u64 - 8, &vec![0x5a; bytes - 8]),
+        value.to_vec(),
+    ]
+    .concat();
+    (table(&nodes, &[1, 2, 3]), record)
+}
+
+/// Values that start, end and are refused far behind byte 0.
+fn far_values(list: &mut List) {
+    let one = counted(1, &[]);
+    let zero = counted(0, &[7, 0, 0, 0]);
+    let values: [(u32, Vec<u8>, usize); 9] = [
+        (0, vec![], 3),
+        (1, vec![7, 0, 0, 0], 3),
+        (2, vec![7; 8], 3),
+        (3, [&one[..], &[7, 0, 0, 0]].concat(), 4),
+        (4, vec![7, 0, 0, 0], 4),
+        (5, [&one[..], &[7]].concat(), 3),
+        (6, [&one[..], &[7; 4]].concat(), 3),
+        (7, [&one[..], &[7; 8]].concat(), 3),
+        (8, zero, 4),
+    ];
+    for at in [200, MANY] {
+        for (kind, value, rows) in &values {
+            let (grammar, record) = behind_bytes(*kind, at, value);
+            let name = |what: &str| format!("kind {kind} at byte {at}{what}");
+            list.add(&name(""), demarshall(&grammar, &record, 4 * rows));
+            let more = [&record[..], &[0]].concat();
+            list.add(
+                &name(", a byte left over"),
+                demarshall(&grammar, &more, 4 * rows),
+            );
+            list.add(
+                &name(", a row missing"),
+                demarshall(&grammar, &record, 4 * (rows - 1)),
+            );
+            if *kind != 0 {
+                let cut = &record[..record.len() - 1];
+                list.add(
+                    &name(", a byte missing"),
+                    demarshall(&grammar, cut, 4 * rows),
+                );
+                let cut = &record[..at];
+                list.add(&name(", all missing"), demarshall(&grammar, cut, 4 * rows));
+            }
+            if matches!(kind, 3 | 8) {
+                let (_, record) = behind_bytes(*kind, at, &counted(9, &[7; 4]));
+                list.add(
+                    &name(", count or tag 9"),
+                    demarshall(&grammar, &record, 4 * rows),
+                );
+            }
+            let index = at;
+            let alone = grammar_of(*kind);
+            let mut rows = vec![99; 4 * rows];
+            rows.truncate(8);
+            let (grammar, record) = (alone, record.clone());
+            list.add(
+                &name(" as the index"),
+                Case::ParseVal {
+                    grammar,
+                    record,
+                    index,
+                    rows,
+                },
+            );
+        }
+    }
+    for length in [256, 512, 1 << 16] {
+        let name = format!("a constant and {length} bytes left over");
+        list.add(&name, demarshall(&numbers::<u32>(B), &vec![0; length], 4));
+        let name = format!("a uint32 and {length} bytes left over");
+        list.add(
+            &name,
+            demarshall(&numbers::<u32>(U32), &vec![0; length + 4], 4),
+        );
+    }
+    let words = 1 << 16;
+    list.add(
+        "2^16 words lent",
+        demarshall(&numbers::<u32>(B), &[], words),
+    );
+    list.add(
+        "2^16 + 3 words lent",
+        demarshall(&numbers::<u32>(C), &counted(3, &[]), words + 3),
+    );
+}
+
+/// The grammar of a value of this kind alone, whose child is a uint32.
+fn grammar_of(kind: u32) -> Vec<u32> {
+    match kind {
+        3 | 4 | 8 => table(&[[kind, 0, 1], [1, 0, 0]], &[1]),
+        _ => table(&[[kind, 0, 0]], &[]),
+    }
+}
+
+/// A union of 1,024 cases, and numbers of nodes from 128 on.
+fn many_cases() -> Vec<u32> {
+    let mut nodes = vec![[8, 0, 1_024]];
+    nodes.resize(200, CONSTANT);
+    nodes.extend([[1, 0, 0], [2, 0, 0]]);
+    let mut children = [1; 1_024];
+    (children[700], children[1_023]) = (200, 201);
+    table(&nodes, &children)
+}
+
+/// Tags of many cases, and the nodes of their values.
+fn cases_read(list: &mut List) {
+    for tag in [0, 188, 200, 255, 256, 700, 956, 1_023, 1_024, 1_212] {
+        let record = counted(tag, &[7, 0, 0, 0, 0, 0, 0, 0]);
+        let name = format!("tag {tag} of 1,024");
+        let (grammar, index, rows) = (many_cases(), 0, vec![99; 8]);
+        list.add(
+            &name,
+            Case::ParseVal {
+                grammar,
+                record,
+                index,
+                rows,
+            },
+        );
+    }
+    for kind in [3, 4] {
+        let mut nodes = vec![[kind, 0, 1]];
+        nodes.resize(200, CONSTANT);
+        nodes.push([1, 0, 0]);
+        let record = match kind {
+            3 => counted(1, &[7, 0, 0, 0]),
+            _ => vec![7, 0, 0, 0],
+        };
+        let name = format!("kind {kind} of node 200");
+        list.add(&name, demarshall(&table(&nodes, &[200]), &record, 8));
+    }
+    for (step, add) in STEPS {
+        let (grammar, record, rows) = (numbers::<u32>(U32), vec![7; 9], vec![99; 4]);
+        let index = add as usize + 1;
+        let name = format!("index {step} + 1");
+        list.add(
+            &name,
+            Case::ParseVal {
+                grammar,
+                record,
+                index,
+                rows,
+            },
+        );
+    }
+}
+
+/// The cases of the readers.
+pub fn reading() -> Cases {
+    let mut list = List::default();
+    counts_read(&mut list);
+    bytes_behind(&mut list);
+    far_values(&mut list);
+    cases_read(&mut list);
+    list.0
+}
+
+fn size(rows: &[u64], n: usize, store: usize) -> Case {
+    Case::ComputeSizeOf {
+        rows: rows.to_vec(),
+        n,
+        store: vec![0x5a; store],
+    }
+}
+
+fn locate(rows: &[u64], n: usize, store: usize, row: usize) -> Case {
+    Case::LocateArray {
+        rows: rows.to_vec(),
+        n,
+        store: vec![0x5a; store],
+        row,
+    }
+}
+
+/// A row of a kind that has one child, or none, with this span, word 2 and word 3.
+fn sound_row(kind: u64) -> Vec<u64> {
+    match kind {
+        3 | 4 => vec![kind, 2, 1, 0, 0, 1, 0, 0],
+        8 => vec![8, 2, 0, 0, 0, 1, 0, 0],
+        _ => vec![kind, 1, 0, 0],
+    }
+}
+
+/// Each word of a row of each kind, with the low bits of a sound one.
+fn row_words(list: &mut List) {
+    for (step, add) in STEPS {
+        for kind in 0..=8 {
+            let row = sound_row(kind);
+            let n = row.len() / 4;
+            for (word, what) in [(0, "kind"), (1, "span"), (2, "word 2"), (3, "word 3")] {
+                let mut other = row.clone();
+                other[word] += add;
+                let name = format!("{what} of kind {kind}, {step} more");
+                list.add(&name, size(&other, n, 8));
+                // The same inside of a tuple, which reaches further.
+                let tuple = [&[4, n as u64 + 2, 2, 0], &other[..], &[0, 1, 0, 0]].concat();
+                let name = format!("{what} of kind {kind} in a tuple, {step} more");
+                list.add(&name, size(&tuple, n + 2, 8));
+            }
+        }
+        for (kind, width) in [(5, 1), (6, 4), (7, 8)] {
+            let row = [kind, 1, add + 1, 0];
+            let name = format!("kind {kind}, count {step} + 1");
+            list.add(&name, size(&row, 1, width));
+        }
+        let row = [0, 1, 0, 0];
+        let name = format!("n {step} + 1");
+        list.add(&name, size(&row, add as usize + 1, 0));
+        let array = [5, 1, 0, 0];
+        list.add(&name, locate(&array, add as usize + 1, 0, 0));
+        let name = format!("row number {step}");
+        list.add(&name, locate(&array, 1, 0, add as usize));
+    }
+    for kind in [5, 6, 7] {
+        for (span, what) in [(2, "span 2"), (0, "span 0"), (1, "span 1")] {
+            let rows = [[4, 3, 2, 0], [kind, span, 9, 0], [0, 1, 0, 0]].concat();
+            let name = format!("kind {kind} with {what} and count 9 of an empty store");
+            list.add(&name, size(&rows, 3, 0));
+        }
+    }
+    let mut rows = vec![0, 1, 0, 0];
+    rows.resize(1 << 16, 9);
+    list.add("2^16 words lent", size(&rows, 1, 0));
+    list.add("2^16 words lent, n 2", size(&rows, 2, 0));
+}
+
+/// A tuple of 300 constants and one value more, which is row 301.
+fn after_rows(row: &[u64]) -> (Vec<u64>, usize) {
+    let n = 301 + row.len() / 4;
+    let rows = [&[4, n as u64, 301, 0], &[0, 1, 0, 0].repeat(300)[..], row].concat();
+    (rows, n)
+}
+
+/// Rows from 256 on: sound, refused with 13 and with 14, and located.
+fn far_rows(list: &mut List) {
+    for kind in 0..=8 {
+        let sound = sound_row(kind);
+        let (rows, n) = after_rows(&sound);
+        let name = |what: &str| format!("kind {kind} at row 301{what}");
+        list.add(&name(""), size(&rows, n, 8));
+        for (word, more, what) in [(1, 1, ", span"), (2, 9, ", word 2"), (3, 9, ", word 3")] {
+            let mut other = sound.clone();
+            other[word] += more;
+            let (rows, n) = after_rows(&other);
+            list.add(&name(what), size(&rows, n, 8));
+        }
+        list.add(&name(""), locate(&rows, n, 8, 301));
+        list.add(&name(", row number 45"), locate(&rows, n, 8, 45));
+        list.add(&name(", row number n"), locate(&rows, n, 8, n));
+        // In the middle, where it is followed by others, and as a parent that lacks a child.
+        let long = [&[kind, 301, 301, 0], &[0, 1, 0, 0].repeat(300)[..]].concat();
+        let tuple = [&[4, 303, 2, 0], &long[..], &[0, 1, 0, 0]].concat();
+        list.add(&name(", a child missing of 301"), size(&tuple, 303, 0));
+    }
+    let chain: Vec<u64> = (2..=300).rev().flat_map(|span| [8, span, 300, 0]).collect();
+    let chain = [&chain[..], &[9, 1, 0, 0]].concat();
+    list.add("kind 9 below 299 cases", size(&chain, 300, 0));
+    for kind in [3, 4] {
+        let rows = [&[kind, 301, 300, 0], &[1, 1, 7, 0].repeat(300)[..]].concat();
+        let name = format!("300 values of kind {kind}");
+        list.add(&name, size(&rows, 301, 0));
+        let name = format!("300 values of kind {kind}, n 45");
+        list.add(&name, size(&rows, 45, 0));
+        for (step, add) in STEPS {
+            let rows = [kind, 2, add + 1, 0, 0, 1, 0, 0];
+            let name = format!("kind {kind}, count {step} + 1");
+            list.add(&name, size(&rows, 2, 0));
+        }
+    }
+}
+
+/// Children that are not what their parent says: beyond its end, missing, left over, of no rows.
+fn children(list: &mut List) {
+    for kind in [3, 4, 8] {
+        let count = u64::from(kind != 8);
+        for rows in [1, 300] {
+            let constants = [0, 1, 0, 0].repeat(rows);
+            let n = rows as u64 + 4;
+            let inner = [4, 2, 1, 0, kind, 2, count, 0, 0, 1, 0, 0];
+            let rows = [&[4, n, n - 2, 0], &constants[..], &inner].concat();
+            let name = format!("kind {kind} at row {}, beyond its parent's end", n - 2);
+            list.add(&name, size(&rows, n as usize, 0));
+        }
+    }
+    for kind in 1..=8 {
+        let mut child = sound_row(kind);
+        child[1] = 0;
+        let n = 1 + child.len() / 4;
+        let rows = [&[4, n as u64, 1, 0], &child[..]].concat();
+        let name = format!("kind {kind} of span 0");
+        list.add(&name, size(&rows, n, 0));
+    }
+    for kind in [3, 4] {
+        for (step, add) in STEPS {
+            let rows = [[kind, 3, add + 1, 0], [0, 1, 0, 0], [9, 1, 0, 0]].concat();
+            let name = format!("kind {kind}, count {step} + 1, the second child is bad");
+            list.add(&name, size(&rows, 3, 0));
+        }
+        let rows = [&[kind, 302, 300, 0], &[0, 1, 0, 0].repeat(300)[..], &[9; 4]].concat();
+        let name = format!("kind {kind}, a row left over behind 300 children");
+        list.add(&name, size(&rows, 302, 0));
+    }
+    for (number, child) in [(13, [9, 1, 0, 0]), (14, [5, 1, 9, 0])] {
+        let rows = [[4, 2, 1, 0], child, [0, 1, 0, 0]].concat();
+        let name = format!("the root's span below n before a child's {number}");
+        list.add(&name, size(&rows, 3, 0));
+    }
+}
+
+/// Arrays far behind the store's start, and long ones.
+fn far_arrays(list: &mut List) {
+    for (kind, width) in [(5, 1), (6, 4), (7, 8)] {
+        for (at, count) in [(200, 200), (300, 300), (MANY as u64, 2), (9, MANY as u64)] {
+            let row = [kind, 1, count, at];
+            let store = (at + count * width) as usize;
+            let name = format!("kind {kind}, {count} elements at {at}");
+            list.add(&name, size(&row, 1, store));
+            list.add(&name, locate(&row, 1, store, 0));
+            let name = format!("kind {kind}, {count} elements at {at}, a byte missing");
+            list.add(&name, size(&row, 1, store - 1));
+            list.add(&name, locate(&row, 1, store - 1, 0));
+        }
+        for (step, add) in STEPS {
+            let row = [kind, 1, 0, add];
+            let name = format!("kind {kind} without elements at {step}");
+            list.add(&name, locate(&row, 1, 8, 0));
+        }
+        let name = format!("kind {kind} without elements");
+        list.add(&name, locate(&[kind, 1, 0, 3], 1, 8, 0));
+    }
+}
+
+/// The cases of the size call and of the locator.
+pub fn rows() -> Cases {
+    let mut list = List::default();
+    row_words(&mut list);
+    far_rows(&mut list);
+    children(&mut list);
+    far_arrays(&mut list);
+    list.0
+}
+
+fn marshall(grammar: Vec<u32>, rows: &[u64], store: Vec<u8>, length: usize) -> Case {
+    let (rows, n) = (rows.to_vec(), rows.len() / 4);
+    let value = Value {
+        grammar,
+        rows,
+        n,
+        store,
+    };
+    value.marshall_case(vec![0xee; length])
+}
+
+/// Tags, nodes and rows of great number, and far arrays.
+fn written(list: &mut List) {
+    for (step, add) in STEPS {
+        for tag in [0, 1] {
+            let rows = [8, 2, add + tag, 0, tag, 1, 0, 0];
+            let name = format!("tag {step} + {tag}");
+            list.add(&name, marshall(numbers(UNI), &rows, vec![], 12));
+        }
+        let value = Value {
+            grammar: numbers(U32),
+            rows: vec![1, 1, 7, 0],
+            n: 1,
+            store: vec![],
+        };
+        let name = format!("index {step} + 1");
+        let case = value
+            .clone()
+            .marshall_val_case(vec![0xee; 9], add as usize + 1);
+        list.add(&name, case);
+        let mut value = value;
+        value.n = add as usize + 1;
+        let name = format!("n {step} + 1");
+        list.add(&name, value.clone().marshall_val_case(vec![0xee; 4], 0));
+        list.add(&name, value.marshall_case(vec![0xee; 4]));
+    }
+    for tag in [0, 188, 200, 255, 256, 700, 956, 1_023, 1_024, 1_212] {
+        for (kind, what) in [(0, "constant"), (1, "uint32"), (2, "uint64")] {
+            let rows = [8, 2, tag, 0, kind, 1, 0, 0];
+            let name = format!("tag {tag} of 1,024, a {what}");
+            list.add(&name, marshall(many_cases(), &rows, vec![], 16));
+        }
+    }
+    for kind in [3, 4] {
+        let mut nodes = vec![[kind, 0, 1]];
+        nodes.resize(200, CONSTANT);
+        nodes.push([1, 0, 0]);
+        let rows = [kind.into(), 2, 1, 0, 1, 1, 7, 0];
+        let name = format!("kind {kind} of node 200");
+        list.add(&name, marshall(table(&nodes, &[200]), &rows, vec![], 12));
+    }
+    for kind in 0..=8 {
+        let (rows, _) = after_rows(&sound_row(kind));
+        let nodes = [[4, 0, 301], CONSTANT, [if kind == 1 { 2 } else { 1 }, 0, 0]];
+        let children = [vec![1; 300], vec![2]].concat();
+        let name = format!("kind {kind} at row 301, another is wanted");
+        list.add(
+            &name,
+            marshall(table(&nodes, &children), &rows, vec![0; 8], 16),
+        );
+    }
+    for (kind, width) in [(5, 1), (6, 4), (7, 8)] {
+        for (at, count) in [(200, 200), (MANY as u64, 2), (9, MANY as u64)] {
+            let (row, length) = ([kind, 1, count, at], (count * width) as usize);
+            let grammar = table(&[[kind as u32, 0, 0]], &[]);
+            let store = [vec![0x11; at as usize], vec![0x5a; length]].concat();
+            let name = format!("kind {kind}, {count} elements at {at}");
+            list.add(&name, marshall(grammar, &row, store, length + 8));
+        }
+    }
+    let rows = [&[3, 301, 300, 0], &[1, 1, 0x0707_0707, 0].repeat(300)[..]].concat();
+    list.add("300 elements", marshall(numbers(ARR), &rows, vec![], 1_208));
+    let grammar = table(&[[4, 0, 45], [1, 0, 0]], &[1; 45]);
+    let rows = [&[4, 302, 301, 0], &[1, 1, 7, 0].repeat(301)[..]].concat();
+    list.add(
+        "301 fields, 45 wanted",
+        marshall(grammar, &rows, vec![], 1_204),
+    );
+}
+
+/// A value of each kind, and behind it a uint32 where a constant is wanted.
+fn behind_kinds(list: &mut List) {
+    for before in [0, 300] {
+        for kind in 0..=8 {
+            let row = sound_row(kind.into());
+            let count = u32::from(matches!(kind, 3 | 4 | 8));
+            let fields = before as u32 + 2;
+            let nodes = [[4, 0, fields], [kind, fields * count, count], CONSTANT];
+            let mut children = vec![2; before];
+            children.extend([1, 2, 2]);
+            let n = (before + 2 + row.len() / 4) as u64;
+            let constants = [0, 1, 0, 0].repeat(before);
+            let rows = [
+                &[4, n, fields.into(), 0],
+                &constants[..],
+                &row,
+                &[1, 1, 7, 0],
+            ]
+            .concat();
+            let name = format!("a uint32 at row {}, behind kind {kind}", n - 1);
+            list.add(
+                &name,
+                marshall(table(&nodes, &children), &rows, vec![0; 8], 16),
+            );
+        }
+    }
+    let grammar = table(&[[3, 0, 1], [5, 0, 0]], &[1]);
+    let most = super::MOST_BYTES;
+    let rows = [
+        vec![3, 4_096, 4_095, 0],
+        [5, 1, most as u64, 0].repeat(4_095),
+    ]
+    .concat();
+    list.add(
+        "the greatest size, 4,293,951,488",
+        marshall(grammar, &rows, vec![0; most], 8),
+    );
+}
+
+/// The cases of the writers.
+pub fn writing() -> Cases {
+    let mut list = List::default();
+    written(&mut list);
+    behind_kinds(&mut list);
+    list.0
+}
+
+/// Indexes and counts of the packers and unpackers.
+pub fn packed() -> Cases {
+    let mut list = List::default();
+    for index in [200, 300, 40_000, MANY] {
+        let name = format!("index {index}");
+        let short: Vec<u8> = [vec![0x11; index], (1..=20).collect()].concat();
+        let packed = short.clone();
+        list.add(&name, Case::UnpackU32 { packed, index });
+        let packed = short.clone();
+        list.add(&name, Case::UnpackU64 { packed, index });
+        let (packed, numbers) = (short.clone(), vec![99; 2]);
+        list.add(
+            &name,
+            Case::UnpackU32Seq {
+                packed,
+                index,
+                numbers,
+            },
+        );
+        let (packed, numbers) = (short.clone(), vec![99; 2]);
+        list.add(
+            &name,
+            Case::UnpackU64Seq {
+                packed,
+                index,
+                numbers,
+            },
+        );
+        let name = format!("index {index}, a byte missing");
+        let packed = short[..index + 3].to_vec();
+        list.add(&name, Case::UnpackU32 { packed, index });
+        let packed = short[..index + 7].to_vec();
+        list.add(&name, Case::UnpackU64 { packed, index });
+        let name = format!("index {index}, above the length");
+        let packed = short[..index - 1].to_vec();
+        list.add(&name, Case::UnpackU32 { packed, index });
+        let name = format!("index {index}");
+        let out = vec![0xee; index + 20];
+        list.add(
+            &name,
+            Case::PackU32 {
+                number: 7,
+                out,
+                index,
+            },
+        );
+        let out = vec![0xee; index + 20];
+        list.add(
+            &name,
+            Case::PackU64 {
+                number: 7,
+                out,
+                index,
+            },
+        );
+        let name = format!("index {index}, no room");
+        let out = vec![0xee; index + 3];
+        list.add(
+            &name,
+            Case::PackU32 {
+                number: 7,
+                out,
+                index,
+            },
+        );
+        let out = vec![0xee; index + 7];
+        list.add(
+            &name,
+            Case::PackU64 {
+                number: 7,
+                out,
+                index,
+            },
+        );
+    }
+    for (step, add) in STEPS {
+        let index = add as usize;
+        let name = format!("index {step}, a number at 0");
+        let out = vec![0xee; 16];
+        list.add(
+            &name,
+            Case::PackU32 {
+                number: 7,
+                out,
+                index,
+            },
+        );
+        let out = vec![0xee; 16];
+        list.add(
+            &name,
+            Case::PackU64 {
+                number: 7,
+                out,
+                index,
+            },
+        );
+        let (numbers, out) = (vec![7; 2], vec![0xee; 16]);
+        list.add(
+            &name,
+            Case::PackU32Seq {
+                numbers,
+                out,
+                index,
+            },
+        );
+        let (numbers, out) = (vec![7; 2], vec![0xee; 16]);
+        list.add(
+            &name,
+            Case::PackU64Seq {
+                numbers,
+                out,
+                index,
+            },
+        );
+        let (packed, numbers) = (vec![7; 16], vec![99; 2]);
+        list.add(
+            &name,
+            Case::UnpackU32Seq {
+                packed,
+                index,
+                numbers,
+            },
+        );
+        let (packed, numbers) = (vec![7; 16], vec![99; 2]);
+        list.add(
+            &name,
+            Case::UnpackU64Seq {
+                packed,
+                index,
+                numbers,
+            },
+        );
+        let name = format!("index {step} of 16 bytes");
+        let packed = vec![7; 16];
+        list.add(&name, Case::UnpackU32 { packed, index });
+        let packed = vec![7; 16];
+        list.add(&name, Case::UnpackU64 { packed, index });
+    }
+    for count in [300, MANY] {
+        for more in [0, 1] {
+            let name = format!("{count} numbers, {more} too few bytes");
+            let (packed, index) = (vec![7; 4 * count - more], 0);
+            let numbers = vec![99; count];
+            list.add(
+                &name,
+                Case::UnpackU32Seq {
+                    packed,
+                    index,
+                    numbers,
+                },
+            );
+            let (packed, index) = (vec![7; 8 * count - more], 0);
+            let numbers = vec![99; count];
+            list.add(
+                &name,
+                Case::UnpackU64Seq {
+                    packed,
+                    index,
+                    numbers,
+                },
+            );
+            let (numbers, out) = (vec![0x0707_0707; count], vec![0xee; 4 * count - more]);
+            list.add(
+                &name,
+                Case::PackU32Seq {
+                    numbers,
+                    out,
+                    index,
+                },
+            );
+            let (numbers, out) = (
+                vec![0x0707_0707_0707_0707; count],
+                vec![0xee; 8 * count - more],
+            );
+            list.add(
+                &name,
+                Case::PackU64Seq {
+                    numbers,
+                    out,
+                    index,
+                },
+            );
+        }
+    }
+    list.0
+}
+
+/// Values that differ in the higher bits of a number, of a tag, of a count.
+pub fn same_route() -> Cases {
+    let mut list = List::default();
+    let mut add = |name: String, grammar: Vec<u32>, first: Vec<u8>, second: Vec<u8>| {
+        let case = Case::SameRoute {
+            grammar,
+            first,
+            second,
+        };
+        list.add(&name, case);
+    };
+    for (step, more) in STEPS {
+        let (one, other) = (
+            1u64.to_le_bytes().to_vec(),
+            (1 + more).to_le_bytes().to_vec(),
+        );
+        let array = |number: &[u8]| counted(1, number);
+        for (order, first, second) in [("", &one, &other), (", exchanged", &other, &one)] {
+            let name = format!("uint64 1 and {step} + 1{order}");
+            add(name, numbers(U64), first.clone(), second.clone());
+            let name = format!("arrays of uint64 1 and {step} + 1{order}");
+            add(name, numbers(A64), array(first), array(second));
+            if more < 1 << 32 {
+                let (first, second) = (&first[..4], &second[..4]);
+                let name = format!("uint32 1 and {step} + 1{order}");
+                add(name, numbers(U32), first.to_vec(), second.to_vec());
+                let name = format!("arrays of uint32 1 and {step} + 1{order}");
+                add(name, numbers(E), array(first), array(second));
+            }
+        }
+    }
+    for (first, second) in [(1, 257), (257, 1), (3, 259), (259, 3)] {
+        let union = table(&[[8, 0, 600], CONSTANT], &[1; 600]);
+        let name = format!("tags {first} and {second}");
+        add(name, union, counted(first, &[]), counted(second, &[]));
+        let name = format!("{first} and {second} constants");
+        add(name, numbers(C), counted(first, &[]), counted(second, &[]));
+    }
+    let of = |values: &[u32]| {
+        let bytes: Vec<u8> = values
+            .iter()
+            .flat_map(|value| value.to_le_bytes())
+            .collect();
+        counted(values.len() as u64, &bytes)
+    };
+    for (name, first, second) in [
+        ("the first element differs", [1, 2], [3, 2]),
+        ("the last element differs", [1, 2], [1, 3]),
+        ("the elements are exchanged", [1, 2], [2, 1]),
+        ("elements that are equal", [1, 2], [1, 2]),
+    ] {
+        for (what, grammar) in [("values", ARR), ("uint32 array", E)] {
+            add(
+                format!("{what}: {name}"),
+                numbers(grammar),
+                of(&first),
+                of(&second),
+            );
+        }
+    }
+    let equal = counted(1, &[0, 1, 2, 3, 4, 5, 6, 7]);
+    add(
+        "uint64 arrays, equal".to_string(),
+        numbers(A64),
+        equal.clone(),
+        equal,
+    );
+    let two = counted(2, &[0xff; 16]);
+    add(
+        "arrays of two uint64, equal".to_string(),
+        numbers(A64),
+        two.clone(),
+        two,
+    );
+    let case = |number: u8| counted(1, &[number, 0, 0, 0]);
+    add(
+        "cases of one tag, equal".to_string(),
+        numbers(UNI),
+        case(1),
+        case(1),
+    );
+    add(
+        "cases of one tag that differ".to_string(),
+        numbers(UNI),
+        case(1),
+        case(2),
+    );
+    let most = counted(4_095, &[]);
+    add(
+        "4,096 rows, equal".to_string(),
+        numbers(C),
+        most.clone(),
+        most,
+    );
+    list.0
+}
+
+/// Inputs of the show program.
+pub fn show() -> Vec<(String, Vec<u8>)> {
+    let mut list = Vec::new();
+    let mut add = |name: String, input: Vec<u8>| list.push((format!("show: {name}"), input));
+    for at in [200, 300, 40_000] {
+        for (kind, value) in [
+            (1, vec![7, 0, 0, 0]),
+            (5, counted(1, &[7])),
+            (8, counted(0, &[7; 4])),
+        ] {
+            let (grammar, record) = behind_bytes(kind, at, &value);
+            let name = |what: &str| format!("kind {kind} at byte {at}{what}");
+            add(name(""), compare::show_input(&grammar, &record));
+            let cut = &record[..record.len() - 1];
+            add(name(", a byte missing"), compare::show_input(&grammar, cut));
+            let more = [&record[..], &[0]].concat();
+            add(
+                name(", a byte left over"),
+                compare::show_input(&grammar, &more),
+            );
+        }
+    }
+    let mut nodes = [CONSTANT; 256];
+    nodes[200] = [9, 0, 0];
+    add(
+        "kind 9 at node 200".to_string(),
+        compare::show_input(&table(&nodes, &[]), &[]),
+    );
+    for word in [1 << 8, 1 << 16, 1 << 31] {
+        let name = format!("a uint32 of first {word}");
+        add(
+            name,
+            compare::show_input(&table(&[[1, word, 0]], &[0; 512]), &[7, 0, 0, 0]),
+        );
+    }
+    for more in [1u32 << 8, 1 << 16, 1 << 31] {
+        let mut input = compare::show_input(&numbers::<u32>(U32), &[7, 0, 0, 0]);
+        input[24..28].copy_from_slice(&(4 + more).to_le_bytes());
+        add(format!("R is {more} too much"), input);
+        let mut input = compare::show_input(&numbers::<u32>(U32), &[7, 0, 0, 0]);
+        input[..4].copy_from_slice(&(5 + more).to_le_bytes());
+        add(format!("W is {more} too much"), input);
+    }
+    let input = [&1_795u32.to_le_bytes()[..], &[0; 7_184]].concat();
+    add("1,795 words 0".to_string(), input);
+    let many = table(&[[4, 0, 500], [2, 0, 0]], &[1; 500]);
+    add(
+        "501 rows".to_string(),
+        compare::show_input(&many, &[0xff; 4_000]),
+    );
+    list
+}

@@ -1,0 +1,162 @@
+//! The calls of the vectors, made of the model.
+
+use model::{Place, Reading, Refusal, SameRouteRefusal, Writing};
+
+use super::flat::{Call, Given, Outcome};
+
+/// A number that a call is given.
+fn number(given: &Given) -> u64 {
+    match given {
+        Given::Number(number) => *number,
+        other => panic!("{other:?} is no number"),
+    }
+}
+
+/// An index, a row number or a row count.
+fn size(given: &Given) -> usize {
+    number(given) as usize
+}
+
+/// Bytes that a call is given.
+fn bytes(given: &Given) -> &[u8] {
+    match given {
+        Given::Bytes(bytes) => bytes,
+        other => panic!("{other:?} are no bytes"),
+    }
+}
+
+/// Words of 64 bits that a call is given.
+fn words(given: &Given) -> &[u64] {
+    match given {
+        Given::Words(words) => words,
+        other => panic!("{other:?} are no words"),
+    }
+}
+
+/// Words of 32 bits that a call is given.
+fn short_words(given: &Given) -> Vec<u32> {
+    words(given).iter().map(|&word| word as u32).collect()
+}
+
+/// The outcome of a refusal that names this record.
+fn refused(refusal: Refusal, record: u64) -> Outcome {
+    let (kind, place) = match refusal.place {
+        Place::Word(word) => (1, word),
+        Place::Byte(byte) => (2, byte),
+        Place::Row(row) => (3, row),
+    };
+    (vec![refusal.number, kind, place, record], None)
+}
+
+/// The outcome of a call that gives these numbers and leaves this in the lent buffer.
+fn outcome(result: Result<(Vec<u64>, Option<Given>), Refusal>) -> Outcome {
+    match result {
+        Ok((numbers, after)) => ([&[0], &numbers[..]].concat(), after),
+        Err(refusal) => refused(refusal, 0),
+    }
+}
+
+/// The outcome of a reading whose rows are put into the lent ones.
+fn read(reading: Result<Reading, Refusal>, lent: Option<&[u64]>) -> Outcome {
+    outcome(reading.map(|reading| {
+        let numbers = vec![reading.rows.len() as u64 / 4, reading.rest_index as u64];
+        let after = lent.map(|lent| {
+            let mut after = lent.to_vec();
+            after[..reading.rows.len()].copy_from_slice(&reading.rows);
+            Given::Words(after)
+        });
+        (numbers, after)
+    }))
+}
+
+/// The outcome of a writing.
+fn written(writing: Result<Writing, Refusal>) -> Outcome {
+    outcome(writing.map(|writing| (vec![writing.size as u64], Some(Given::Bytes(writing.out)))))
+}
+
+/// The outcome of packing.
+fn packed(out: Result<Vec<u8>, Refusal>) -> Outcome {
+    outcome(out.map(|out| (vec![], Some(Given::Bytes(out)))))
+}
+
+/// The outcome of unpacking a sequence.
+fn unpacked(numbers: Result<Vec<u64>, Refusal>) -> Outcome {
+    outcome(numbers.map(|numbers| (vec![], Some(Given::Words(numbers)))))
+}
+
+/// The outcome of same route.
+fn same_route(grammar: &[u32], first: &[u8], second: &[u8]) -> Outcome {
+    match model::same_route(grammar, first, second) {
+        Ok(same) => (vec![0, same.into()], None),
+        Err(SameRouteRefusal::Grammar(refusal)) => refused(refusal, 0),
+        Err(SameRouteRefusal::First(refusal)) => refused(refusal, 1),
+        Err(SameRouteRefusal::Second(refusal)) => refused(refusal, 2),
+    }
+}
+
+/// What comes of a call by the model.
+pub fn of_model(call: &Call) -> Outcome {
+    let width = if call.call.contains("u32") { 4 } else { 8 };
+    match (call.call.as_str(), &call.given[..]) {
+        ("unpack_u32" | "unpack_u64", [from, index]) => {
+            let number = model::unpack(width, bytes(from), size(index));
+            outcome(number.map(|number| (vec![number], None)))
+        }
+        ("pack_u32" | "pack_u64", [n, out, index]) => {
+            packed(model::pack(width, number(n), bytes(out), size(index)))
+        }
+        ("unpack_u32_seq" | "unpack_u64_seq", [from, index, lent]) => {
+            let (from, index, count) = (bytes(from), size(index), words(lent).len());
+            unpacked(model::unpack_seq(width, from, index, count))
+        }
+        ("pack_u32_seq" | "pack_u64_seq", [numbers, out, index]) => {
+            let (numbers, out) = (words(numbers), bytes(out));
+            packed(model::pack_seq(width, numbers, out, size(index)))
+        }
+        ("check_grammar", [grammar]) => {
+            let checked = model::check_grammar(&short_words(grammar));
+            outcome(checked.map(|()| (vec![], None)))
+        }
+        ("compute_size_of", [rows, n, store]) => {
+            let size = model::compute_size_of(words(rows), size(n), bytes(store));
+            outcome(size.map(|size| (vec![size], None)))
+        }
+        ("locate_array", [rows, n, store, row]) => {
+            let located = model::locate_array(words(rows), size(n), bytes(store), size(row));
+            let numbers = |(start, length)| vec![start as u64, length as u64];
+            outcome(located.map(|located| (numbers(located), None)))
+        }
+        ("parse_val", [grammar, record, index, lent]) => {
+            let (grammar, capacity) = (short_words(grammar), model::capacity(words(lent).len()));
+            let reading = model::parse_val(&grammar, bytes(record), size(index), capacity);
+            read(reading, Some(words(lent)))
+        }
+        ("demarshall", [grammar, record, lent]) => {
+            let (grammar, capacity) = (short_words(grammar), model::capacity(words(lent).len()));
+            let reading = model::demarshall(&grammar, bytes(record), capacity);
+            read(reading, Some(words(lent)))
+        }
+        ("check_val", [grammar, record, index]) => {
+            let grammar = short_words(grammar);
+            read(model::check_val(&grammar, bytes(record), size(index)), None)
+        }
+        ("check_whole", [grammar, record]) => read(
+            model::check_whole(&short_words(grammar), bytes(record)),
+            None,
+        ),
+        ("marshall_val", [grammar, rows, n, store, out, index]) => {
+            let (grammar, rows, n) = (short_words(grammar), words(rows), size(n));
+            let (store, out, index) = (bytes(store), bytes(out), size(index));
+            written(model::marshall_val(&grammar, rows, n, store, out, index))
+        }
+        ("marshall", [grammar, rows, n, store, out]) => {
+            let (grammar, rows, n) = (short_words(grammar), words(rows), size(n));
+            written(model::marshall(&grammar, rows, n, bytes(store), bytes(out)))
+        }
+        ("same_route", [grammar, first, second]) => {
+            same_route(&short_words(grammar), bytes(first), bytes(second))
+        }
+        ("show", [input]) => (vec![0], Some(Given::Bytes(model::show(bytes(input))))),
+        (other, given) => panic!("{other} of {} fields", given.len()),
+    }
+}

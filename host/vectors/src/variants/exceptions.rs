@@ -1,0 +1,1054 @@
+//! Variants that cannot change an answer, each with its reason, and variants by hand.
+
+use std::io;
+
+use super::rules::{Change, Place, Site};
+use super::switch::Mode;
+
+/// A number that is below a bound wherever the model comes to it, so that what leaves every number
+/// below the bound as it is is no variant. The places are given by file, function (`~` for all of
+/// the file) and text; `#1` behind it is the second place of that text in the function alone.
+struct Bound {
+    file: &'static str,
+    functions: &'static [&'static str],
+    texts: &'static [&'static str],
+    below: u64,
+    why: &'static str,
+}
+
+/// Variants that cannot change an answer. Ways are given by how they begin.
+struct Exception {
+    file: &'static str,
+    functions: &'static [&'static str],
+    texts: &'static [&'static str],
+    ways: &'static [&'static str],
+    why: &'static str,
+}
+
+const BYTES: u64 = 1_048_577;
+const ROWS: u64 = 4_097;
+
+/// The reason of variants that only a slice of 2^31 or more elements can tell.
+pub const LONG: &str = "only a slice of 2^31 or more elements can tell";
+
+/// The bounds. A number that is written down is below the next one; those are not listed.
+const BOUNDS: [Bound; 53] = [
+    Bound {
+        file: "grammar.rs",
+        functions: &["~"],
+        texts: &["k", "number"],
+        below: 256,
+        why: "a node's number",
+    },
+    Bound {
+        file: "grammar.rs",
+        functions: &["~"],
+        texts: &["n", "nodes", "words[0]", "MOST_NODES"],
+        below: 257,
+        why: "N, which is at most 256",
+    },
+    Bound {
+        file: "grammar.rs",
+        functions: &["~"],
+        texts: &["place", "node", "i"],
+        below: 1_025,
+        why: "a word of the nodes, and a child word's number",
+    },
+    Bound {
+        file: "grammar.rs",
+        functions: &["sections"],
+        texts: &["m#1", "MOST_CHILD_WORDS"],
+        below: 1_025,
+        why: "M, compared before",
+    },
+    Bound {
+        file: "grammar.rs",
+        functions: &["sections"],
+        texts: &["2 + 3 * n + m"],
+        below: 1_795,
+        why: "N and M are compared before",
+    },
+    Bound {
+        file: "grammar.rs",
+        functions: &["check_grammar"],
+        texts: &[
+            "child_words.len()",
+            "end#1",
+            "end#2",
+            "first#2",
+            "first#3",
+            "first#4",
+        ],
+        below: 1_025,
+        why: "M is at most 1,024, and the sum is compared before",
+    },
+    Bound {
+        file: "grammar.rs",
+        functions: &["check_grammar"],
+        texts: &["end"],
+        below: 1 << 33,
+        why: "the sum of two words",
+    },
+    Bound {
+        file: "grammar.rs",
+        functions: &["check_grammar"],
+        texts: &["child"],
+        below: 1 << 32,
+        why: "a word",
+    },
+    Bound {
+        file: "grammar.rs",
+        functions: &["fits_kind"],
+        texts: &["kind"],
+        below: 9,
+        why: "a kind, compared before",
+    },
+    Bound {
+        file: "grammar.rs",
+        functions: &["check_grammar"],
+        texts: &["kind#1"],
+        below: 9,
+        why: "a kind, compared before",
+    },
+    Bound {
+        file: "grammar.rs",
+        functions: &["node"],
+        texts: &["first", "count", "words[node + 1]", "words[node + 2]"],
+        below: 1_025,
+        why: "the table is checked",
+    },
+    Bound {
+        file: "grammar.rs",
+        functions: &["node"],
+        texts: &["words[node]"],
+        below: 9,
+        why: "the table is checked",
+    },
+    Bound {
+        file: "packed.rs",
+        functions: &["~"],
+        texts: &["width", "i"],
+        below: 9,
+        why: "a width is 1, 4 or 8, and `i` is below it",
+    },
+    Bound {
+        file: "packed.rs",
+        functions: &["digits"],
+        texts: &["rest#1"],
+        below: 1,
+        why: "nothing is left",
+    },
+    Bound {
+        file: "reading.rs",
+        functions: &["~"],
+        texts: &[
+            "capacity",
+            "self.rows_left",
+            "span",
+            "values.len()",
+            "MOST_ROWS",
+        ],
+        below: ROWS,
+        why: "a capacity is at most 4,096",
+    },
+    Bound {
+        file: "reading.rs",
+        functions: &["rows"],
+        texts: &["below.len()"],
+        below: 16_381,
+        why: "the words of at most 4,095 rows",
+    },
+    Bound {
+        file: "reading.rs",
+        functions: &["~"],
+        texts: &["element", "children[0]", "n", "cases[tag as usize]"],
+        below: 256,
+        why: "a node's number",
+    },
+    Bound {
+        file: "reading.rs",
+        functions: &["value"],
+        texts: &["number#0"],
+        below: 256,
+        why: "a node's number",
+    },
+    Bound {
+        file: "reading.rs",
+        functions: &["value"],
+        texts: &["number#1"],
+        below: 1 << 32,
+        why: "the number of 4 bytes",
+    },
+    Bound {
+        file: "reading.rs",
+        functions: &["~"],
+        texts: &["kind", "width"],
+        below: 9,
+        why: "a kind of a checked table, and a width",
+    },
+    Bound {
+        file: "reading.rs",
+        functions: &["case", "words"],
+        texts: &["cases.len()", "tag#1", "tag#2", "*tag"],
+        below: 1_025,
+        why: "a union has at most 1,024 cases, and the tag is compared before",
+    },
+    Bound {
+        file: "reading.rs",
+        functions: &["array"],
+        texts: &["count#1"],
+        below: ROWS,
+        why: "compared with the rows left before",
+    },
+    Bound {
+        file: "reading.rs",
+        functions: &["~"],
+        texts: &[
+            "self.position",
+            "start",
+            "place",
+            "rest_index",
+            "length",
+            "rest.len()",
+            "(rest.len() / width)",
+            "record.len()",
+            "reader.position",
+            "index#2",
+            "word3",
+            "elements.place",
+            "elements.packed.len()",
+            "count#1",
+        ],
+        below: BYTES,
+        why: "a record is at most 1,048,576 bytes long, and index and count are compared before",
+    },
+    Bound {
+        file: "reading.rs",
+        functions: &["words"],
+        texts: &["count"],
+        below: BYTES,
+        why: "a record is at most 1,048,576 bytes long",
+    },
+    Bound {
+        file: "refusal.rs",
+        functions: &["~"],
+        texts: &["number"],
+        below: 20,
+        why: "a refusal's number",
+    },
+    Bound {
+        file: "refusal.rs",
+        functions: &["at_word"],
+        texts: &["word"],
+        below: 1_795,
+        why: "a word of a grammar",
+    },
+    Bound {
+        file: "rows.rs",
+        functions: &["is_valid", "value", "children", "whole_value"],
+        texts: &[
+            "most",
+            "row",
+            "end",
+            "child",
+            "rows[row][1]",
+            "rows[child][1]",
+            "values.len()",
+            "(values.len() as u64)",
+            "n#1",
+            "n#2",
+        ],
+        below: ROWS,
+        why: "there are at most 4,096 rows, and the spans are checked before",
+    },
+    Bound {
+        file: "rows.rs",
+        functions: &["table"],
+        texts: &["n#2", "n#3", "MOST_ROWS", "4 * n"],
+        below: 16_385,
+        why: "n is compared before",
+    },
+    Bound {
+        file: "rows.rs",
+        functions: &["is_valid"],
+        texts: &["MOST_UINT32"],
+        below: 1 << 32,
+        why: "a constant",
+    },
+    Bound {
+        file: "rows.rs",
+        functions: &["value"],
+        texts: &["word2#0"],
+        below: 1 << 32,
+        why: "the number of a uint32, checked before",
+    },
+    Bound {
+        file: "rows.rs",
+        functions: &["value", "locate_array"],
+        texts: &["kind"],
+        below: 9,
+        why: "the row is checked before",
+    },
+    Bound {
+        file: "rows.rs",
+        functions: &["elements"],
+        texts: &["width"],
+        below: 9,
+        why: "a width is 1, 4 or 8",
+    },
+    Bound {
+        file: "rows.rs",
+        functions: &["elements", "size_of_v"],
+        texts: &[
+            "end#1",
+            "end#2",
+            "place#1",
+            "place#2",
+            "place#3",
+            "array.packed.len()",
+            "store.len()",
+        ],
+        below: BYTES,
+        why: "a store is at most 1,048,576 bytes long, and the row is checked before",
+    },
+    Bound {
+        file: "rows.rs",
+        functions: &["locate_array"],
+        texts: &["count", "place"],
+        below: BYTES,
+        why: "a store is at most 1,048,576 bytes long, and the rows are checked before",
+    },
+    Bound {
+        file: "same_route.rs",
+        functions: &["~"],
+        texts: &["left.len()", "right.len()"],
+        below: ROWS,
+        why: "the values of an array or a tuple",
+    },
+    Bound {
+        file: "same_route.rs",
+        functions: &["~"],
+        texts: &["width"],
+        below: 9,
+        why: "a width is 1, 4 or 8",
+    },
+    Bound {
+        file: "same_route.rs",
+        functions: &["are_equal"],
+        texts: &["tag", "other"],
+        below: 1_025,
+        why: "the tags of values that were read",
+    },
+    Bound {
+        file: "show.rs",
+        functions: &["refusal_line"],
+        texts: &["word"],
+        below: 1_795,
+        why: "a word of a grammar",
+    },
+    Bound {
+        file: "show.rs",
+        functions: &["~"],
+        texts: &["record.len()"],
+        below: 65_529,
+        why: "an input is at most 65,536 bytes long, and the record is behind 8 of them",
+    },
+    Bound {
+        file: "show.rs",
+        functions: &["~"],
+        texts: &["MOST_INPUT", "byte"],
+        below: 65_537,
+        why: "an input is at most 65,536 bytes long",
+    },
+    Bound {
+        file: "show.rs",
+        functions: &["~"],
+        texts: &["MOST_WORDS", "count#1", "count#2", "count#3", "count#4"],
+        below: 1_795,
+        why: "a grammar has at most 1,794 words",
+    },
+    Bound {
+        file: "show.rs",
+        functions: &["row_lines"],
+        texts: &["words.len()"],
+        below: ROWS,
+        why: "the words of at most 1,024 rows",
+    },
+    Bound {
+        file: "show.rs",
+        functions: &["parts"],
+        texts: &["length", "word"],
+        below: 1 << 32,
+        why: "numbers of 4 bytes",
+    },
+    Bound {
+        file: "writing.rs",
+        functions: &["~"],
+        texts: &["row", "values.len()"],
+        below: ROWS,
+        why: "there are at most 4,096 rows",
+    },
+    Bound {
+        file: "writing.rs",
+        functions: &["~"],
+        texts: &["width", "kind"],
+        below: 9,
+        why: "a width, and a kind of a checked table",
+    },
+    Bound {
+        file: "writing.rs",
+        functions: &["~"],
+        texts: &["count", "elements.packed.len()", "bytes.len()"],
+        below: BYTES,
+        why: "a store, and what is written, is at most 1,048,576 bytes long",
+    },
+    Bound {
+        file: "writing.rs",
+        functions: &["~"],
+        texts: &["children.len()", "*tag#1"],
+        below: 1_025,
+        why: "a node has at most 1,024 children, and the tag is compared before",
+    },
+    Bound {
+        file: "writing.rs",
+        functions: &["bytes"],
+        texts: &["*tag"],
+        below: 1_025,
+        why: "the tag of a value of the grammar",
+    },
+    Bound {
+        file: "writing.rs",
+        functions: &["~"],
+        texts: &["children[0]", "children[*tag as usize]", "field", "number"],
+        below: 256,
+        why: "a node's number",
+    },
+    Bound {
+        file: "writing.rs",
+        functions: &["marshall_val"],
+        texts: &["size_of_v(&value)"],
+        below: 1 << 32,
+        why: "the greatest size is 4,293,951,488",
+    },
+    Bound {
+        file: "writing.rs",
+        functions: &["marshall_val"],
+        texts: &["MOST_BYTES"],
+        below: BYTES,
+        why: "a constant",
+    },
+    Bound {
+        file: "rows.rs",
+        functions: &["elements"],
+        texts: &["row"],
+        below: ROWS,
+        why: "there are at most 4,096 rows",
+    },
+    Bound {
+        file: "rows.rs",
+        functions: &["locate_array"],
+        texts: &["row#2"],
+        below: ROWS,
+        why: "compared with n before",
+    },
+];
+
+/// The exceptions.
+const EXCEPTIONS: [Exception; 54] = [
+    Exception {
+        file: "grammar.rs",
+        functions: &["check_grammar"],
+        texts: &["child as usize <= k", "child#0"],
+        ways: &["left", "signed", "cut", "extend16"],
+        why: "a child of 256 or more is not below N either, which is tested next",
+    },
+    Exception {
+        file: "grammar.rs",
+        functions: &["check_grammar"],
+        texts: &["count#1", "first#1"],
+        ways: &["cut16", "extend16"],
+        why: "a first or count of 65,536 or more is above M, which gives the same refusal",
+    },
+    Exception {
+        file: "grammar.rs",
+        functions: &["fits_kind"],
+        texts: &["count", "first", "count == 0", "first == 0", "count == 1"],
+        ways: &["cut16", "extend16", "left16"],
+        why: "a first or count of 65,536 or more is above M, which gives the same refusal",
+    },
+    Exception {
+        file: "grammar.rs",
+        functions: &["fits_kind"],
+        texts: &["count == 0", "first == 0"],
+        ways: &["<="],
+        why: "no number is below 0",
+    },
+    Exception {
+        file: "grammar.rs",
+        functions: &["check_grammar"],
+        texts: &["end > child_words.len() as u64"],
+        ways: &[
+            "false~for kind 0",
+            "left~for kind 0",
+            "right~for kind 0",
+            "signed~for kind 0",
+            "false~for kind 1",
+            "left~for kind 1",
+            "right~for kind 1",
+            "signed~for kind 1",
+            "false~for kind 2",
+            "left~for kind 2",
+            "right~for kind 2",
+            "signed~for kind 2",
+            "false~for kind 5",
+            "left~for kind 5",
+            "right~for kind 5",
+            "signed~for kind 5",
+            "false~for kind 6",
+            "left~for kind 6",
+            "right~for kind 6",
+            "signed~for kind 6",
+            "false~for kind 7",
+            "left~for kind 7",
+            "right~for kind 7",
+            "signed~for kind 7",
+        ],
+        why: "these kinds have first and count 0, or are refused by the test before it",
+    },
+    Exception {
+        file: "grammar.rs",
+        functions: &["sections"],
+        texts: &["m <= MOST_CHILD_WORDS"],
+        ways: &["signed32"],
+        why: LONG,
+    },
+    Exception {
+        file: "grammar.rs",
+        functions: &["sections"],
+        texts: &["words.len()", "words.len() == 2 + 3 * n + m as usize"],
+        ways: &["cut32", "extend32", "left32"],
+        why: LONG,
+    },
+    Exception {
+        file: "packed.rs",
+        functions: &["digits"],
+        texts: &["rest#0"],
+        ways: &["cut", "extend"],
+        why: "the remainder by 256 is in the lowest 8 bits",
+    },
+    Exception {
+        file: "packed.rs",
+        functions: &["digits", "pack", "pack_seq", "unpack"],
+        texts: &["number", "n", "numbers[0]"],
+        ways: &["cut32 for width 4"],
+        why: "a number of 4 bytes has 32 bits",
+    },
+    Exception {
+        file: "reading.rs",
+        functions: &["capacity"],
+        texts: &["words"],
+        ways: &["cut32", "extend32"],
+        why: LONG,
+    },
+    Exception {
+        file: "reading.rs",
+        functions: &["number"],
+        texts: &["number"],
+        ways: &["cut32 for width 4", "extend32 for width 4"],
+        why: "a number of 4 bytes has 32 bits, and is held in them",
+    },
+    Exception {
+        file: "reading.rs",
+        functions: &["value"],
+        texts: &["number#1"],
+        ways: &["extend32"],
+        why: "the number is held in 32 bits",
+    },
+    Exception {
+        file: "reading.rs",
+        functions: &["read_whole"],
+        texts: &["rest_index < record.len()"],
+        ways: &["!="],
+        why: "a reading stops at the record's end at the latest",
+    },
+    Exception {
+        file: "reading.rs",
+        functions: &["value"],
+        texts: &["self.rows_left == 0"],
+        ways: &["<="],
+        why: "no number is below 0",
+    },
+    Exception {
+        file: "reading.rs",
+        functions: &["rows"],
+        texts: &["below.len()"],
+        ways: &["+1"],
+        why: "a multiple of 4, which is divided by 4",
+    },
+    Exception {
+        file: "rows.rs",
+        functions: &["check_length"],
+        texts: &["bytes.len()"],
+        ways: &["cut32", "extend32"],
+        why: LONG,
+    },
+    Exception {
+        file: "rows.rs",
+        functions: &["children"],
+        texts: &["(values.len() as u64) < count", "child < end"],
+        ways: &["!="],
+        why: "the numbers grow by what is left at most",
+    },
+    Exception {
+        file: "rows.rs",
+        functions: &["children"],
+        texts: &["child == end", "values.len() as u64 == count"],
+        ways: &[">="],
+        why: "the numbers are never above",
+    },
+    Exception {
+        file: "rows.rs",
+        functions: &["elements"],
+        texts: &["place#3"],
+        ways: &["+1", "-1", "cut", "extend"],
+        why: "the offset of a value that is made from rows is not looked at again",
+    },
+    Exception {
+        file: "rows.rs",
+        functions: &["is_valid"],
+        texts: &["1#0"],
+        ways: &["-1"],
+        why: "a value of span 0 lacks its children, which is 13 at the same row",
+    },
+    Exception {
+        file: "rows.rs",
+        functions: &["is_valid"],
+        texts: &["word2 == 0", "word3 == 0"],
+        ways: &["<="],
+        why: "no number is below 0",
+    },
+    Exception {
+        file: "rows.rs",
+        functions: &["table"],
+        texts: &["4 * n > rows.len()", "rows.len()"],
+        ways: &["right32", "signed", "cut32", "extend32"],
+        why: LONG,
+    },
+    Exception {
+        file: "rows.rs",
+        functions: &["value"],
+        texts: &["word2#0"],
+        ways: &["extend32"],
+        why: "the number is held in 32 bits",
+    },
+    Exception {
+        file: "rows.rs",
+        functions: &["whole_value"],
+        texts: &["n#2"],
+        ways: &["+1"],
+        why: "the root's span is n, which was tested",
+    },
+    Exception {
+        file: "same_route.rs",
+        functions: &["are_equal"],
+        texts: &["8"],
+        ways: &["-1", "="],
+        why: "the same bytes are compared, in shorter numbers",
+    },
+    Exception {
+        file: "show.rs",
+        functions: &["parts", "rows"],
+        texts: &["input.len() > MOST_INPUT", "input.len()"],
+        ways: &["left32", "signed", "cut32", "extend32"],
+        why: LONG,
+    },
+    Exception {
+        file: "show.rs",
+        functions: &["parts"],
+        texts: &["length", "word"],
+        ways: &["extend32"],
+        why: "a length of 2^31 or more is no record's; a word is held in 32 bits",
+    },
+    Exception {
+        file: "show.rs",
+        functions: &["refusal_line"],
+        texts: &["row"],
+        ways: &["never"],
+        why: "the show program refuses no row",
+    },
+    Exception {
+        file: "show.rs",
+        functions: &["row_lines"],
+        texts: &["words.len()"],
+        ways: &["+1"],
+        why: "a multiple of 4, which is divided by 4",
+    },
+    Exception {
+        file: "writing.rs",
+        functions: &["array_bytes"],
+        texts: &["elements.packed.len()"],
+        ways: &["+1 for width 4", "+1 for width 8"],
+        why: "a multiple of the width, which is divided by it",
+    },
+    Exception {
+        file: "grammar.rs",
+        functions: &["check_grammar"],
+        texts: &["~for (k, node)"],
+        ways: &["a refusal after", "two statements"],
+        why: "the loop is the last statement but for the acceptance",
+    },
+    Exception {
+        file: "grammar.rs",
+        functions: &["check_grammar"],
+        texts: &["~if kind > 8"],
+        ways: &["two statements"],
+        why: "the statement behind it refuses nothing",
+    },
+    Exception {
+        file: "packed.rs",
+        functions: &["digits"],
+        texts: &["~assert_eq!"],
+        ways: &["a statement left out"],
+        why: "an assertion that holds",
+    },
+    Exception {
+        file: "reading.rs",
+        functions: &["elements"],
+        texts: &["~if count > (rest.len() / width)"],
+        ways: &["two statements"],
+        why: "the statement behind it refuses nothing",
+    },
+    Exception {
+        file: "reading.rs",
+        functions: &["read"],
+        texts: &["~if index > record.len()"],
+        ways: &["two statements"],
+        why: "the statement behind it refuses nothing",
+    },
+    Exception {
+        file: "reading.rs",
+        functions: &["read_whole"],
+        texts: &["~if rest_index < record.len()"],
+        ways: &["a refusal after"],
+        why: "what follows accepts",
+    },
+    Exception {
+        file: "rows.rs",
+        functions: &["value"],
+        texts: &["~if !is_valid"],
+        ways: &["two statements"],
+        why: "the statement behind it refuses nothing",
+    },
+    Exception {
+        file: "show.rs",
+        functions: &["parts"],
+        texts: &["~let grammar ="],
+        ways: &["two statements"],
+        why: "it refuses nothing",
+    },
+    Exception {
+        file: "packed.rs",
+        functions: &["unpack_seq", "write", "end"],
+        texts: &["count", "packed.len()", "bytes.len()", "out.len()", "index#2", "index#3", "index#4", "index#5"],
+        ways: &["cut32", "extend32"],
+        why: LONG,
+    },
+    Exception {
+        file: "packed.rs",
+        functions: &["write"],
+        texts: &["index#1"],
+        ways: &["cut32", "extend32"],
+        why: LONG,
+    },
+    Exception {
+        file: "packed.rs",
+        functions: &["end"],
+        texts: &["index#0"],
+        ways: &["cut32 for width 4", "cut32 for width 8", "extend32 for width 4", "extend32 for width 8"],
+        why: LONG,
+    },
+    Exception {
+        file: "packed.rs",
+        functions: &["unpack_seq"],
+        texts: &["end(index, count, width) > packed.len() as u128"],
+        ways: &["left32", "right32", "signed"],
+        why: LONG,
+    },
+    Exception {
+        file: "packed.rs",
+        functions: &["unpack_seq", "write"],
+        texts: &["index > packed.len()", "end(index, bytes.len(), 1) > out.len() as u128"],
+        ways: &["right32"],
+        why: LONG,
+    },
+    Exception {
+        file: "rows.rs",
+        functions: &["table"],
+        texts: &["n == 0", "n#0"],
+        ways: &["<=", "left16", "left32", "cut16", "cut32", "extend16", "extend32"],
+        why: "an n of 65,536 or more is refused by the next test, with the same answer, and none is below 0",
+    },
+    Exception {
+        file: "rows.rs",
+        functions: &["is_valid"],
+        texts: &["is_word2_valid"],
+        ways: &["true for kind 2", "true for kind 3", "true for kind 4", "true for kind 5", "true for kind 6", "true for kind 7", "true for kind 8"],
+        why: "these kinds have no rule for word 2",
+    },
+    Exception {
+        file: "rows.rs",
+        functions: &["is_valid"],
+        texts: &["is_word3_valid"],
+        ways: &["true for kind 5", "true for kind 6", "true for kind 7"],
+        why: "these kinds have no rule for word 3",
+    },
+    Exception {
+        file: "rows.rs",
+        functions: &["is_valid"],
+        texts: &["8#0", "kind <= 8"],
+        ways: &["+1", "true", "left", "signed"],
+        why: "a row of a kind above 8 that passes is 13 for want of a child",
+    },
+    Exception {
+        file: "rows.rs",
+        functions: &["is_valid"],
+        texts: &["kind"],
+        ways: &["cut", "extend"],
+        why: "a row of a kind above 8 is 13, or passes this test and is 13 for want of a child",
+    },
+    Exception {
+        file: "rows.rs",
+        functions: &["whole_value"],
+        texts: &["rows[0][1] != n as u64", "rows[0][1]"],
+        ways: &["left16", "left32", "right16", "right32", "cut16", "cut32", "extend16", "extend32"],
+        why: "a span of the root above n is 13 at row 0 by the next test, too",
+    },
+    Exception {
+        file: "rows.rs",
+        functions: &["whole_value"],
+        texts: &["rows[0][1] != n as u64"],
+        ways: &["<"],
+        why: "a span of the root above n is 13 at row 0 by the next test, too",
+    },
+    Exception {
+        file: "rows.rs",
+        functions: &["check_rows", "locate_array"],
+        texts: &["n"],
+        ways: &["cut16", "cut32", "extend16", "extend32"],
+        why: "the locator looks at n twice, and each look refuses what the other lets pass",
+    },
+    Exception {
+        file: "same_route.rs",
+        functions: &["are_equal"],
+        texts: &["1"],
+        ways: &["+1", "="],
+        why: "the same bytes are compared, in longer numbers",
+    },
+    Exception {
+        file: "same_route.rs",
+        functions: &["are_equal"],
+        texts: &["4"],
+        ways: &["+1", "-1", "=1"],
+        why: "the same bytes are compared, in longer or shorter numbers",
+    },
+    Exception {
+        file: "show.rs",
+        functions: &["parts"],
+        texts: &["count > MOST_WORDS", "count#0"],
+        ways: &["left16", "left32", "signed", "cut16", "cut32", "extend16", "extend32"],
+        why: "an input with so many words is too long, and one without them too short",
+    },
+];
+
+/// Variants by hand: file, pieces of its text with what stands for each, what is broken.
+pub(super) const BY_HAND: [(&str, &[(&str, &str)], &str); 3] = [
+    (
+        "rows.rs",
+        &[
+            (
+                "    if !is_valid(rows[row], end - row) {",
+                "    if rows[row][0] != 5 && !is_valid(rows[row], end - row) {",
+            ),
+            (
+                "        5 => elements(rows, row, 1, store).map(V::ByteArray),",
+                "        5 => {
+                    let elements = elements(rows, row, 1, store)?;
+                    match is_valid(rows[row], end - row) {
+                        true => Ok(V::ByteArray(elements)),
+                        false => Err(at_row(13, row)),
+                    }
+                }",
+            ),
+        ],
+        "14 before 13 of kind 5",
+    ),
+    (
+        "rows.rs",
+        &[
+            (
+                "    if !is_valid(rows[row], end - row) {",
+                "    if rows[row][0] != 6 && !is_valid(rows[row], end - row) {",
+            ),
+            (
+                "        6 => elements(rows, row, 4, store).map(V::Uint32Array),",
+                "        6 => {
+                    let elements = elements(rows, row, 4, store)?;
+                    match is_valid(rows[row], end - row) {
+                        true => Ok(V::Uint32Array(elements)),
+                        false => Err(at_row(13, row)),
+                    }
+                }",
+            ),
+        ],
+        "14 before 13 of kind 6",
+    ),
+    (
+        "rows.rs",
+        &[
+            (
+                "    if !is_valid(rows[row], end - row) {",
+                "    if rows[row][0] != 7 && !is_valid(rows[row], end - row) {",
+            ),
+            (
+                "        7 => elements(rows, row, 8, store).map(V::Uint64Array),",
+                "        7 => {
+                    let elements = elements(rows, row, 8, store)?;
+                    match is_valid(rows[row], end - row) {
+                        true => Ok(V::Uint64Array(elements)),
+                        false => Err(at_row(13, row)),
+                    }
+                }",
+            ),
+        ],
+        "14 before 13 of kind 7",
+    ),
+];
+
+/// Whether a text is the one listed: `~` stands for all, and before others for what begins or ends
+/// so.
+fn is_listed(text: &str, listed: &str) -> bool {
+    match listed.strip_prefix('~') {
+        Some(part) => text.starts_with(part) || text.ends_with(part),
+        None => text == listed,
+    }
+}
+
+/// Whether a place of this text is among those listed.
+fn is_among(site: &Site, text: &str, file: &str, functions: &[&str], texts: &[&str]) -> bool {
+    let is_text = |listed: &&str| match listed.split_once('#') {
+        Some((listed, nth)) => listed == text && nth == site.nth.to_string(),
+        None => is_listed(text, listed),
+    };
+    site.file == file
+        && functions.iter().any(|name| is_listed(&site.function, name))
+        && texts.iter().any(|listed| is_text(listed))
+}
+
+/// A text without the conversion behind it.
+fn uncast(text: &str) -> &str {
+    const CASTS: [&str; 4] = [" as u32", " as u64", " as usize", " as u128"];
+    let cast = CASTS.iter().find_map(|cast| text.strip_suffix(cast));
+    cast.unwrap_or(text)
+}
+
+/// The bound of a number of this text at a place.
+fn bound(site: &Site, text: &str) -> Option<u64> {
+    let text = uncast(text);
+    let written = text.replace('_', "").parse::<u64>().ok();
+    let listed = BOUNDS
+        .iter()
+        .filter(|bound| is_among(site, text, bound.file, bound.functions, bound.texts));
+    written
+        .map(|number| number + 1)
+        .or(listed.map(|bound| bound.below).min())
+}
+
+/// Whether a mode leaves every number of a place as it is, since they are below a bound.
+pub(super) fn is_bounded(place: &Place, mode: Mode) -> bool {
+    let of = |text: &str| bound(&place.site, text).unwrap_or(u64::MAX);
+    let fits = |below: u64, bits: u32| bits == 64 || below <= 1 << bits;
+    match (mode, &place.sides) {
+        (Mode::Cut(bits), _) => fits(of(&place.site.text), bits),
+        (Mode::Extend(bits), _) => fits(of(&place.site.text), bits - 1),
+        (Mode::CutLeft(bits), Some([left, _])) => fits(of(left), bits),
+        (Mode::CutRight(bits), Some([_, right])) => fits(of(right), bits),
+        (Mode::Signed(bits), Some([left, right])) => fits(of(left).max(of(right)), bits - 1),
+        _ => false,
+    }
+}
+
+/// Refuses a bound that a number seen at its place does not keep.
+pub(super) fn check_bound(place: &Place, greatest: u64) -> io::Result<()> {
+    let Site {
+        file,
+        function,
+        text,
+        ..
+    } = &place.site;
+    let is_broken = |bound: &&Bound| {
+        let is_listed = is_among(&place.site, text, bound.file, bound.functions, bound.texts);
+        is_listed && place.sides.is_none() && greatest >= bound.below
+    };
+    match BOUNDS.iter().find(is_broken) {
+        None => Ok(()),
+        Some(Bound { below, why, .. }) => Err(io::Error::other(format!(
+            "{file} {function}: `{text}` is {greatest}, not below {below}, though {why}"
+        ))),
+    }
+}
+
+/// Whether a way is the one listed, begins with it and goes on with a number or another word, or
+/// begins and ends as the parts around `~`.
+fn is_way(way: &str, listed: &str) -> bool {
+    let goes_on = |rest: &str| rest.starts_with(|c: char| c == ' ' || c.is_ascii_digit());
+    match listed.split_once('~') {
+        Some((start, end)) => way.starts_with(start) && way.ends_with(end),
+        None => way == listed || way.strip_prefix(listed).is_some_and(goes_on),
+    }
+}
+
+/// Why a variant cannot change an answer, if it is so listed.
+pub(super) fn is_excepted(site: &Site, way: &str) -> Option<&'static str> {
+    let text = &site.text;
+    let exception = EXCEPTIONS.iter().find(|exception| {
+        is_among(
+            site,
+            text,
+            exception.file,
+            exception.functions,
+            exception.texts,
+        ) && exception.ways.iter().any(|listed| is_way(way, listed))
+    });
+    exception.map(|exception| exception.why)
+}
+
+/// The entries of both lists that name no place of the model, by file and text.
+pub fn unknown(places: &[Place], changes: &[Change]) -> Vec<String> {
+    let numbers = places.iter().flat_map(|place| {
+        let sides = place.sides.iter().flatten().map(|side| uncast(side));
+        sides
+            .chain([place.site.text.as_str()])
+            .map(|text| (&place.site, text))
+    });
+    let changed = changes
+        .iter()
+        .map(|change| (&change.site, change.site.text.as_str()));
+    let known: Vec<(&Site, &str)> = numbers.chain(changed).collect();
+    let bounds = BOUNDS
+        .iter()
+        .map(|bound| (bound.file, bound.functions, bound.texts));
+    let exceptions = EXCEPTIONS
+        .iter()
+        .map(|entry| (entry.file, entry.functions, entry.texts));
+    let mut unknown = Vec::new();
+    for (file, functions, texts) in bounds.chain(exceptions) {
+        for text in texts {
+            let is_known =
+                |(site, of): &(&Site, &str)| is_among(site, of, file, functions, &[text]);
+            if !known.iter().any(is_known) {
+                unknown.push(format!("{file}: {text}"));
+            }
+        }
+    }
+    unknown
+}
