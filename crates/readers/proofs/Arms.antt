@@ -1,5 +1,6 @@
 -- The arms of the value reader: what was read behind the claimed row is the value of the node.
 use mathlib.Core.Path.{_≡_, refl, ap, sym, subst, _∙_}
+use mathlib.Core.Logic.{_⊎_, ⊎-elim}
 use mathlib.Core.List.{List, [], _∷_, _++_}
 use Prim.Native.Nat.{ℕ, suc, _+_, _-_, _*_, _≤_, _<_}
 use native.Mathlib.Nat.{add-zero}
@@ -29,7 +30,7 @@ use Rattle.readers.specs.declared.State.{State as CodeState}
 use Rattle.readers.specs.declared.Step.{Step as CodeStep}
 use Rattle.readers.specs.declared.Step.the-variants.{Next, Stopped}
 use Rattle.readers.specs.Meaning.{stateOf, stepOf, StepKeeps}
-use Rattle.readers.specs.Reads.{Room, Ready, Node, RowClaimed, Reads, closed, Counted, takeBelow}
+use Rattle.readers.specs.Reads.{Room, Ready, Node, RowClaimed, Leaf, Reads, closed, Counted, takeBelow}
 use Rattle.readers.proofs.Laws.{take-moves, test-accepted, reads-stopped, reads-next, node-inside}
 use Rattle.readers.proofs.Cycle.{went-on, reads-close, array-body, case-body}
 
@@ -276,3 +277,11 @@ counted-value {d} {entry} {mid} {row} u g (Next v) ready l h =
     let w = went-on v refl h in
     let f = agrees-accepted (agrees (u .capacity) d g (stateOf u) (ready .inside)) (record { value = w .0; state = stateOf v }) (w .1) in
     (omega (arith, f .1), omega (arith, f .1, f .2, ready .few, ready .most))
+
+-- kinds 0 to 2 and 5 to 7 have no children
+pub leaf : {w : ℕ} → (w < 3) ⊎ ((4 < w) × (w < 8)) → Leaf w
+leaf {w} h = record {
+  noArray = λ e. ⊎-elim (λ (l : w < 3). omega arith) (λ (l : (4 < w) × (w < 8)). omega arith) h;
+  noTuple = λ e. ⊎-elim (λ (l : w < 3). omega arith) (λ (l : (4 < w) × (w < 8)). omega arith) h;
+  noCase = λ e. ⊎-elim (λ (l : w < 3). omega arith) (λ (l : (4 < w) × (w < 8)). omega arith) h;
+}

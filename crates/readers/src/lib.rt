@@ -4,7 +4,7 @@ ghost use mathlib.Core.List.{_∷_, []};
 ghost use Prim.Native.Nat.{ℕ, _+_, _-_, _*_, _/_, _≤_, _<_, min};
 ghost use lib.ListN.{length, getD};
 ghost use lib.Dec.{leb};
-ghost use Rattle.refusal.specs.Outcome.{accepted, test, reason, byte, map};
+ghost use Rattle.refusal.specs.Outcome.{accepted, refused, test, reason, byte, word as wordAt, map};
 ghost use Rattle.value.specs.Kinds.{Number, numberKind, Elements, elementsKind, elementWidth};
 ghost use Rattle.value.specs.Tree.{VNumber, VNumberArray};
 ghost use Rattle.value.specs.Reading.{claim as claimOf, takeNumber, takeNumbers, move, start, readBody, readVal, readFields};
@@ -211,8 +211,16 @@ fn read_constant(rows: &mut [u64], row: usize, s: State) -> Step
     Step::Next(s)
 }
 
-// A value without children, behind its claimed row. The last arm, which answers as for a kind above 8, is not reached: the
-// cycle reads parents itself, and no kind is above 8 in a table that passes.
+// Refusal 3, at a node's kind word.
+fn refuse_kind(node: usize, s: State) -> Step
+    requires { ⌜ node < 256 ⌝ }
+    ensures { λ r. ⌜ stepOf r ≡ refused (record { why = reason 3 (wordAt (1 + 3 * node)); state = stateOf s }) ⌝ }
+{
+    Step::Stopped(s, refusal::at_word(refusal::NODE_KIND, 1 + 3 * node))
+}
+
+// A value without children, behind its claimed row. The arms that refuse the kind are not reached: the cycle reads parents
+// itself, and no kind is above 8 in a table that passes.
 fn read_leaf(
     grammar: &[u32],
     node: usize,
@@ -229,13 +237,13 @@ fn read_leaf(
         0 => read_constant(rows, row, s),
         1 => read_number(rows, row, 1, s.take4(bytes)),
         2 => read_number(rows, row, 2, s.take8(bytes)),
+        3 => refuse_kind(node, s),
+        4 => refuse_kind(node, s),
         5 => read_elements(bytes, rows, row, 5, 1, s),
         6 => read_elements(bytes, rows, row, 6, 4, s),
         7 => read_elements(bytes, rows, row, 7, 8, s),
-        3 | 4 | 8 | 9..=4294967295 => Step::Stopped(
-            s,
-            refusal::at_word(refusal::NODE_KIND, 1 + 3 * node),
-        ),
+        8 => refuse_kind(node, s),
+        9..=4294967295 => refuse_kind(node, s),
     }
 }
 
@@ -251,14 +259,16 @@ fn read_value(grammar: &[u32], node: usize, bytes: &[u8], rows: &mut [u64], s: S
         Step::Next(t) => {
             let kind = grammar[1 + 3 * node];
             match kind {
-                0 | 1 | 2 | 5 | 6 | 7 => read_leaf(grammar, node, bytes, rows, row, kind, t),
+                0 => read_leaf(grammar, node, bytes, rows, row, kind, t),
+                1 => read_leaf(grammar, node, bytes, rows, row, kind, t),
+                2 => read_leaf(grammar, node, bytes, rows, row, kind, t),
                 3 => read_array(grammar, node, bytes, rows, row, t),
                 4 => read_tuple(grammar, node, bytes, rows, row, t),
+                5 => read_leaf(grammar, node, bytes, rows, row, kind, t),
+                6 => read_leaf(grammar, node, bytes, rows, row, kind, t),
+                7 => read_leaf(grammar, node, bytes, rows, row, kind, t),
                 8 => read_case(grammar, node, bytes, rows, row, t),
-                9..=4294967295 => Step::Stopped(
-                    t,
-                    refusal::at_word(refusal::NODE_KIND, 1 + 3 * node),
-                ),
+                9..=4294967295 => refuse_kind(node, t),
             }
         }
     }

@@ -1,20 +1,25 @@
 -- The readers of the cycle meet their contracts. The measure is the rows still free: three times for a value, two more for an array,
 -- a tuple or a case, one more for contents.
 use mathlib.Core.Path.{_≡_, refl, ap, sym, _∙_}
+use mathlib.Core.Logic.{inl, inr}
+use mathlib.Core.List.{List}
 use Prim.Native.Nat.{_+_, _-_, _*_, _≤_}
 use native.Mathlib.Nat.{sub-zero, add-zero}
 use native.Mathlib.Omega.{arith}
+use Rattle.refusal.proofs.Tests.{none-below}
 use Rattle.value.specs.Tree.{Gs}
 use Rattle.value.specs.Step.{yield, both, elements}
-use Rattle.value.specs.Reading.{readVal, readFields}
-use Rattle.tables.specs.Grammar.{firstWord, countWord}
+use Rattle.value.specs.Reading.{readBody, readVal, readFields}
+use Rattle.tables.specs.Grammar.{kindWord, firstWord, countWord}
 use Rattle.grammar.specs.Tree.{treeOf, childTrees}
 use Rattle.grammar.proofs.Tree.{tree-valid}
+use Rattle.rows.specs.Layout.{rowsOf}
+use Rattle.readers.specs.declared.Step.{Step as CodeStep}
 use Rattle.readers.specs.Meaning.{stateOf}
-use Rattle.readers.specs.Reads.{Ready, takeBelow}
+use Rattle.readers.specs.Reads.{Ready, Reads, takeBelow}
 use Rattle.readers.proofs.Loop.{Remaining, remaining-start, remaining-stopped, remaining-next, remaining-done, few-elements, few-fields, elements-next, elements-none, fields-next, fields-none}
 use Rattle.readers.proofs.Laws.{node-inside, taken-number, taken-stopped}
-use Rattle.readers.proofs.Arms.{Claimed, claimed-next, claim-refused, row-claimed, head-begun, head-below, head-ready, array-count, counted-elements, counted-fields, counted-value, arm-body, arm-array, arm-array-stopped, arm-tuple, arm-case, arm-case-stopped}
+use Rattle.readers.proofs.Arms.{Claimed, claimed-next, claim-refused, row-claimed, leaf, head-begun, head-below, head-ready, array-count, counted-elements, counted-fields, counted-value, arm-body, arm-array, arm-array-stopped, arm-tuple, arm-case, arm-case-stopped}
 use borrow.Author.Needs.{needs}
 use Prim.Native.Nat.{ℕ, _<_}
 use borrow.Fn.Kinds.{In}
@@ -43,7 +48,7 @@ use Rattle.readers.proofs.child_at.Reads as child-at-reads
 use Rattle.readers.proofs.close_row.Reads as close-row-reads
 use Rattle.readers.proofs.word.Reads as word-reads
 use Rattle.readers.proofs.read_leaf.Reads as read-leaf-reads
-use Rattle.refusal.proofs.at_word.Reads as at-word-reads
+use Rattle.readers.proofs.refuse_kind.Reads as refuse-kind-reads
 use Rattle.readers.proofs.+read_array+read_array_contents+read_case+read_tuple+read_tuple_contents+read_value.{statement}
 use Rattle.readers.proofs.+read_array+read_array_contents+read_case+read_tuple+read_tuple_contents+read_value.Tie.{close}
 
@@ -144,7 +149,7 @@ abbrev read-tuple-contents-calls : ℕ → read-tuple-contents-lts.Claims
 read-tuple-contents-calls t = (word-reads.Asked, word-reads.Learnt, child-at-reads.Asked, child-at-reads.Learnt, read-value-below t, read-value.Post)
 
 abbrev read-value-calls : ℕ → read-value-lts.Claims
-read-value-calls t = (claim-reads.Asked, claim-reads.Learnt, read-array-below t, read-array.Post, read-tuple-below t, read-tuple.Post, read-case-below t, read-case.Post, read-leaf-reads.Asked, read-leaf-reads.Learnt, at-word-reads.Asked, at-word-reads.Learnt)
+read-value-calls t = (claim-reads.Asked, claim-reads.Learnt, read-leaf-reads.Asked, read-leaf-reads.Learnt, read-array-below t, read-array.Post, read-tuple-below t, read-tuple.Post, read-case-below t, read-case.Post, refuse-kind-reads.Asked, refuse-kind-reads.Learnt)
 
 -- a count was taken
 count-taken : (t : ℕ) (c : read-array-lts.After-count (read-array-calls t) (read-array-at t) read-array.Post) → yield (c .count .given .0 .0) (stateOf (c .count .given .0 .1 .0)) ≡ takeBelow (c .before .before .before .before .before .before .before .args .bytes .now) (c .before .before .before .before .before .before .before .args .s .capacity - c .before .before .before .before .before .before .before .args .s .begun + 1) 8 (stateOf (c .before .before .before .before .before .before .before .args .s))
@@ -588,38 +593,56 @@ read-value-mul-kind-2 t c = search needs
 read-value-shared-slice-read-kind : (t : ℕ) → read-value-lts.Need-shared-slice-read-kind (read-value-calls t) (read-value-at t) read-value.Post
 read-value-shared-slice-read-kind t c = search needs
 
+read-value-read-leaf-requires : (t : ℕ) → read-value-lts.Need-read-leaf-requires (read-value-calls t) (read-value-at t) read-value.Post
+read-value-read-leaf-requires t c κs =
+    let p = c .before .before .before .before .before .before .before .before .before .before .pre .1 in
+    (row-claimed (p .0) (p .1) (claimed-row t (c .before .before .before .before)) refl, leaf (inl (omega (arith, c .before .match2 .keys1))))
+
+read-value-read-leaf-requires-2 : (t : ℕ) → read-value-lts.Need-read-leaf-requires-2 (read-value-calls t) (read-value-at t) read-value.Post
+read-value-read-leaf-requires-2 t c κs =
+    let p = c .before .before .before .before .before .before .before .before .before .before .pre .1 in
+    (row-claimed (p .0) (p .1) (claimed-row t (c .before .before .before .before)) refl, leaf (inl (omega (arith, c .before .match2 .keys2))))
+
+read-value-read-leaf-requires-3 : (t : ℕ) → read-value-lts.Need-read-leaf-requires-3 (read-value-calls t) (read-value-at t) read-value.Post
+read-value-read-leaf-requires-3 t c κs =
+    let p = c .before .before .before .before .before .before .before .before .before .before .pre .1 in
+    (row-claimed (p .0) (p .1) (claimed-row t (c .before .before .before .before)) refl, leaf (inl (omega (arith, c .before .match2 .keys3))))
+
 read-value-read-array-requires : (t : ℕ) → read-value-lts.Need-read-array-requires (read-value-calls t) (read-value-at t) read-value.Post
 read-value-read-array-requires t c κs =
     let p = c .before .before .before .before .before .before .before .before .before .before .pre in
     let q = claimed-row t (c .before .before .before .before) in
-    (omega (arith, p .0, q .begun, q .capacity, q .free), row-claimed (p .1 .0) (p .1 .1) q (c .before .match2 .keys1))
+    (omega (arith, p .0, q .begun, q .capacity, q .free), row-claimed (p .1 .0) (p .1 .1) q (c .before .match2 .keys4))
 
 read-value-read-tuple-requires : (t : ℕ) → read-value-lts.Need-read-tuple-requires (read-value-calls t) (read-value-at t) read-value.Post
 read-value-read-tuple-requires t c κs =
     let p = c .before .before .before .before .before .before .before .before .before .before .pre in
     let q = claimed-row t (c .before .before .before .before) in
-    (omega (arith, p .0, q .begun, q .capacity, q .free), row-claimed (p .1 .0) (p .1 .1) q (c .before .match2 .keys2))
+    (omega (arith, p .0, q .begun, q .capacity, q .free), row-claimed (p .1 .0) (p .1 .1) q (c .before .match2 .keys5))
+
+read-value-read-leaf-requires-4 : (t : ℕ) → read-value-lts.Need-read-leaf-requires-4 (read-value-calls t) (read-value-at t) read-value.Post
+read-value-read-leaf-requires-4 t c κs =
+    let p = c .before .before .before .before .before .before .before .before .before .before .pre .1 in
+    (row-claimed (p .0) (p .1) (claimed-row t (c .before .before .before .before)) refl, leaf (inr (omega (arith, c .before .match2 .keys6), omega (arith, c .before .match2 .keys6))))
+
+read-value-read-leaf-requires-5 : (t : ℕ) → read-value-lts.Need-read-leaf-requires-5 (read-value-calls t) (read-value-at t) read-value.Post
+read-value-read-leaf-requires-5 t c κs =
+    let p = c .before .before .before .before .before .before .before .before .before .before .pre .1 in
+    (row-claimed (p .0) (p .1) (claimed-row t (c .before .before .before .before)) refl, leaf (inr (omega (arith, c .before .match2 .keys7), omega (arith, c .before .match2 .keys7))))
+
+read-value-read-leaf-requires-6 : (t : ℕ) → read-value-lts.Need-read-leaf-requires-6 (read-value-calls t) (read-value-at t) read-value.Post
+read-value-read-leaf-requires-6 t c κs =
+    let p = c .before .before .before .before .before .before .before .before .before .before .pre .1 in
+    (row-claimed (p .0) (p .1) (claimed-row t (c .before .before .before .before)) refl, leaf (inr (omega (arith, c .before .match2 .keys8), omega (arith, c .before .match2 .keys8))))
 
 read-value-read-case-requires : (t : ℕ) → read-value-lts.Need-read-case-requires (read-value-calls t) (read-value-at t) read-value.Post
 read-value-read-case-requires t c κs =
     let p = c .before .before .before .before .before .before .before .before .before .before .pre in
     let q = claimed-row t (c .before .before .before .before) in
-    (omega (arith, p .0, q .begun, q .capacity, q .free), row-claimed (p .1 .0) (p .1 .1) q (c .before .match2 .keys3))
+    (omega (arith, p .0, q .begun, q .capacity, q .free), row-claimed (p .1 .0) (p .1 .1) q (c .before .match2 .keys9))
 
-read-value-read-leaf-requires : (t : ℕ) → read-value-lts.Need-read-leaf-requires (read-value-calls t) (read-value-at t) read-value.Post
-read-value-read-leaf-requires t c κs =
-    let p = c .before .before .before .before .before .before .before .before .before .before .before .pre .1 in
-    let r = c .before .before .match2 .rest in
-    (row-claimed (p .0) (p .1) (claimed-row t (c .before .before .before .before .before)) refl, record { noArray = r .0 .0 .1; noTuple = r .0 .1; noCase = r .1 })
-
-read-value-mul-at-word : (t : ℕ) → read-value-lts.Need-mul-at-word (read-value-calls t) (read-value-at t) read-value.Post
-read-value-mul-at-word t c = search needs
-
-read-value-add-at-word : (t : ℕ) → read-value-lts.Need-add-at-word (read-value-calls t) (read-value-at t) read-value.Post
-read-value-add-at-word t c = search needs
-
-read-value-at-word-requires : (t : ℕ) → read-value-lts.Need-at-word-requires (read-value-calls t) (read-value-at t) read-value.Post
-read-value-at-word-requires t c κs = search needs
+read-value-refuse-kind-requires : (t : ℕ) → read-value-lts.Need-refuse-kind-requires (read-value-calls t) (read-value-at t) read-value.Post
+read-value-refuse-kind-requires t c κs = node-inside (c .before .before .before .before .before .before .before .before .before .args .grammar .now) (c .before .before .before .before .before .before .before .before .before .args .node) (c .before .before .before .before .before .before .before .before .before .pre .1 .0) .1
 
 read-value-returns : (t : ℕ) → read-value-lts.Need-returns (read-value-calls t) (read-value-at t) read-value.Post
 read-value-returns t c =
@@ -627,51 +650,77 @@ read-value-returns t c =
     let g = c .before .t .given in
     claim-refused (a .bytes .now) (treeOf (a .grammar .now) (a .node)) (a .s) (g .0 .0) (g .0 .1 .0) (g .1) (c .before .before .before .claim .ensures .0) (c .before .before .before .claim .ensures .1)
 
+-- what was read behind the claimed row is the value
+arm : (t : ℕ) (c : read-value-lts.After-t2 (read-value-calls t) (read-value-at t) read-value.Post) {r : CodeStep} {exit : List ℕ} →
+    let a = c .before .before .before .before .before .before .args in
+    let u = c .t2 .given .0 .0 in
+    Reads rowsOf (readBody (u .capacity) (a .bytes .now) (treeOf (a .grammar .now) (a .node)) (stateOf u)) (u .capacity) (a .s .begun) (u .at) (a .rows .now) r exit →
+    Reads rowsOf (readVal (a .s .capacity) (a .bytes .now) (treeOf (a .grammar .now) (a .node)) (stateOf (a .s))) (a .s .capacity) (a .s .begun) (a .s .at) (a .rows .now) r exit
+arm t c h =
+    let a = c .before .before .before .before .before .before .args in
+    let p = c .before .before .before .before .before .before .pre .1 in
+    arm-body (a .grammar .now) (a .node) (a .bytes .now) (a .rows .now) (a .s) (c .t2 .given .0 .0) (p .0) (p .1) (claimed-row t c) h
+
 read-value-same-length : (t : ℕ) → read-value-lts.Need-same-length (read-value-calls t) (read-value-at t) read-value.Post
 read-value-same-length t c = search needs
 
 read-value-returns-2 : (t : ℕ) → read-value-lts.Need-returns-2 (read-value-calls t) (read-value-at t) read-value.Post
-read-value-returns-2 t c =
-    let a = c .before .before .before .before .before .before .before .before .before .before .before .before .before .args in
-    let p = c .before .before .before .before .before .before .before .before .before .before .before .before .before .pre .1 in
-    let q = claimed-row t (c .before .before .before .before .before .before .before) in
-    arm-body (a .grammar .now) (a .node) (a .bytes .now) (a .rows .now) (a .s) (c .before .before .before .before .before .before .before .t2 .given .0 .0) (p .0) (p .1) q (c .before .before .read-array .ensures)
+read-value-returns-2 t c = arm t (c .before .before .before .before .before .before .before) (c .before .before .read-leaf .ensures)
 
 read-value-same-length-2 : (t : ℕ) → read-value-lts.Need-same-length-2 (read-value-calls t) (read-value-at t) read-value.Post
 read-value-same-length-2 t c = search needs
 
 read-value-returns-3 : (t : ℕ) → read-value-lts.Need-returns-3 (read-value-calls t) (read-value-at t) read-value.Post
-read-value-returns-3 t c =
-    let a = c .before .before .before .before .before .before .before .before .before .before .before .before .before .args in
-    let p = c .before .before .before .before .before .before .before .before .before .before .before .before .before .pre .1 in
-    let q = claimed-row t (c .before .before .before .before .before .before .before) in
-    arm-body (a .grammar .now) (a .node) (a .bytes .now) (a .rows .now) (a .s) (c .before .before .before .before .before .before .before .t2 .given .0 .0) (p .0) (p .1) q (c .before .before .read-tuple .ensures)
+read-value-returns-3 t c = arm t (c .before .before .before .before .before .before .before) (c .before .before .read-leaf2 .ensures)
 
 read-value-same-length-3 : (t : ℕ) → read-value-lts.Need-same-length-3 (read-value-calls t) (read-value-at t) read-value.Post
 read-value-same-length-3 t c = search needs
 
 read-value-returns-4 : (t : ℕ) → read-value-lts.Need-returns-4 (read-value-calls t) (read-value-at t) read-value.Post
-read-value-returns-4 t c =
-    let a = c .before .before .before .before .before .before .before .before .before .before .before .before .before .args in
-    let p = c .before .before .before .before .before .before .before .before .before .before .before .before .before .pre .1 in
-    let q = claimed-row t (c .before .before .before .before .before .before .before) in
-    arm-body (a .grammar .now) (a .node) (a .bytes .now) (a .rows .now) (a .s) (c .before .before .before .before .before .before .before .t2 .given .0 .0) (p .0) (p .1) q (c .before .before .read-case .ensures)
+read-value-returns-4 t c = arm t (c .before .before .before .before .before .before .before) (c .before .before .read-leaf3 .ensures)
 
 read-value-same-length-4 : (t : ℕ) → read-value-lts.Need-same-length-4 (read-value-calls t) (read-value-at t) read-value.Post
 read-value-same-length-4 t c = search needs
 
 read-value-returns-5 : (t : ℕ) → read-value-lts.Need-returns-5 (read-value-calls t) (read-value-at t) read-value.Post
-read-value-returns-5 t c =
-    let a = c .before .before .before .before .before .before .before .before .before .before .before .before .before .before .args in
-    let p = c .before .before .before .before .before .before .before .before .before .before .before .before .before .before .pre .1 in
-    let q = claimed-row t (c .before .before .before .before .before .before .before .before) in
-    arm-body (a .grammar .now) (a .node) (a .bytes .now) (a .rows .now) (a .s) (c .before .before .before .before .before .before .before .before .t2 .given .0 .0) (p .0) (p .1) q (c .before .before .read-leaf .ensures)
+read-value-returns-5 t c = arm t (c .before .before .before .before .before .before .before) (c .before .before .read-array .ensures)
+
+read-value-same-length-5 : (t : ℕ) → read-value-lts.Need-same-length-5 (read-value-calls t) (read-value-at t) read-value.Post
+read-value-same-length-5 t c = search needs
 
 read-value-returns-6 : (t : ℕ) → read-value-lts.Need-returns-6 (read-value-calls t) (read-value-at t) read-value.Post
-read-value-returns-6 t c =
-    let a = c .before .before .before .before .before .before .before .before .before .before .before .args in
-    let k = node-inside (a .grammar .now) (a .node) (c .before .before .before .before .before .before .before .before .before .before .before .pre .1 .0) .2 in
-    absurd (c .before .before .match2 .rest .1 (omega (arith, c .before .if1 .left)))
+read-value-returns-6 t c = arm t (c .before .before .before .before .before .before .before) (c .before .before .read-tuple .ensures)
+
+read-value-same-length-6 : (t : ℕ) → read-value-lts.Need-same-length-6 (read-value-calls t) (read-value-at t) read-value.Post
+read-value-same-length-6 t c = search needs
+
+read-value-returns-7 : (t : ℕ) → read-value-lts.Need-returns-7 (read-value-calls t) (read-value-at t) read-value.Post
+read-value-returns-7 t c = arm t (c .before .before .before .before .before .before .before) (c .before .before .read-leaf4 .ensures)
+
+read-value-same-length-7 : (t : ℕ) → read-value-lts.Need-same-length-7 (read-value-calls t) (read-value-at t) read-value.Post
+read-value-same-length-7 t c = search needs
+
+read-value-returns-8 : (t : ℕ) → read-value-lts.Need-returns-8 (read-value-calls t) (read-value-at t) read-value.Post
+read-value-returns-8 t c = arm t (c .before .before .before .before .before .before .before) (c .before .before .read-leaf5 .ensures)
+
+read-value-same-length-8 : (t : ℕ) → read-value-lts.Need-same-length-8 (read-value-calls t) (read-value-at t) read-value.Post
+read-value-same-length-8 t c = search needs
+
+read-value-returns-9 : (t : ℕ) → read-value-lts.Need-returns-9 (read-value-calls t) (read-value-at t) read-value.Post
+read-value-returns-9 t c = arm t (c .before .before .before .before .before .before .before) (c .before .before .read-leaf6 .ensures)
+
+read-value-same-length-9 : (t : ℕ) → read-value-lts.Need-same-length-9 (read-value-calls t) (read-value-at t) read-value.Post
+read-value-same-length-9 t c = search needs
+
+read-value-returns-10 : (t : ℕ) → read-value-lts.Need-returns-10 (read-value-calls t) (read-value-at t) read-value.Post
+read-value-returns-10 t c = arm t (c .before .before .before .before .before .before .before) (c .before .before .read-case .ensures)
+
+read-value-returns-11 : (t : ℕ) → read-value-lts.Need-returns-11 (read-value-calls t) (read-value-at t) read-value.Post
+read-value-returns-11 t c =
+    let a = c .before .before .before .before .before .before .before .before .before .before .args in
+    let h = none-below 9 (kindWord (a .grammar .now) (a .node)) (c .before .match2 .rest) in
+    let k = node-inside (a .grammar .now) (a .node) (c .before .before .before .before .before .before .before .before .before .before .pre .1 .0) .2 in
+    absurd (omega arith)
 
 pub +read-array+read-array-contents+read-case+read-tuple+read-tuple-contents+read-value-spec : {M : Type 1} → statement M
 +read-array+read-array-contents+read-case+read-tuple+read-tuple-contents+read-value-spec =
@@ -775,13 +824,16 @@ pub +read-array+read-array-contents+read-case+read-tuple+read-tuple-contents+rea
     (read-value-add-kind t)
     (read-value-mul-kind-2 t)
     (read-value-shared-slice-read-kind t)
+    (read-value-read-leaf-requires t)
+    (read-value-read-leaf-requires-2 t)
+    (read-value-read-leaf-requires-3 t)
     (read-value-read-array-requires t)
     (read-value-read-tuple-requires t)
+    (read-value-read-leaf-requires-4 t)
+    (read-value-read-leaf-requires-5 t)
+    (read-value-read-leaf-requires-6 t)
     (read-value-read-case-requires t)
-    (read-value-read-leaf-requires t)
-    (read-value-mul-at-word t)
-    (read-value-add-at-word t)
-    (read-value-at-word-requires t)
+    (read-value-refuse-kind-requires t)
     (read-value-returns t)
     (read-value-same-length t)
     (read-value-returns-2 t)
@@ -791,4 +843,14 @@ pub +read-array+read-array-contents+read-case+read-tuple+read-tuple-contents+rea
     (read-value-returns-4 t)
     (read-value-same-length-4 t)
     (read-value-returns-5 t)
+    (read-value-same-length-5 t)
     (read-value-returns-6 t)
+    (read-value-same-length-6 t)
+    (read-value-returns-7 t)
+    (read-value-same-length-7 t)
+    (read-value-returns-8 t)
+    (read-value-same-length-8 t)
+    (read-value-returns-9 t)
+    (read-value-same-length-9 t)
+    (read-value-returns-10 t)
+    (read-value-returns-11 t)

@@ -32,14 +32,17 @@ read-elements-requires-2 c κs = search needs
 read-elements-requires-3 : tie.Need-read-elements-requires-3
 read-elements-requires-3 c κs = search needs
 
-mul-at-word : tie.Need-mul-at-word
-mul-at-word c = search needs
+refuse-kind-requires : tie.Need-refuse-kind-requires
+refuse-kind-requires c κs = node-inside (c .before .before .before .before .args .grammar .now) (c .before .before .before .before .args .node) (c .before .before .before .before .pre .0 .node) .1
 
-add-at-word : tie.Need-add-at-word
-add-at-word c = search needs
+refuse-kind-requires-2 : tie.Need-refuse-kind-requires-2
+refuse-kind-requires-2 c κs = node-inside (c .before .before .before .before .args .grammar .now) (c .before .before .before .before .args .node) (c .before .before .before .before .pre .0 .node) .1
 
-at-word-requires : tie.Need-at-word-requires
-at-word-requires c κs = search needs
+refuse-kind-requires-3 : tie.Need-refuse-kind-requires-3
+refuse-kind-requires-3 c κs = node-inside (c .before .before .before .before .args .grammar .now) (c .before .before .before .before .args .node) (c .before .before .before .before .pre .0 .node) .1
+
+refuse-kind-requires-4 : tie.Need-refuse-kind-requires-4
+refuse-kind-requires-4 c κs = node-inside (c .before .before .before .before .args .grammar .now) (c .before .before .before .before .args .node) (c .before .before .before .before .pre .0 .node) .1
 
 same-length : tie.Need-same-length
 same-length c = search needs
@@ -65,32 +68,39 @@ returns-3 c =
     let n = c .before .before .before .take8 in
     leaf-number (c .before .before .before .before .before .before .before .before .before .pre .0) uint64 (c .before .before .before .before .before .match .keys3) (n .ensures .0) (c .before .before .read-number2 .ensures uint64 (a .s .capacity) (a .s .at) refl (n .ensures .1))
 
+returns-4 : tie.Need-returns-4
+returns-4 c = absurd (c .before .before .before .before .before .pre .1 .noArray (c .before .match .keys4))
+
+returns-5 : tie.Need-returns-5
+returns-5 c = absurd (c .before .before .before .before .before .pre .1 .noTuple (c .before .match .keys5))
+
 same-length-4 : tie.Need-same-length-4
 same-length-4 c = search needs
 
-returns-4 : tie.Need-returns-4
-returns-4 c = leaf-elements (c .before .before .before .before .before .before .before .before .pre .0) byteElements (c .before .before .before .before .match .keys4) (c .before .before .read-elements .ensures byteElements refl refl)
+returns-6 : tie.Need-returns-6
+returns-6 c = leaf-elements (c .before .before .before .before .before .before .before .before .pre .0) byteElements (c .before .before .before .before .match .keys6) (c .before .before .read-elements .ensures byteElements refl refl)
 
 same-length-5 : tie.Need-same-length-5
 same-length-5 c = search needs
 
-returns-5 : tie.Need-returns-5
-returns-5 c = leaf-elements (c .before .before .before .before .before .before .before .before .pre .0) uint32s (c .before .before .before .before .match .keys5) (c .before .before .read-elements2 .ensures uint32s refl refl)
+returns-7 : tie.Need-returns-7
+returns-7 c = leaf-elements (c .before .before .before .before .before .before .before .before .pre .0) uint32s (c .before .before .before .before .match .keys7) (c .before .before .read-elements2 .ensures uint32s refl refl)
 
 same-length-6 : tie.Need-same-length-6
 same-length-6 c = search needs
 
-returns-6 : tie.Need-returns-6
-returns-6 c = leaf-elements (c .before .before .before .before .before .before .before .before .pre .0) uint64s (c .before .before .before .before .match .keys6) (c .before .before .read-elements3 .ensures uint64s refl refl)
+returns-8 : tie.Need-returns-8
+returns-8 c = leaf-elements (c .before .before .before .before .before .before .before .before .pre .0) uint64s (c .before .before .before .before .match .keys8) (c .before .before .read-elements3 .ensures uint64s refl refl)
 
-returns-7 : tie.Need-returns-7
-returns-7 c =
-    let a = c .before .before .before .before .before .args in
-    let p = c .before .before .before .before .before .pre in
-    let r = c .before .match .rest in
-    let h = none-below 9 (a .kind) ((((((r .0 .0 .0, p .1 .noArray), p .1 .noTuple), r .0 .0 .1), r .0 .1), r .1), p .1 .noCase) in
-    let k = node-inside (a .grammar .now) (a .node) (p .0 .node) .2 in
-    absurd (omega (arith, p .0 .kind))
+returns-9 : tie.Need-returns-9
+returns-9 c = absurd (c .before .before .before .before .before .pre .1 .noCase (c .before .match .keys9))
+
+returns-10 : tie.Need-returns-10
+returns-10 c =
+    let s = c .before .before .before .before .before in
+    let h = none-below 9 (s .args .kind) (c .before .match .rest) in
+    let k = node-inside (s .args .grammar .now) (s .args .node) (s .pre .0 .node) .2 in
+    absurd (omega (arith, s .pre .0 .kind))
 
 pub read-leaf-spec : {M : Type 1} → statement M
 read-leaf-spec =
@@ -101,22 +111,26 @@ read-leaf-spec =
     read-number-requires
     take8-requires
     read-number-requires-2
+    refuse-kind-requires
+    refuse-kind-requires-2
     read-elements-requires
     read-elements-requires-2
     read-elements-requires-3
-    mul-at-word
-    add-at-word
-    at-word-requires
+    refuse-kind-requires-3
+    refuse-kind-requires-4
     same-length
     returns
     same-length-2
     returns-2
     same-length-3
     returns-3
-    same-length-4
     returns-4
-    same-length-5
     returns-5
-    same-length-6
+    same-length-4
     returns-6
-    returns-7)
+    same-length-5
+    returns-7
+    same-length-6
+    returns-8
+    returns-9
+    returns-10)
