@@ -108,7 +108,7 @@ node-tree g node n w k e f = tree-node g (n .passes) node (n .below) ∙ ap (λ 
 
 -- The claimed row, then the body.
 
-module _ (g : List ℕ) (node : ℕ) (d entry : List ℕ) (s t : CodeState) (n : Node g node) (ready : Ready d entry s) (c : Claimed s t) where
+module _ (g : List ℕ) (node : ℕ) (d entry : List ℕ) (s t : CodeState) (c : Claimed s t) where
   -- reading the node is reading its body behind the claimed row
   body : (x : G) → treeOf g node ≡ x → readVal (s .capacity) d (treeOf g node) (stateOf s) ≡ readBody (s .capacity) d x (stateOf t)
   body x e = ap (λ (o : Outcome Stop State). bind o (readBody (s .capacity) d (treeOf g node))) (c .claimed) ∙ ap (λ (y : G). readBody (s .capacity) d y (stateOf t)) e
@@ -123,7 +123,7 @@ module _ (g : List ℕ) (node : ℕ) (d entry : List ℕ) (s t : CodeState) (n :
       (subst (λ (p : ℕ). Reads rowsOf (readBody (s .capacity) d (treeOf g node) (stateOf t)) (s .capacity) (s .begun) p entry r exit) (c .at)
       (subst (λ (m : ℕ). Reads rowsOf (readBody m d (treeOf g node) (stateOf t)) m (s .begun) (t .at) entry r exit) (c .capacity) h))
 
--- Arrays, tuples and cases.
+-- Behind the claimed row.
 
 module _ {g d entry : List ℕ} {node w row : ℕ} {s : CodeState} (p : RowClaimed g d entry node w row s) where
   own-free : row < s .capacity

@@ -10,7 +10,7 @@ use Rattle.refusal.specs.Meaning.{reasonOf}
 use Rattle.refusal.specs.declared.Refusal.{Refusal}
 use Rattle.value.specs.Tree.{G, Gs, Val, Vals, vnil, ValidGrammar, rowCounts}
 use Rattle.value.specs.Step.{Step, yield, both, elements}
-use Rattle.value.specs.Reading.{State, Reading, free, readVal, readBody, readFields}
+use Rattle.value.specs.Reading.{State, Reading, readVal, readBody, readFields}
 use Rattle.value.proofs.Agreement.{agrees, agrees-elements, agrees-fields, agrees-accepted}
 use Rattle.tables.specs.Grammar.{childWord}
 use Rattle.grammar.specs.Tree.{treeOf, childTrees}

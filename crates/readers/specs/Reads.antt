@@ -43,7 +43,7 @@ pub record RowClaimed (g d rows : List ℕ) (k w row : ℕ) (s : CodeState) : Ty
   pub ready : Ready d rows s
   pub claimed : s .begun ≡ row + 1
 
--- a kind whose values have no children
+-- neither array, tuple nor case
 pub record Leaf (w : ℕ) : Type 0 where
   pub noArray : w ≡ 3 → ⊥
   pub noTuple : w ≡ 4 → ⊥

@@ -452,7 +452,8 @@ fn capacity_within(capacity: usize, words: usize) -> usize
 }
 
 // A value of the root from the index on, whole where the record is to end with it: 1 to 7, then the reading as a check,
-// and only where that is accepted the rows lent are filled, so that a refusal leaves every row as it was.
+// and only where that is accepted the rows lent are filled, so that a refusal leaves every row as it was. A slice with no words
+// is no rows lent: a check at the capacity asked for.
 pub fn read(
     grammar: &[u32],
     record: &[u8],

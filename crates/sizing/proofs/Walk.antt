@@ -19,7 +19,6 @@ use Rattle.refusal.proofs.Tests.{NoneBelow, reflects-eqb, reflects-ltb, reflect
 use Rattle.refusal.proofs.Meaning.{done, stopped}
 use Rattle.value.specs.Kinds.{numberKind, elementsKind, Number, uint32, uint64, Elements, bytes, uint32s, uint64s, kinds, lastKind, kindOf, other}
 use Rattle.value.specs.Tree.{G, Gs, Val, Vals, VConstant, VNumber, VArray, VTuple, VNumberArray, VCase, vnil, vcons, seqG, seqV, caseAt, rowCount, rowCounts}
-use Rattle.value.proofs.Agreement.{rowCount-positive}
 use Rattle.tables.specs.Grammar.{nodeCount, kindWord, firstWord, countWord, childWord}
 use Rattle.grammar.specs.Rule.{Passes}
 use Rattle.grammar.specs.Tree.{nodeTree, childTrees, treeOf}
@@ -228,9 +227,6 @@ module _ (t s : List ℕ) (i : ℕ) (g : G) (v : Val) (h : StandFor t s i v) whe
 
 -- what stands in a row that stands
 module _ (t : List ℕ) (i : ℕ) (h : Standing t i) where
-  pub row-inside : rowWidth * i + rowWidth ≤ length t
-  row-inside = omega (arith, h .within, rowCount-positive (h .value))
-
   children-stand : (vs : Vals) → rowCount (h .value) ≡ 1 + rowCounts vs → StandForAll t (h .store) (suc i) vs → {n : ℕ} → length (seqV vs) ≡ n → StandingAll t n (i + 1)
   children-stand vs c r m = rw add-one (record { store = h .store; values = vs; rows = r; many = m; within = omega (arith, h .within) })
 

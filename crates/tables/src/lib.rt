@@ -87,7 +87,7 @@ pub fn word(words: &[u32], at: usize) -> usize
     0
 }
 
-// The first child word of a node.
+// Which child word is a node's first.
 fn first_word(words: &[u32], node: usize) -> usize
     ensures { λ r. ⌜ (r ≡ firstWord (now (words .entry)) node) × (r < 4294967296) ⌝ }
 {

@@ -658,8 +658,7 @@ arm : (t : ℕ) (c : read-value-lts.After-t2 (read-value-calls t) (read-value-at
     Reads rowsOf (readVal (a .s .capacity) (a .bytes .now) (treeOf (a .grammar .now) (a .node)) (stateOf (a .s))) (a .s .capacity) (a .s .begun) (a .s .at) (a .rows .now) r exit
 arm t c h =
     let a = c .before .before .before .before .before .before .args in
-    let p = c .before .before .before .before .before .before .pre .1 in
-    arm-body (a .grammar .now) (a .node) (a .bytes .now) (a .rows .now) (a .s) (c .t2 .given .0 .0) (p .0) (p .1) (claimed-row t c) h
+    arm-body (a .grammar .now) (a .node) (a .bytes .now) (a .rows .now) (a .s) (c .t2 .given .0 .0) (claimed-row t c) h
 
 read-value-same-length : (t : ℕ) → read-value-lts.Need-same-length (read-value-calls t) (read-value-at t) read-value.Post
 read-value-same-length t c = search needs
