@@ -1,9 +1,8 @@
 -- Putting what was decided.
 use mathlib.Core.Path.{_≡_, ap, sym, _∙_}
 use mathlib.Core.List.{List}
-use Prim.Native.Nat.{ℕ, _+_, _*_, _^_, _≤_, _<_}
+use Prim.Native.Nat.{ℕ, _+_, _^_, _≤_, _<_}
 use native.Mathlib.Omega.{arith}
-use lib.ListN.{length}
 use Rattle.refusal.specs.Outcome.{Outcome, accepted, refused, map, contents, Reason}
 use Rattle.refusal.specs.Meaning.{reasonOf}
 use Rattle.refusal.specs.declared.Refusal.{Refusal}
