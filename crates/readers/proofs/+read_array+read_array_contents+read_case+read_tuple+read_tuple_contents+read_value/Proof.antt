@@ -16,7 +16,7 @@ use Rattle.grammar.proofs.Tree.{tree-valid}
 use Rattle.rows.specs.Layout.{rowsOf}
 use Rattle.readers.specs.declared.Step.{Step as CodeStep}
 use Rattle.readers.specs.Meaning.{stateOf}
-use Rattle.readers.specs.Reads.{Ready, Reads, takeBelow}
+use Rattle.readers.specs.Reads.{Ready, RowClaimed, Reads, takeBelow}
 use Rattle.readers.proofs.Loop.{Remaining, remaining-start, remaining-stopped, remaining-next, remaining-done, few-elements, few-fields, elements-next, elements-none, fields-next, fields-none}
 use Rattle.readers.proofs.Laws.{node-inside, taken-number, taken-stopped}
 use Rattle.readers.proofs.Arms.{Claimed, claimed-next, claim-refused, row-claimed, leaf, head-begun, head-below, head-ready, array-count, counted-elements, counted-fields, counted-value, arm-body, arm-array, arm-array-stopped, arm-tuple, arm-case, arm-case-stopped}
@@ -572,6 +572,10 @@ read-tuple-contents-returns-2 t c =
 claimed-row : (t : ℕ) (c : read-value-lts.After-t2 (read-value-calls t) (read-value-at t) read-value.Post) → Claimed (c .before .before .before .before .before .before .args .s) (c .t2 .given .0 .0)
 claimed-row t c = claimed-next (c .before .before .before .before .before .before .args .s) (c .t2 .given .0 .0) (c .t2 .given .1) (c .before .before .claim .ensures .0) (c .before .before .claim .ensures .1)
 
+-- so a reader behind the claim may be called, by the kind word w
+claimed : (t : ℕ) (c : read-value-lts.After-t2 (read-value-calls t) (read-value-at t) read-value.Post) {w : ℕ} → let a = c .before .before .before .before .before .before .args in kindWord (a .grammar .now) (a .node) ≡ w → RowClaimed (a .grammar .now) (a .bytes .now) (a .rows .now) (a .node) w (a .s .begun) (c .t2 .given .0 .0)
+claimed t c e = let p = c .before .before .before .before .before .before .pre .1 in row-claimed (p .0) (p .1) (claimed-row t c) e
+
 read-value-claim-requires : (t : ℕ) → read-value-lts.Need-claim-requires (read-value-calls t) (read-value-at t) read-value.Post
 read-value-claim-requires t c κs = search needs
 
@@ -594,52 +598,37 @@ read-value-shared-slice-read-kind : (t : ℕ) → read-value-lts.Need-shared-sli
 read-value-shared-slice-read-kind t c = search needs
 
 read-value-read-leaf-requires : (t : ℕ) → read-value-lts.Need-read-leaf-requires (read-value-calls t) (read-value-at t) read-value.Post
-read-value-read-leaf-requires t c κs =
-    let p = c .before .before .before .before .before .before .before .before .before .before .pre .1 in
-    (row-claimed (p .0) (p .1) (claimed-row t (c .before .before .before .before)) refl, leaf (inl (omega (arith, c .before .match2 .keys1))))
+read-value-read-leaf-requires t c κs = (claimed t (c .before .before .before .before) refl, leaf (inl (omega (arith, c .before .match2 .keys1))))
 
 read-value-read-leaf-requires-2 : (t : ℕ) → read-value-lts.Need-read-leaf-requires-2 (read-value-calls t) (read-value-at t) read-value.Post
-read-value-read-leaf-requires-2 t c κs =
-    let p = c .before .before .before .before .before .before .before .before .before .before .pre .1 in
-    (row-claimed (p .0) (p .1) (claimed-row t (c .before .before .before .before)) refl, leaf (inl (omega (arith, c .before .match2 .keys2))))
+read-value-read-leaf-requires-2 t c κs = (claimed t (c .before .before .before .before) refl, leaf (inl (omega (arith, c .before .match2 .keys2))))
 
 read-value-read-leaf-requires-3 : (t : ℕ) → read-value-lts.Need-read-leaf-requires-3 (read-value-calls t) (read-value-at t) read-value.Post
-read-value-read-leaf-requires-3 t c κs =
-    let p = c .before .before .before .before .before .before .before .before .before .before .pre .1 in
-    (row-claimed (p .0) (p .1) (claimed-row t (c .before .before .before .before)) refl, leaf (inl (omega (arith, c .before .match2 .keys3))))
+read-value-read-leaf-requires-3 t c κs = (claimed t (c .before .before .before .before) refl, leaf (inl (omega (arith, c .before .match2 .keys3))))
 
 read-value-read-array-requires : (t : ℕ) → read-value-lts.Need-read-array-requires (read-value-calls t) (read-value-at t) read-value.Post
 read-value-read-array-requires t c κs =
-    let p = c .before .before .before .before .before .before .before .before .before .before .pre in
     let q = claimed-row t (c .before .before .before .before) in
-    (omega (arith, p .0, q .begun, q .capacity, q .free), row-claimed (p .1 .0) (p .1 .1) q (c .before .match2 .keys4))
+    (omega (arith, c .before .before .before .before .before .before .before .before .before .before .pre .0, q .begun, q .capacity, q .free), claimed t (c .before .before .before .before) (c .before .match2 .keys4))
 
 read-value-read-tuple-requires : (t : ℕ) → read-value-lts.Need-read-tuple-requires (read-value-calls t) (read-value-at t) read-value.Post
 read-value-read-tuple-requires t c κs =
-    let p = c .before .before .before .before .before .before .before .before .before .before .pre in
     let q = claimed-row t (c .before .before .before .before) in
-    (omega (arith, p .0, q .begun, q .capacity, q .free), row-claimed (p .1 .0) (p .1 .1) q (c .before .match2 .keys5))
+    (omega (arith, c .before .before .before .before .before .before .before .before .before .before .pre .0, q .begun, q .capacity, q .free), claimed t (c .before .before .before .before) (c .before .match2 .keys5))
 
 read-value-read-leaf-requires-4 : (t : ℕ) → read-value-lts.Need-read-leaf-requires-4 (read-value-calls t) (read-value-at t) read-value.Post
-read-value-read-leaf-requires-4 t c κs =
-    let p = c .before .before .before .before .before .before .before .before .before .before .pre .1 in
-    (row-claimed (p .0) (p .1) (claimed-row t (c .before .before .before .before)) refl, leaf (inr (omega (arith, c .before .match2 .keys6), omega (arith, c .before .match2 .keys6))))
+read-value-read-leaf-requires-4 t c κs = (claimed t (c .before .before .before .before) refl, leaf (inr (omega (arith, c .before .match2 .keys6), omega (arith, c .before .match2 .keys6))))
 
 read-value-read-leaf-requires-5 : (t : ℕ) → read-value-lts.Need-read-leaf-requires-5 (read-value-calls t) (read-value-at t) read-value.Post
-read-value-read-leaf-requires-5 t c κs =
-    let p = c .before .before .before .before .before .before .before .before .before .before .pre .1 in
-    (row-claimed (p .0) (p .1) (claimed-row t (c .before .before .before .before)) refl, leaf (inr (omega (arith, c .before .match2 .keys7), omega (arith, c .before .match2 .keys7))))
+read-value-read-leaf-requires-5 t c κs = (claimed t (c .before .before .before .before) refl, leaf (inr (omega (arith, c .before .match2 .keys7), omega (arith, c .before .match2 .keys7))))
 
 read-value-read-leaf-requires-6 : (t : ℕ) → read-value-lts.Need-read-leaf-requires-6 (read-value-calls t) (read-value-at t) read-value.Post
-read-value-read-leaf-requires-6 t c κs =
-    let p = c .before .before .before .before .before .before .before .before .before .before .pre .1 in
-    (row-claimed (p .0) (p .1) (claimed-row t (c .before .before .before .before)) refl, leaf (inr (omega (arith, c .before .match2 .keys8), omega (arith, c .before .match2 .keys8))))
+read-value-read-leaf-requires-6 t c κs = (claimed t (c .before .before .before .before) refl, leaf (inr (omega (arith, c .before .match2 .keys8), omega (arith, c .before .match2 .keys8))))
 
 read-value-read-case-requires : (t : ℕ) → read-value-lts.Need-read-case-requires (read-value-calls t) (read-value-at t) read-value.Post
 read-value-read-case-requires t c κs =
-    let p = c .before .before .before .before .before .before .before .before .before .before .pre in
     let q = claimed-row t (c .before .before .before .before) in
-    (omega (arith, p .0, q .begun, q .capacity, q .free), row-claimed (p .1 .0) (p .1 .1) q (c .before .match2 .keys9))
+    (omega (arith, c .before .before .before .before .before .before .before .before .before .before .pre .0, q .begun, q .capacity, q .free), claimed t (c .before .before .before .before) (c .before .match2 .keys9))
 
 read-value-refuse-kind-requires : (t : ℕ) → read-value-lts.Need-refuse-kind-requires (read-value-calls t) (read-value-at t) read-value.Post
 read-value-refuse-kind-requires t c κs = node-inside (c .before .before .before .before .before .before .before .before .before .args .grammar .now) (c .before .before .before .before .before .before .before .before .before .args .node) (c .before .before .before .before .before .before .before .before .before .pre .1 .0) .1
