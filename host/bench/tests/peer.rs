@@ -4,19 +4,20 @@
 use bench::answers::{case_of, of_rust};
 use bench::program::Call;
 use bench::records::{self, Input};
-use compare::{run, Answer, Answers};
+use compare::{on_large_stack, run, Answer, Answers};
 use route_record::MAX_BYTES;
 use vectors::{Vector, FILES};
 
 #[test]
 fn the_vectors() {
-    for file in &FILES {
-        for vector in (file.vectors)() {
+    let vectors = FILES.iter().flat_map(|file| (file.vectors)());
+    on_large_stack(|| {
+        for vector in vectors {
             if let Vector::Call(line) = vector {
                 assert!(of_rust(&line.case) == line.outcome, "{}", line.name);
             }
         }
-    }
+    });
 }
 
 #[test]

@@ -27,7 +27,7 @@ pub use packed::{Calls, Number, U32, U64};
 pub use random::Random;
 pub use record::Record;
 pub use row_table::{RowInput, RowTable};
-pub use run::{run, Answers};
+pub use run::{on_large_stack, run, Answers};
 pub use show::{show, show_by_model, show_by_program, show_from, show_in_pieces, show_input};
 pub use shrink::shrink;
 pub use table::{chain, leaf, table, Table};

@@ -39,8 +39,18 @@ impl fmt::Display for Answers {
     }
 }
 
-/// The bytes of stack of a run: the model's recursion over the deepest rows needs much.
+/// The bytes of a large stack: the model's recursion over the deepest rows needs much.
 const STACK: usize = 256 << 20;
+
+/// Works on a thread with a large stack, so that the model can be asked about the deepest rows.
+pub fn on_large_stack<T: Send>(work: impl FnOnce() -> T + Send) -> T {
+    thread::scope(|scope| {
+        let thread = thread::Builder::new().stack_size(STACK);
+        let thread = thread.spawn_scoped(scope, work);
+        let thread = thread.expect("a thread with a large stack");
+        thread.join().expect("the work ends")
+    })
+}
 
 /// Runs random cases of a seed through the model and through `library` while `goes_on`, which is
 /// called before each case, and adds to the answers. Where the two differ, the case is made small.
@@ -50,12 +60,7 @@ pub fn run(
     goes_on: impl FnMut() -> bool + Send,
     answers: &mut Answers,
 ) -> Result<(), Box<Difference>> {
-    thread::scope(|scope| {
-        let thread = thread::Builder::new().stack_size(STACK);
-        let thread = thread.spawn_scoped(scope, || compare(seed, library, goes_on, answers));
-        let thread = thread.expect("a thread with a large stack");
-        thread.join().expect("the run ends")
-    })
+    on_large_stack(|| compare(seed, library, goes_on, answers))
 }
 
 /// The comparison itself.

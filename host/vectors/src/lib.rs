@@ -19,7 +19,7 @@ pub use vector::Vector;
 use std::collections::HashSet;
 use std::path::PathBuf;
 
-use compare::Case;
+use compare::{on_large_stack, Case};
 
 /// A file of vectors.
 pub struct File {
@@ -69,7 +69,7 @@ fn of_cases(mut cases: cases::Cases, mut borders: cases::Cases) -> Vec<Vector> {
     let listed: HashSet<&Case> = cases.iter().map(|(_, case)| case).collect();
     borders.retain(|(_, case)| !listed.contains(case));
     cases.append(&mut borders);
-    cases.into_iter().map(Vector::of_case).collect()
+    on_large_stack(|| cases.into_iter().map(Vector::of_case).collect())
 }
 
 impl File {

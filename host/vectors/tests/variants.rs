@@ -3,6 +3,7 @@
 
 use std::collections::BTreeMap;
 
+use compare::on_large_stack;
 use vectors::variants::{self, driver, exceptions, Thing};
 
 #[test]
@@ -46,9 +47,11 @@ fn each_exception_names_a_place() {
 /// What the variants' programs do is right of the sound model.
 #[test]
 fn the_sound_model_is_not_caught() {
-    for call in variants::calls().expect("the vectors") {
-        assert!(driver::of_model(&call) == call.outcome, "{}", call.name);
-    }
+    on_large_stack(|| {
+        for call in variants::calls().expect("the vectors") {
+            assert!(driver::of_model(&call) == call.outcome, "{}", call.name);
+        }
+    });
 }
 
 /// Orders that no rule finds, since the model has one test for three kinds.

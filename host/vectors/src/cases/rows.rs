@@ -305,7 +305,13 @@ fn constants(n: u64) -> Vec<u64> {
     tuple.into_iter().chain(fields).collect()
 }
 
-/// The largest stores, row counts and sizes.
+/// Cases in one another, of `n` rows, and the last row.
+fn levels(n: u64, last: [u64; 4]) -> Vec<u64> {
+    let cases = (2..=n).rev().flat_map(|span| [8, span, 0, 0]);
+    cases.chain(last).collect()
+}
+
+/// The largest stores, row counts, depths and sizes.
 fn limits(list: &mut List) {
     let (most, more) = (vec![0; MOST_BYTES], vec![0; MOST_BYTES + 1]);
     let one = [0, 1, 0, 0];
@@ -329,9 +335,18 @@ fn limits(list: &mut List) {
         "the greatest size, 4,293,951,488",
         size(&arrays, 4_096, &most),
     );
-    let chain: Vec<u64> = (2..=1_024).rev().flat_map(|span| [8, span, 0, 0]).collect();
-    let chain = [&chain[..], &one].concat();
-    list.add("1,024 levels of cases", size(&chain, 1_024, &[]));
+    list.add(
+        "1,024 levels of cases",
+        size(&levels(1_024, one), 1_024, &[]),
+    );
+    list.add(
+        "4,096 levels of cases",
+        size(&levels(4_096, one), 4_096, &[]),
+    );
+    list.add(
+        "14 in the last of 4,096 levels of cases",
+        locate(&levels(4_096, [5, 1, 0, 1]), 4_096, &[], 4_095),
+    );
 }
 
 /// The cases of the size call and of the locator.
