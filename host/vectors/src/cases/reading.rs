@@ -355,7 +355,7 @@ fn words_lent(list: &mut List) {
 fn indices(list: &mut List) {
     let (a, b, u32s) = (numbers::<u32>(A), numbers::<u32>(B), numbers::<u32>(U32));
     let record = [&[0xff, 0xff], &hex(A_RECORD)[..]].concat();
-    list.add("places count from byte 0", parse_val(&a, &record, 2, 14));
+    list.add("offsets count from byte 0", parse_val(&a, &record, 2, 14));
     list.add(
         "9 at the value's start",
         parse_val(&a, &record[..15], 2, 12),

@@ -14,7 +14,7 @@ fn size(rows: &[u64], n: usize, store: &[u8]) -> Case {
     }
 }
 
-/// The place of the array of a row.
+/// Where the array of a row lies.
 fn locate(rows: &[u64], n: usize, store: &[u8], row: usize) -> Case {
     Case::LocateArray {
         rows: rows.to_vec(),
@@ -140,7 +140,7 @@ const REFUSED: [Listed; 43] = [
     ("byte array a byte beyond the store", "5 1 17 0", 1, 16),
     ("uint32 array a byte beyond the store", "6 1 3 5", 1, 16),
     ("uint64 array a byte beyond the store", "7 1 1 9", 1, 16),
-    ("place 1 in an empty store, count 0", "5 1 0 1", 1, 0),
+    ("offset 1 in an empty store, count 0", "5 1 0 1", 1, 0),
     (
         "count 2^62 of 4 bytes, which wraps to 0",
         "6 1 4611686018427387904 0",
@@ -154,13 +154,13 @@ const REFUSED: [Listed; 43] = [
         16,
     ),
     (
-        "place 2^64-1 and count 1, which wraps to 0",
+        "offset 2^64-1 and count 1, which wraps to 0",
         "5 1 1 18446744073709551615",
         1,
         16,
     ),
     (
-        "place 2^64-1 and count 0",
+        "offset 2^64-1 and count 0",
         "7 1 0 18446744073709551615",
         1,
         16,
