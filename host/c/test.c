@@ -5,6 +5,7 @@
 
 #define _DEFAULT_SOURCE
 
+#include <setjmp.h>
 #include <signal.h>
 #include <stdio.h>
 #include <stdlib.h>
@@ -48,10 +49,31 @@ static void ends(const char *why)
     exit(1);
 }
 
+/* Where a byte is touched on purpose, to see whether that is a fault. */
+static sigjmp_buf tried;
+static volatile sig_atomic_t is_tried;
+
 static void on_fault(int signal)
 {
     (void)signal;
+    if (is_tried)
+        siglongjmp(tried, 1);
     ends("memory was touched that no argument lends");
+}
+
+/* Whether a byte cannot be read, or cannot be written. */
+static int faults(volatile uint8_t *byte, int is_written)
+{
+    is_tried = 1;
+    if (sigsetjmp(tried, 1) == 0) {
+        uint8_t content = *byte;
+        if (is_written)
+            *byte = content;
+        is_tried = 0;
+        return 0;
+    }
+    is_tried = 0;
+    return 1;
 }
 
 static int equal(route_answer one, route_answer other)
@@ -229,6 +251,16 @@ static int holds(int i, char letter, const argument *lent, const char *text, enu
     return size == lent->length * width_of(letter) && memcmp(start, scratch, size) == 0;
 }
 
+/* Checks that the byte next to an array cannot be read, and that its own can be written only if it
+ * is lent. */
+static void check_pages(char letter, const argument *made, enum side side)
+{
+    size_t size = made->length * width_of(letter);
+    uint8_t *start = made->array;
+    CHECK(faults(side == BEHIND_A_PAGE ? start - 1 : start + size, 0));
+    CHECK(size == 0 || faults(start, 1) == (strchr("bwr", letter) != NULL));
+}
+
 static int has_empty_array(const struct call *call, const vector *v)
 {
     for (int i = 0; call->letters[i] != 0; i++)
@@ -241,8 +273,11 @@ static int has_empty_array(const struct call *call, const vector *v)
 static void run(const struct call *call, const vector *v, enum side side)
 {
     argument arguments[ARGUMENTS];
-    for (int i = 0; call->letters[i] != 0; i++)
+    for (int i = 0; call->letters[i] != 0; i++) {
         arguments[i] = make_argument(i, call->letters[i], v->given[i], side);
+        if (arguments[i].array != NULL)
+            check_pages(call->letters[i], &arguments[i], side);
+    }
     CHECK(equal(call->make(arguments), v->answer));
     for (int i = 0; call->letters[i] != 0; i++)
         if (strchr("BWR", call->letters[i])) {
