@@ -1,6 +1,7 @@
 //! Values: their rows as a tree, and what reading and writing under a grammar do with the slices
 //! lent. `host/compare/tests/bindings.rs` has random values.
 
+use std::collections::HashSet;
 use std::thread;
 
 use route_record::{
@@ -124,6 +125,17 @@ fn a_value_of_more_bytes_than_may_be_written_has_a_size() {
     let array_of_bytes = "array(bytes)".parse::<Grammar>().unwrap();
     let refusal = array_of_bytes.marshall_vec(&value).unwrap_err();
     assert_eq!((refusal.number, refusal.place), (16, Place::Row(0)));
+}
+
+#[test]
+fn elements_are_equal_by_bytes_and_width_wherever_they_lie() {
+    let rows = [[4, 4, 3, 0], [5, 1, 4, 0], [5, 1, 4, 4], [6, 1, 1, 4]].concat();
+    let value = Value::check(&rows, 4, &[7, 0, 0, 0, 7, 0, 0, 0]).unwrap();
+    let elements = value.root().children().map(|row| row.elements().unwrap());
+    let elements: Vec<_> = elements.collect();
+    assert_eq!(elements[0], elements[1]);
+    assert_ne!(elements[1], elements[2]);
+    assert_eq!(elements.iter().collect::<HashSet<_>>().len(), 2);
 }
 
 #[test]
