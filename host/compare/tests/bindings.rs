@@ -107,6 +107,9 @@ fn assert_round_trip(grammar: &Grammar, record: &Record) -> Vec<u32> {
     let built = Value::build(|builder| rebuild(value.root(), builder)).expect("a value");
     let size = record.bytes.len() as u64;
     assert_eq!((built.row_count(), built.size()), (record.rows, size));
+    let arrays = built.rows().filter_map(|(_, row)| row.elements());
+    let packed: usize = arrays.map(|elements| elements.bytes().len()).sum();
+    assert_eq!(built.store().len(), packed);
     for ((depth, read), (of_built, built)) in value.rows().zip(built.rows()) {
         assert_eq!((depth, &read.words()[..3]), (of_built, &built.words()[..3]));
         assert_eq!(read.elements(), built.elements());
