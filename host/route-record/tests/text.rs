@@ -60,6 +60,7 @@ fn a_name_is_one_node_and_a_kind_one_at_each_use() {
     assert_eq!(words("tuple(u32, u32)"), two);
     assert_eq!(words("n = u32; m = n; tuple(n, m)"), pair);
     assert_eq!(words("n = u32; n"), [1, 1, 0, 0, 0]);
+    assert_eq!(words("_1 = u32; _1"), [1, 1, 0, 0, 0]);
 }
 
 #[test]
