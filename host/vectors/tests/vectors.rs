@@ -208,12 +208,12 @@ fn both_sides_of_each_border() {
 #[test]
 fn both_sides_of_refusal_19() {
     let shows = shows();
-    let is_19 = |name: &str| {
+    let starts_with = |name: &str, start: &str| {
         let show = shows.iter().find(|show| show.name == name);
-        show.expect(name).printed.starts_with("refused 19 byte ")
+        show.expect(name).printed.starts_with(start)
     };
     for name in ["show: example A", "show: 65,536 bytes", "show: 1,794 words"] {
-        assert!(!is_19(name), "{name}");
+        assert!(starts_with(name, "rows "), "{name}");
     }
     for name in [
         "show: example A and a byte more",
@@ -221,7 +221,7 @@ fn both_sides_of_refusal_19() {
         "show: 65,537 bytes",
         "show: 1,795 words",
     ] {
-        assert!(is_19(name), "{name}");
+        assert!(starts_with(name, "refused 19 byte "), "{name}");
     }
 }
 
