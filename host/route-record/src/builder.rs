@@ -139,10 +139,10 @@ impl Builder {
         width: usize,
         pack: impl FnOnce(&mut [u8]) -> Result<(), Refusal>,
     ) {
-        let place = self.store.len();
-        self.store.resize(place + count * width, 0);
-        pack(&mut self.store[place..]).expect("the store has room for the numbers");
-        self.row(kind, count as u64, place as u64);
+        let offset = self.store.len();
+        self.store.resize(offset + count * width, 0);
+        pack(&mut self.store[offset..]).expect("the store has room for the numbers");
+        self.row(kind, count as u64, offset as u64);
     }
 }
 

@@ -335,7 +335,7 @@ impl Hash for Elements<'_> {
     }
 }
 
-/// Width and place, and no element.
+/// Width and range, and no element.
 impl fmt::Debug for Elements<'_> {
     fn fmt(&self, f: &mut fmt::Formatter) -> fmt::Result {
         let (width, range) = (self.width, self.range());

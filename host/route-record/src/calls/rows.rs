@@ -3,7 +3,7 @@
 //! A row is four words: kind, span, word 2 and word 3. The span is the number of rows of the value,
 //! its own included; the rows of its children follow its own, child after child. Word 2 is 0 for a
 //! constant, the number for kinds 1 and 2, the element count for kinds 3 to 7, the tag for kind 8.
-//! Word 3 is the place of the first element in the store for kinds 5 to 7, else 0.
+//! Word 3 is the offset of the first element in the store for kinds 5 to 7, else 0.
 //!
 //! A call uses less than 1 MiB of stack, on values as deep as 4,096 rows can be.
 
@@ -18,7 +18,7 @@ use crate::Refusal;
 /// - 13 at the row when its kind is above 8; its span is 0, reaches past its parent's end, or is
 ///   not 1 for a kind without children; a word that its kind does not use is not 0; or its kind is
 ///   1 and its number above 4,294,967,295;
-/// - 14 at the row when its kind is 5 to 7 and its place plus its count times 1, 4 or 8 is above
+/// - 14 at the row when its kind is 5 to 7 and its offset plus its count times 1, 4 or 8 is above
 ///   the store's length, count 0 too;
 /// - what its children are refused by, in order: as many as word 2 says for kinds 3 and 4, one for
 ///   kind 8;
