@@ -24,8 +24,8 @@
 //!
 //! It links `libroute_c.a`, which `rt staticlib route_c`, run in the repository's root, builds in
 //! `target/staticlib`. An archive that lies elsewhere is found by the variable
-//! `ROUTE_RECORD_LIB_DIR`, its folder, which may stand under `[env]` in the project's
-//! `.cargo/config.toml`. `cargo check` and `cargo doc` need no archive.
+//! `ROUTE_RECORD_LIB_DIR`, the absolute path of its folder, which may stand under `[env]` in the
+//! project's `.cargo/config.toml`. `cargo check` and `cargo doc` need no archive.
 //!
 //! # Where it runs
 //!
