@@ -3,7 +3,7 @@
 
 use compare::{leaf, show_input, Case, Value};
 
-use super::{counted, table, Cases, List, MOST_BYTES};
+use super::{counted, table, Cases, List, MAX_BYTES};
 
 const CONSTANT: [u64; 4] = [0, 1, 0, 0];
 
@@ -84,10 +84,10 @@ pub fn rows() -> Cases {
         for (count, offset) in near.into_iter().chain([(2, end), (2, end + 1)]) {
             size_in_case(&mut list, [kind, 1, count, offset]);
         }
-        let most = MOST_BYTES as u64;
+        let most = MAX_BYTES as u64;
         for (count, offset) in [(0, most), (0, most + 1), (1, most), (2_000, 3)] {
             let name = format!("kind {kind}, count {count}, offset {offset}, the longest store");
-            size(&mut list, &name, &[[kind, 1, count, offset]], MOST_BYTES);
+            size(&mut list, &name, &[[kind, 1, count, offset]], MAX_BYTES);
         }
     }
     for kind in [3, 4] {
@@ -177,7 +177,7 @@ pub fn writing() -> Cases {
         let nothing = value(leaf(0), &[CONSTANT], &[]);
         write(format!("no bytes at {index} of 20"), nothing, 20, index);
     }
-    let (most, long) = (MOST_BYTES - 1, MOST_BYTES + 100);
+    let (most, long) = (MAX_BYTES - 1, MAX_BYTES + 100);
     write(format!("{most} bytes"), bytes(most), most, 0);
     write("into a long output".to_string(), bytes(14), long, most);
     list.0

@@ -3,7 +3,7 @@
 
 use compare::{Case, Value};
 
-use super::{counted, numbers, table, Cases, List};
+use super::{counted, numbers, table, Cases, List, ROW_WORDS};
 use super::{A64, ARR, B, BYT, C, E, U32, U64, UNI};
 
 /// What is added to a number so that its lowest 8, 16 or 32 bits stay, or its sign changes.
@@ -217,35 +217,38 @@ fn far_values(list: &mut List) {
         for (kind, value, rows) in &values {
             let (grammar, record) = behind_bytes(*kind, at, value);
             let name = |what: &str| format!("kind {kind} at byte {at}{what}");
-            list.add(&name(""), demarshall(&grammar, &record, 4 * rows));
+            list.add(&name(""), demarshall(&grammar, &record, ROW_WORDS * rows));
             let more = [&record[..], &[0]].concat();
             list.add(
                 &name(", a byte left over"),
-                demarshall(&grammar, &more, 4 * rows),
+                demarshall(&grammar, &more, ROW_WORDS * rows),
             );
             list.add(
                 &name(", a row missing"),
-                demarshall(&grammar, &record, 4 * (rows - 1)),
+                demarshall(&grammar, &record, ROW_WORDS * (rows - 1)),
             );
             if *kind != 0 {
                 let cut = &record[..record.len() - 1];
                 list.add(
                     &name(", a byte missing"),
-                    demarshall(&grammar, cut, 4 * rows),
+                    demarshall(&grammar, cut, ROW_WORDS * rows),
                 );
                 let cut = &record[..at];
-                list.add(&name(", all missing"), demarshall(&grammar, cut, 4 * rows));
+                list.add(
+                    &name(", all missing"),
+                    demarshall(&grammar, cut, ROW_WORDS * rows),
+                );
             }
             if matches!(kind, 3 | 8) {
                 let (_, record) = behind_bytes(*kind, at, &counted(9, &[7; 4]));
                 list.add(
                     &name(", count or tag 9"),
-                    demarshall(&grammar, &record, 4 * rows),
+                    demarshall(&grammar, &record, ROW_WORDS * rows),
                 );
             }
             let index = at;
             let alone = grammar_of(*kind);
-            let mut rows = vec![99; 4 * rows];
+            let mut rows = vec![99; ROW_WORDS * rows];
             rows.truncate(8);
             let (grammar, record) = (alone, record.clone());
             list.add(
@@ -381,7 +384,7 @@ fn row_words(list: &mut List) {
     for (step, add) in STEPS {
         for kind in 0..=8 {
             let row = sound_row(kind);
-            let n = row.len() / 4;
+            let n = row.len() / ROW_WORDS;
             for (word, what) in [(0, "kind"), (1, "span"), (2, "word 2"), (3, "word 3")] {
                 let mut other = row.clone();
                 other[word] += add;
@@ -421,7 +424,7 @@ fn row_words(list: &mut List) {
 
 /// A tuple of 300 constants and one value more, which is row 301.
 fn after_rows(row: &[u64]) -> (Vec<u64>, usize) {
-    let n = 301 + row.len() / 4;
+    let n = 301 + row.len() / ROW_WORDS;
     let rows = [&[4, n as u64, 301, 0], &[0, 1, 0, 0].repeat(300)[..], row].concat();
     (rows, n)
 }
@@ -480,7 +483,7 @@ fn children(list: &mut List) {
     for kind in 1..=8 {
         let mut child = sound_row(kind);
         child[1] = 0;
-        let n = 1 + child.len() / 4;
+        let n = 1 + child.len() / ROW_WORDS;
         let rows = [&[4, n as u64, 1, 0], &child[..]].concat();
         let name = format!("kind {kind} of span 0");
         list.add(&name, size(&rows, n, 0));
@@ -536,7 +539,7 @@ pub fn rows() -> Cases {
 }
 
 fn marshall(grammar: Vec<u32>, rows: &[u64], store: Vec<u8>, length: usize) -> Case {
-    let (rows, n) = (rows.to_vec(), rows.len() / 4);
+    let (rows, n) = (rows.to_vec(), rows.len() / ROW_WORDS);
     let value = Value {
         grammar,
         rows,
@@ -625,7 +628,7 @@ fn behind_kinds(list: &mut List) {
             let nodes = [[4, 0, fields], [kind, fields * count, count], CONSTANT];
             let mut children = vec![2; before];
             children.extend([1, 2, 2]);
-            let n = (before + 2 + row.len() / 4) as u64;
+            let n = (before + 2 + row.len() / ROW_WORDS) as u64;
             let constants = [0, 1, 0, 0].repeat(before);
             let rows = [
                 &[4, n, fields.into(), 0],
@@ -642,7 +645,7 @@ fn behind_kinds(list: &mut List) {
         }
     }
     let grammar = table(&[[3, 0, 1], [5, 0, 0]], &[1]);
-    let most = super::MOST_BYTES;
+    let most = super::MAX_BYTES;
     let rows = [
         vec![3, 4_096, 4_095, 0],
         [5, 1, most as u64, 0].repeat(4_095),

@@ -22,6 +22,7 @@ pub use writing::writing;
 use std::str::FromStr;
 
 use compare::Case;
+use route_record::{MAX_BYTES, ROW_WORDS};
 
 /// Cases with their names.
 pub type Cases = Vec<(String, Case)>;
@@ -36,9 +37,6 @@ impl List {
         self.0.push((format!("{}: {name}", case.call()), case));
     }
 }
-
-/// The most bytes of a record or a store, and of a value that is written.
-const MOST_BYTES: usize = 1_048_576;
 
 /// Example A: a tuple of a uint32 and a byte array, and its record.
 const A: &str = "3, 4 0 2, 1 0 0, 5 0 0, 2, 1 2";

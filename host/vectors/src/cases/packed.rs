@@ -3,7 +3,7 @@
 use compare::Case;
 
 use super::magnitudes;
-use super::{hex, Cases, List, MOST_BYTES};
+use super::{hex, Cases, List, MAX_BYTES};
 
 fn unpack_u32(packed: &str, index: usize) -> Case {
     let packed = hex(packed);
@@ -92,8 +92,8 @@ fn unpack_one(list: &mut List) {
     list.add("no bytes", unpack_u32("", 0));
     list.add("no bytes", unpack_u64("", 0));
     list.add("no bytes, index 1", unpack_u32("", 1));
-    let packed = vec![0x5a; MOST_BYTES + 1];
-    let index = MOST_BYTES - 7;
+    let packed = vec![0x5a; MAX_BYTES + 1];
+    let index = MAX_BYTES - 7;
     list.add(
         "1,048,577 bytes are no refusal 6",
         Case::UnpackU64 { packed, index },
@@ -131,7 +131,7 @@ fn pack_one(list: &mut List) {
     list.add("no output", pack_u64(1, 0, 0));
     list.add(
         "1,048,577 bytes of output are no refusal",
-        pack_u64(7, MOST_BYTES + 1, MOST_BYTES - 7),
+        pack_u64(7, MAX_BYTES + 1, MAX_BYTES - 7),
     );
 }
 

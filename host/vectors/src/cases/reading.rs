@@ -3,7 +3,7 @@
 use compare::Case;
 
 use super::magnitudes;
-use super::{counted, doubling, hex, numbers, table, Cases, List, MOST_BYTES};
+use super::{counted, doubling, hex, numbers, table, Cases, List, MAX_BYTES, ROW_WORDS};
 use super::{A, A64, ARR, A_RECORD, B, BYT, C, D, E, KIND_9, MIX, MIX_RECORD, PAIR, TUP0};
 use super::{REFUSED_GRAMMARS, U32, U64, UNI};
 
@@ -93,8 +93,8 @@ fn accepted(list: &mut List) {
     for (name, grammar, record, rows) in ACCEPTED {
         let (grammar, record) = (numbers::<u32>(grammar), hex(record));
         let between = [&[0xff, 0xff], &record[..], &[0xee]].concat();
-        list.add(name, demarshall(&grammar, &record, 4 * rows + 6));
-        list.add(name, parse_val(&grammar, &between, 2, 4 * rows));
+        list.add(name, demarshall(&grammar, &record, ROW_WORDS * rows + 6));
+        list.add(name, parse_val(&grammar, &between, 2, ROW_WORDS * rows));
         list.add(name, check_whole(&grammar, &record));
         list.add(name, check_val(&grammar, &between, 2));
     }
@@ -330,7 +330,7 @@ const ORDER: [(&str, &str, &str, usize); 22] = [
 fn whole(list: &mut List, listed: &[(&str, &str, &str, usize)]) {
     for &(name, grammar, record, capacity) in listed {
         let (grammar, record) = (numbers::<u32>(grammar), hex(record));
-        list.add(name, demarshall(&grammar, &record, 4 * capacity));
+        list.add(name, demarshall(&grammar, &record, ROW_WORDS * capacity));
     }
 }
 
@@ -396,7 +396,7 @@ fn indices(list: &mut List) {
 /// of the values.
 fn before_the_values(list: &mut List) {
     let (b, bad) = (numbers::<u32>(B), numbers::<u32>(KIND_9));
-    let long = vec![0; MOST_BYTES + 1];
+    let long = vec![0; MAX_BYTES + 1];
     for (number, grammar) in REFUSED_GRAMMARS {
         let grammar = numbers::<u32>(grammar);
         let name = format!("{number} before 8 and 11");
@@ -410,9 +410,9 @@ fn before_the_values(list: &mut List) {
     }
     list.add(
         "the grammar before 6, 7 and 8",
-        parse_val(&bad, &long, MOST_BYTES + 2, 0),
+        parse_val(&bad, &long, MAX_BYTES + 2, 0),
     );
-    list.add("6 before 7 and 8", parse_val(&b, &long, MOST_BYTES + 2, 0));
+    list.add("6 before 7 and 8", parse_val(&b, &long, MAX_BYTES + 2, 0));
     list.add("6 before 7", check_val(&b, &long, usize::MAX));
     list.add("6 before 8", demarshall(&b, &long, 0));
     list.add("6 before 11", check_whole(&b, &long));
@@ -420,10 +420,10 @@ fn before_the_values(list: &mut List) {
     let (union, array) = (numbers::<u32>(D), numbers::<u32>(BYT));
     list.add(
         "6 before 9",
-        demarshall(&array, &vec![0xff; MOST_BYTES + 1], 4),
+        demarshall(&array, &vec![0xff; MAX_BYTES + 1], 4),
     );
     list.add("6 before 10", demarshall(&union, &long, 4));
-    list.add("6 before 9", check_val(&array, &long, MOST_BYTES));
+    list.add("6 before 9", check_val(&array, &long, MAX_BYTES));
     list.add("6 before 10", check_val(&union, &long, 1));
     let counted = counted(u64::MAX, &long);
     list.add("6 before 8", check_whole(&numbers::<u32>(C), &counted));
@@ -435,30 +435,30 @@ fn before_the_values(list: &mut List) {
 
 /// The longest records, and those a byte longer.
 fn longest(list: &mut List) {
-    let most = counted(MOST_BYTES as u64 - 8, &vec![0x5a; MOST_BYTES - 8]);
-    let more = counted(MOST_BYTES as u64 - 7, &vec![0x5a; MOST_BYTES - 7]);
+    let most = counted(MAX_BYTES as u64 - 8, &vec![0x5a; MAX_BYTES - 8]);
+    let more = counted(MAX_BYTES as u64 - 7, &vec![0x5a; MAX_BYTES - 7]);
     let bytes = numbers::<u32>(BYT);
     list.add("a record of 1,048,576 bytes", demarshall(&bytes, &most, 4));
     list.add("a record of 1,048,577 bytes", demarshall(&bytes, &more, 4));
     list.add("a record of 1,048,576 bytes", check_whole(&bytes, &most));
     list.add("a record of 1,048,577 bytes", check_whole(&bytes, &more));
     let constant = numbers::<u32>(B);
-    let (most, more) = (vec![0; MOST_BYTES], vec![0; MOST_BYTES + 1]);
+    let (most, more) = (vec![0; MAX_BYTES], vec![0; MAX_BYTES + 1]);
     list.add(
         "the end of 1,048,576 bytes",
-        parse_val(&constant, &most, MOST_BYTES, 4),
+        parse_val(&constant, &most, MAX_BYTES, 4),
     );
     list.add(
         "the end of 1,048,577 bytes",
-        parse_val(&constant, &more, MOST_BYTES + 1, 4),
+        parse_val(&constant, &more, MAX_BYTES + 1, 4),
     );
     list.add(
         "the end of 1,048,576 bytes",
-        check_val(&constant, &most, MOST_BYTES),
+        check_val(&constant, &most, MAX_BYTES),
     );
     list.add(
         "the end of 1,048,577 bytes",
-        check_val(&constant, &more, MOST_BYTES + 1),
+        check_val(&constant, &more, MAX_BYTES + 1),
     );
 }
 
@@ -468,11 +468,11 @@ fn large_grammars(list: &mut List) {
     let record = vec![9; 4_096];
     list.add(
         "a tuple of 1,024 uint32",
-        demarshall(&wide, &record, 4 * 1_025),
+        demarshall(&wide, &record, ROW_WORDS * 1_025),
     );
     list.add(
         "a tuple of 1,024 uint32 and 1,024 rows",
-        demarshall(&wide, &record, 4 * 1_024),
+        demarshall(&wide, &record, ROW_WORDS * 1_024),
     );
     list.add(
         "the last of 1,024 fields lacks a byte",
@@ -508,7 +508,7 @@ fn deep_grammars(list: &mut List) {
     ] {
         let record = [own.repeat(255), vec![7, 0, 0, 0]].concat();
         let chain = compare::chain(kind);
-        list.add(name, demarshall(&chain, &record, 4 * 256));
+        list.add(name, demarshall(&chain, &record, ROW_WORDS * 256));
         let cut = &record[..record.len() - 1];
         list.add(&format!("{name}, cut"), check_whole(&chain, cut));
     }

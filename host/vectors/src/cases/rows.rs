@@ -3,7 +3,7 @@
 use compare::Case;
 
 use super::magnitudes;
-use super::{hex, numbers, Cases, List, A_RECORD, MIX_ROWS, MOST_BYTES};
+use super::{hex, numbers, Cases, List, A_RECORD, MAX_BYTES, MIX_ROWS};
 
 /// The size of these rows, of which `n` are the value's.
 fn size(rows: &[u64], n: usize, store: &[u8]) -> Case {
@@ -289,7 +289,7 @@ fn refused_located(list: &mut List) {
         locate(&numbers::<u64>("4 3 2 0, 5 1 0 0, 5 1 1 0"), 3, &[], 1),
     );
     list.add("12 before 18", locate(&behind, 0, &[], 0));
-    let more = vec![0; MOST_BYTES + 1];
+    let more = vec![0; MAX_BYTES + 1];
     for (number, rows) in [(13, "5 2 0 0"), (14, "5 1 0 2000000")] {
         let rows = numbers::<u64>(rows);
         list.add(&format!("6 before {number}"), locate(&rows, 1, &more, 0));
@@ -313,11 +313,11 @@ fn levels(n: u64, last: [u64; 4]) -> Vec<u64> {
 
 /// The largest stores, row counts, depths and sizes.
 fn limits(list: &mut List) {
-    let (most, more) = (vec![0; MOST_BYTES], vec![0; MOST_BYTES + 1]);
+    let (most, more) = (vec![0; MAX_BYTES], vec![0; MAX_BYTES + 1]);
     let one = [0, 1, 0, 0];
     list.add("a store of 1,048,576 bytes", size(&one, 1, &most));
     list.add("a store of 1,048,577 bytes", size(&one, 1, &more));
-    let bytes = [5, 1, MOST_BYTES as u64, 0];
+    let bytes = [5, 1, MAX_BYTES as u64, 0];
     list.add("a store of 1,048,576 bytes", locate(&bytes, 1, &most, 0));
     list.add("a store of 1,048,577 bytes", locate(&bytes, 1, &more, 0));
     list.add(

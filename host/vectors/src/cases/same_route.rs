@@ -3,7 +3,7 @@
 use compare::Case;
 
 use super::magnitudes;
-use super::{counted, hex, numbers, Cases, List, MOST_BYTES, REFUSED_GRAMMARS};
+use super::{counted, hex, numbers, Cases, List, MAX_BYTES, REFUSED_GRAMMARS};
 use super::{A, A_RECORD, B, BYT, C, D, E, KIND_9, MIX, MIX_RECORD, PAIR, TUP0, U32, U64, UNI};
 
 /// Adds the comparison of two records.
@@ -141,10 +141,10 @@ const LISTED: [(&str, &str, &str, &str); 31] = [
 
 /// The longest records, and those a byte longer.
 fn long_records(list: &mut List) {
-    let (long, cut) = (vec![0; MOST_BYTES + 1], hex(A_CUT));
-    let most = counted(MOST_BYTES as u64 - 8, &vec![0x5a; MOST_BYTES - 8]);
+    let (long, cut) = (vec![0; MAX_BYTES + 1], hex(A_CUT));
+    let most = counted(MAX_BYTES as u64 - 8, &vec![0x5a; MAX_BYTES - 8]);
     let mut other = most.clone();
-    other[MOST_BYTES - 1] = 0x5b;
+    other[MAX_BYTES - 1] = 0x5b;
     for (number, grammar) in REFUSED_GRAMMARS {
         let name = format!("{number} before 6 of both records");
         add(list, &name, grammar, &long, &long);

@@ -3,7 +3,7 @@
 use compare::{Case, Value};
 
 use super::magnitudes;
-use super::{hex, numbers, table, Cases, List, MOST_BYTES};
+use super::{hex, numbers, table, Cases, List, MAX_BYTES, ROW_WORDS};
 use super::{A, A64, ARR, A_RECORD, B, BYT, C, D, E, MIX, MIX_RECORD, MIX_ROWS, PAIR};
 use super::{REFUSED_GRAMMARS, TUP0, U32, U64, UNI};
 
@@ -12,7 +12,7 @@ fn value(grammar: &str, rows: &str, store: &[u8]) -> Value {
     let rows: Vec<u64> = numbers(rows);
     Value {
         grammar: numbers(grammar),
-        n: rows.len() / 4,
+        n: rows.len() / ROW_WORDS,
         rows,
         store: store.to_vec(),
     }
@@ -246,13 +246,13 @@ fn bytes_of_size(size: usize) -> Value {
 
 /// The greatest sizes.
 fn sizes(list: &mut List) {
-    let (most, more) = (bytes_of_size(MOST_BYTES), bytes_of_size(MOST_BYTES + 1));
-    list.add("size 1,048,576", marshall(&most, MOST_BYTES));
-    let case = marshall_val(&most, MOST_BYTES + 2, 1);
+    let (most, more) = (bytes_of_size(MAX_BYTES), bytes_of_size(MAX_BYTES + 1));
+    list.add("size 1,048,576", marshall(&most, MAX_BYTES));
+    let case = marshall_val(&most, MAX_BYTES + 2, 1);
     list.add("size 1,048,576, index 1", case);
-    let case = marshall(&most, MOST_BYTES - 1);
+    let case = marshall(&most, MAX_BYTES - 1);
     list.add("size 1,048,576, a byte of room is missing", case);
-    list.add("size 1,048,577", marshall(&more, MOST_BYTES + 1));
+    list.add("size 1,048,577", marshall(&more, MAX_BYTES + 1));
     list.add("16 before 17", marshall(&more, 0));
     list.add("16 before 17", marshall_val(&more, 9, usize::MAX));
     let mut other = more;
@@ -260,15 +260,11 @@ fn sizes(list: &mut List) {
     list.add("15 before 16", marshall(&other, 0));
     let two_arrays = "2, 4 0 2, 5 0 0, 2, 1 1";
     for (name, rows, store) in [
-        (
-            "13 before 16",
-            "4 3 2 0, 5 1 1048576 0, 9 1 0 0",
-            MOST_BYTES,
-        ),
+        ("13 before 16", "4 3 2 0, 5 1 1048576 0, 9 1 0 0", MAX_BYTES),
         (
             "14 before 16",
             "4 3 2 0, 5 1 1048576 0, 6 1 0 1048577",
-            MOST_BYTES,
+            MAX_BYTES,
         ),
         (
             "1,048,584 bytes from a store of 524,288",
@@ -283,7 +279,7 @@ fn sizes(list: &mut List) {
 
 /// The longest stores.
 fn stores(list: &mut List) {
-    let mut long = value(B, "0 1 0 0", &vec![0; MOST_BYTES]);
+    let mut long = value(B, "0 1 0 0", &vec![0; MAX_BYTES]);
     list.add("a store of 1,048,576 bytes", marshall(&long, 0));
     long.store.push(0);
     list.add("a store of 1,048,577 bytes", marshall(&long, 0));
@@ -296,7 +292,7 @@ fn stores(list: &mut List) {
         long.rows = numbers(rows);
         list.add(name, marshall(&long, 0));
     }
-    let mut large = bytes_of_size(MOST_BYTES + 1);
+    let mut large = bytes_of_size(MAX_BYTES + 1);
     large.store = long.store.clone();
     list.add("6 before 16", marshall(&large, 0));
     long.n = 0;
@@ -305,7 +301,7 @@ fn stores(list: &mut List) {
 
 /// Each refusal of the grammar meets each of those behind it but 15, which speaks of a grammar.
 fn grammars(list: &mut List) {
-    let (constant, most) = ("0 1 0 0", vec![0; MOST_BYTES]);
+    let (constant, most) = ("0 1 0 0", vec![0; MAX_BYTES]);
     let long = [&most[..], &[0]].concat();
     let faults: [(u32, &str, usize, &[u8]); 6] = [
         (6, constant, 1, &long),
