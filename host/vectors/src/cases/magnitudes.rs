@@ -3,6 +3,7 @@
 
 use compare::{Case, Value};
 
+use super::packed::{pack_u32, pack_u64};
 use super::{counted, numbers, table, Cases, List, ROW_WORDS};
 use super::{A64, ARR, B, BYT, C, E, U32, U64, UNI};
 
@@ -702,65 +703,17 @@ pub fn packed() -> Cases {
         let packed = short[..index - 1].to_vec();
         list.add(&name, Case::UnpackU32 { packed, index });
         let name = format!("index {index}");
-        let out = vec![0xee; index + 20];
-        list.add(
-            &name,
-            Case::PackU32 {
-                number: 7,
-                out,
-                index,
-            },
-        );
-        let out = vec![0xee; index + 20];
-        list.add(
-            &name,
-            Case::PackU64 {
-                number: 7,
-                out,
-                index,
-            },
-        );
+        list.add(&name, pack_u32(7, index + 20, index));
+        list.add(&name, pack_u64(7, index + 20, index));
         let name = format!("index {index}, no room");
-        let out = vec![0xee; index + 3];
-        list.add(
-            &name,
-            Case::PackU32 {
-                number: 7,
-                out,
-                index,
-            },
-        );
-        let out = vec![0xee; index + 7];
-        list.add(
-            &name,
-            Case::PackU64 {
-                number: 7,
-                out,
-                index,
-            },
-        );
+        list.add(&name, pack_u32(7, index + 3, index));
+        list.add(&name, pack_u64(7, index + 7, index));
     }
     for (step, add) in STEPS {
         let index = add as usize;
         let name = format!("index {step}, a number at 0");
-        let out = vec![0xee; 16];
-        list.add(
-            &name,
-            Case::PackU32 {
-                number: 7,
-                out,
-                index,
-            },
-        );
-        let out = vec![0xee; 16];
-        list.add(
-            &name,
-            Case::PackU64 {
-                number: 7,
-                out,
-                index,
-            },
-        );
+        list.add(&name, pack_u32(7, 16, index));
+        list.add(&name, pack_u64(7, 16, index));
         let (numbers, out) = (vec![7; 2], vec![0xee; 16]);
         list.add(
             &name,

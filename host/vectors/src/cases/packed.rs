@@ -16,12 +16,12 @@ fn unpack_u64(packed: &str, index: usize) -> Case {
 }
 
 /// Packs into an output of bytes EE.
-fn pack_u32(number: u32, length: usize, index: usize) -> Case {
+pub(super) fn pack_u32(number: u32, length: usize, index: usize) -> Case {
     let out = vec![0xee; length];
     Case::PackU32 { number, out, index }
 }
 
-fn pack_u64(number: u64, length: usize, index: usize) -> Case {
+pub(super) fn pack_u64(number: u64, length: usize, index: usize) -> Case {
     let out = vec![0xee; length];
     Case::PackU64 { number, out, index }
 }
