@@ -305,7 +305,7 @@ static void run_vectors(void)
 
 /* Lengths of arrays that no memory holds: the longest that the header allows, one whose bytes would
  * wrap to 0, and the greatest. Those above the first break the header's rule, to see that they too
- * are refused before the array is touched: its pointer is to a forbidden page. */
+ * are refused, where a refusal is due, before the array is touched. */
 static void test_lengths(void)
 {
     static const uint8_t bytes[8];

@@ -118,6 +118,9 @@ impl<'a> Given<'a> {
             _ => (whole, None),
         };
         let mut value = || attached.map_or_else(|| value_behind(option, rest), Ok);
+        if matches!(option, "--index" | "--c") && self.options.contains(&option) {
+            return Err(misused(&format!("{option} is given twice")));
+        }
         match (option, attached) {
             ("-h" | "--help", None) => self.help = true,
             ("--hex", None) => self.hex = true,
@@ -193,7 +196,17 @@ fn value_behind<'a>(option: &str, rest: &mut Iter<'a, OsString>) -> Result<&'a s
     text.ok_or_else(|| misused(&format!("the value of {option} is not UTF-8")))
 }
 
+/// The keywords of C, with those that became one in C23 and are macros before. Names that begin with
+/// `_` are reserved in part, and taken.
+const C_KEYWORDS: [&str; 37] = [
+    "auto", "break", "case", "char", "const", "continue", "default", "do", "double", "else",
+    "enum", "extern", "float", "for", "goto", "if", "inline", "int", "long", "register",
+    "restrict", "return", "short", "signed", "sizeof", "static", "struct", "switch", "typedef",
+    "union", "unsigned", "void", "volatile", "while", "bool", "true", "false",
+];
+
 fn is_c_name(name: &str) -> bool {
     let is_part = |c: char| c.is_ascii_alphanumeric() || c == '_';
-    name.chars().all(is_part) && name.starts_with(|c: char| !c.is_ascii_digit())
+    let is_name = name.chars().all(is_part) && name.starts_with(|c: char| !c.is_ascii_digit());
+    is_name && !C_KEYWORDS.contains(&name)
 }
