@@ -60,6 +60,7 @@ call!(route_pack_u64_seq = pack_u64_seq(numbers: &[u64], out: &mut [u8], index: 
 call!(route_check_grammar = check_grammar(words: &[u32]));
 call!(route_compute_size_of = compute_size_of(rows: &[u64], n: usize, store: &[u8]));
 call!(route_locate_array = locate_array(rows: &[u64], n: usize, store: &[u8], row: usize));
+call!(route_signed_number = signed_number(rows: &[u64], n: usize, store: &[u8], row: usize));
 call!(route_parse_val = parse_val(grammar: &[u32], record: &[u8], index: usize, rows: &mut [u64]));
 call!(route_demarshall = demarshall(grammar: &[u32], record: &[u8], rows: &mut [u64]));
 call!(route_check_val = check_val(grammar: &[u32], record: &[u8], index: usize));

@@ -56,7 +56,7 @@ macro_rules! refusals {
 refusals! {
     1 NODE_COUNT "the table is empty, or its node count is not 1 to 256"
     2 GRAMMAR_LENGTH "the count of child words is missing or above 1,024, or the table's length does not fit it"
-    3 NODE_KIND "the node's kind is above 8"
+    3 NODE_KIND "the node's kind is above 10"
     4 NODE_CHILDREN "the node's first or count breaks the rule of its kind, or reaches past the child words"
     5 CHILD_NUMBER "the child's number is not above its node's, or there is no such node"
     6 BYTES_TOO_LONG "the record or store is longer than 1,048,576 bytes"
@@ -73,6 +73,7 @@ refusals! {
     17 OUTPUT_TOO_SHORT "the output ends there, before what is to be written does"
     18 NOT_AN_ARRAY "there is no such row, or its kind is not 5, 6 or 7"
     19 INPUT_LAYOUT "the input is not a grammar and a record as the program wants them"
+    20 NOT_SIGNED "there is no such row, or its kind is not 9 or 10"
 }
 
 impl fmt::Display for Place {

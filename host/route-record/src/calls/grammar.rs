@@ -12,9 +12,9 @@ use crate::Refusal;
 /// Refused by 1 at word 0 when there is no word, or N is 0 or above 256; then by 2 at word 1 + 3N
 /// when M's word is missing, M is above 1,024 or the length is not 2 + 3N + M; then, for each node
 /// k in order, by
-/// - 3 at word 1 + 3k when its kind is above 8;
-/// - 4 at word 2 + 3k when its kind is 3 and its count not 1, or its kind is 0 to 2 or 5 to 7 and
-///   its first or count not 0, or first plus count is above M;
+/// - 3 at word 1 + 3k when its kind is above 10;
+/// - 4 at word 2 + 3k when its kind is 3 and its count not 1, or its kind is 0 to 2, 5 to 7, 9 or
+///   10 and its first or count not 0, or first plus count is above M;
 /// - 5 at the word of its first child whose number is not above k or not below N.
 ///
 /// ```

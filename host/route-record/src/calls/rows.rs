@@ -1,8 +1,10 @@
-//! Value rows: the size of the value that they stand for, and where an array lies in the store.
+//! Value rows: the size of the value that they stand for, where an array lies in the store, and the
+//! signed number of a row.
 //!
 //! A row is four words: kind, span, word 2 and word 3. The span is the number of rows of the value,
 //! its own included; the rows of its children follow its own, child after child. Word 2 is 0 for a
-//! constant, the number for kinds 1 and 2, the element count for kinds 3 to 7, the tag for kind 8.
+//! constant, the number for kinds 1 and 2, the element count for kinds 3 to 7, the tag for kind 8,
+//! the unsigned bit pattern of the number for kinds 9 and 10, in two's complement of 32 and 64 bits.
 //! Word 3 is the offset of the first element in the store for kinds 5 to 7, else 0.
 //!
 //! A call uses less than 1 MiB of stack, on values as deep as 4,096 rows can be.
@@ -15,9 +17,9 @@ use crate::Refusal;
 /// Refused by 6 at byte 0 when the store has more than 1,048,576 bytes; then by 12 at row 0 when
 /// `n` is 0 or above 4,096, or there are fewer than 4 times `n` words; then by 13 at row 0 when its
 /// span is not `n`; then, for each row from row 0 on, by
-/// - 13 at the row when its kind is above 8; its span is 0, reaches past its parent's end, or is
+/// - 13 at the row when its kind is above 10; its span is 0, reaches past its parent's end, or is
 ///   not 1 for a kind without children; a word that its kind does not use is not 0; or its kind is
-///   1 and its number above 4,294,967,295;
+///   1 or 9 and word 2 above 4,294,967,295;
 /// - 14 at the row when its kind is 5 to 7 and its offset plus its count times 1, 4 or 8 is above
 ///   the store's length, count 0 too;
 /// - what its children are refused by, in order: as many as word 2 says for kinds 3 and 4, one for
@@ -64,4 +66,25 @@ pub fn locate_array(
     let answer = ffi::locate_array(rows, n, store, row).into_result()?;
     let within_store = |word| usize::try_from(word).expect("the library gives a part of the store");
     Ok((within_store(answer.first), within_store(answer.second)))
+}
+
+/// The number of row `row`, of kind 9 or 10: word 2 is its bit pattern in two's complement.
+///
+/// Refused as [`compute_size_of`] is, then by 20 at row `row` when `row` is not below `n` or its
+/// kind is not 9 or 10.
+///
+/// ```
+/// use route_record::calls::signed_number;
+/// use route_record::{Place, Refusal};
+///
+/// let tuple_of_i32_and_bytes = [4, 3, 2, 0, 9, 1, 4_294_967_293, 0, 5, 1, 2, 12];
+/// assert_eq!(signed_number(&tuple_of_i32_and_bytes, 3, &[0; 14], 1), Ok(-3));
+///
+/// let refusal = Refusal { number: 20, place: Place::Row(2) };
+/// assert_eq!(signed_number(&tuple_of_i32_and_bytes, 3, &[0; 14], 2), Err(refusal));
+/// ```
+pub fn signed_number(rows: &[u64], n: usize, store: &[u8], row: usize) -> Result<i64, Refusal> {
+    let answer = ffi::signed_number(rows, n, store, row).into_result()?;
+    // The word is the number's 64-bit two's complement pattern, which the cast keeps.
+    Ok(answer.first as i64)
 }
