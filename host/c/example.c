@@ -1,4 +1,4 @@
-/* example.c: writes a route as a record, reads it back, and shows a refusal.
+/* example.c: writes a route as a record, reads it back with a trim below zero, and shows a refusal.
  *
  *     cc -std=c11 -Wall -Wextra -Werror -Ihost/c host/c/example.c target/staticlib/libroute_c.a */
 
@@ -7,41 +7,46 @@
 
 #include "route_record.h"
 
-/* The route: a box's serial number, and the channels on the path, each with its gain steps. */
+/* The route: a box's serial number, and the channels on the path, each with its offset trim and its
+ * gain steps. */
 static const uint32_t grammar[] = {
-    5,                             /* five nodes: kind, first child word, count of children */
-    ROUTE_KIND_TUPLE, 0, 2,        /* node 0, the root: a tuple of nodes 4 and 1 */
+    6,                             /* six nodes: kind, first child word, count of children */
+    ROUTE_KIND_TUPLE, 0, 2,        /* node 0, the root: a tuple of nodes 5 and 1 */
     ROUTE_KIND_ARRAY, 2, 1,        /* node 1: an array of node 2 */
-    ROUTE_KIND_TUPLE, 3, 2,        /* node 2, a channel: a tuple of nodes 4 and 3 */
-    ROUTE_KIND_UINT64_ARRAY, 0, 0, /* node 3: an array of uint64, the gain steps */
-    ROUTE_KIND_UINT32, 0, 0,       /* node 4: a uint32, a serial number or a channel's */
-    5,                             /* five child words; a child's number is above its node's */
-    4, 1,                          /* of node 0 */
+    ROUTE_KIND_TUPLE, 3, 3,        /* node 2, a channel: a tuple of nodes 5, 3 and 4 */
+    ROUTE_KIND_INT32, 0, 0,        /* node 3: an int32, the offset trim */
+    ROUTE_KIND_UINT64_ARRAY, 0, 0, /* node 4: an array of uint64, the gain steps */
+    ROUTE_KIND_UINT32, 0, 0,       /* node 5: a uint32, a serial number or a channel's */
+    6,                             /* six child words; a child's number is above its node's */
+    5, 1,                          /* of node 0 */
     2,                             /* of node 1 */
-    4, 3,                          /* of node 2 */
+    5, 3, 4,                       /* of node 2 */
 };
 
 /* The gain steps of both channels, packed: route_pack_u64_seq fills it. */
 static uint8_t store[24];
 
-/* The value: serial number 7, and channels 1 and 2 with two steps and one. A row is kind, span,
- * word 2, and for an array of numbers the offset in the store. */
+/* The value: serial number 7, channel 1 with trim -3 and two steps, channel 2 with trim 4 and one
+ * step. A row is kind, span, word 2, and for an array of numbers the offset in the store. */
 static const uint64_t rows[] = {
-    ROUTE_KIND_TUPLE, 9, 2, 0,         /* the tuple: 9 rows in all, 2 fields */
-    ROUTE_KIND_UINT32, 1, 7, 0,        /* serial number 7 */
-    ROUTE_KIND_ARRAY, 7, 2, 0,         /* 2 channels */
-    ROUTE_KIND_TUPLE, 3, 2, 0,         /* a channel: 2 fields */
-    ROUTE_KIND_UINT32, 1, 1, 0,        /* its number */
-    ROUTE_KIND_UINT64_ARRAY, 1, 2, 0,  /* 2 steps, from byte 0 of the store on */
-    ROUTE_KIND_TUPLE, 3, 2, 0,         /* the other channel */
-    ROUTE_KIND_UINT32, 1, 2, 0,        /* its number */
-    ROUTE_KIND_UINT64_ARRAY, 1, 1, 16, /* 1 step, from byte 16 on */
+    ROUTE_KIND_TUPLE, 11, 2, 0,           /* the tuple: 11 rows in all, 2 fields */
+    ROUTE_KIND_UINT32, 1, 7, 0,           /* serial number 7 */
+    ROUTE_KIND_ARRAY, 9, 2, 0,            /* 2 channels */
+    ROUTE_KIND_TUPLE, 4, 3, 0,            /* a channel: 3 fields */
+    ROUTE_KIND_UINT32, 1, 1, 0,           /* its number */
+    ROUTE_KIND_INT32, 1, (uint32_t)-3, 0, /* its trim, as its pattern of 32 bits */
+    ROUTE_KIND_UINT64_ARRAY, 1, 2, 0,     /* 2 steps, from byte 0 of the store on */
+    ROUTE_KIND_TUPLE, 4, 3, 0,            /* the other channel */
+    ROUTE_KIND_UINT32, 1, 2, 0,           /* its number */
+    ROUTE_KIND_INT32, 1, 4, 0,            /* its trim */
+    ROUTE_KIND_UINT64_ARRAY, 1, 1, 16,    /* 1 step, from byte 16 on */
 };
 
 enum {
     GRAMMAR_WORDS = sizeof grammar / sizeof *grammar,
     WORDS = sizeof rows / sizeof *rows,
-    ROWS = WORDS / ROUTE_ROW_WORDS
+    ROWS = WORDS / ROUTE_ROW_WORDS,
+    TRIM_ROW = 5 /* the row of the first channel's trim */
 };
 
 static void print_refusal(const char *call, route_answer answer)
@@ -69,7 +74,7 @@ static size_t write_route(uint8_t *out, size_t out_len)
     return (size_t)answer.first;
 }
 
-/* Reads a record and prints its rows. Gives whether it was accepted. */
+/* Reads a record and prints its rows and its first trim. Gives whether it was accepted. */
 static int print_rows(const uint8_t *record, size_t length)
 {
     uint64_t read[WORDS];
@@ -78,12 +83,19 @@ static int print_rows(const uint8_t *record, size_t length)
         print_refusal("read", answer);
         return 0;
     }
-    printf("rows %" PRIu64 "\n", answer.first);
-    for (uint64_t row = 0; row < answer.first; row++) {
+    size_t n = (size_t)answer.first;
+    printf("rows %zu\n", n);
+    for (size_t row = 0; row < n; row++) {
         const uint64_t *words = read + ROUTE_ROW_WORDS * row;
         printf("%" PRIu64 " %" PRIu64 " %" PRIu64 " %" PRIu64 "\n", words[0], words[1], words[2],
                words[3]);
     }
+    answer = route_signed_number(read, WORDS, n, record, length, TRIM_ROW);
+    if (answer.number != 0) {
+        print_refusal("trim", answer);
+        return 0;
+    }
+    printf("trim of the first channel: %" PRId64 "\n", (int64_t)answer.first);
     return 1;
 }
 

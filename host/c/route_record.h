@@ -53,7 +53,9 @@ enum {
     ROUTE_KIND_BYTE_ARRAY = 5,
     ROUTE_KIND_UINT32_ARRAY = 6,
     ROUTE_KIND_UINT64_ARRAY = 7,
-    ROUTE_KIND_TAGGED_UNION = 8
+    ROUTE_KIND_TAGGED_UNION = 8,
+    ROUTE_KIND_INT32 = 9,
+    ROUTE_KIND_INT64 = 10
 };
 
 /* What the place of a refusal counts. */
@@ -80,7 +82,8 @@ enum {
     ROUTE_REFUSED_SIZE_TOO_LARGE = 16,
     ROUTE_REFUSED_OUTPUT_TOO_SHORT = 17,
     ROUTE_REFUSED_NOT_AN_ARRAY = 18,
-    ROUTE_REFUSED_INPUT_LAYOUT = 19
+    ROUTE_REFUSED_INPUT_LAYOUT = 19,
+    ROUTE_REFUSED_NOT_SIGNED = 20
 };
 
 typedef struct route_answer {
@@ -111,7 +114,7 @@ static inline const char *route_refusal_meaning(uint64_t number)
         return "the count of child words is missing or above 1,024, or the table's length does "
                "not fit it";
     case ROUTE_REFUSED_NODE_KIND:
-        return "the node's kind is above 8";
+        return "the node's kind is above 10";
     case ROUTE_REFUSED_NODE_CHILDREN:
         return "the node's first or count breaks the rule of its kind, or reaches past the child "
                "words";
@@ -146,6 +149,8 @@ static inline const char *route_refusal_meaning(uint64_t number)
         return "there is no such row, or its kind is not 5, 6 or 7";
     case ROUTE_REFUSED_INPUT_LAYOUT:
         return "the input is not a grammar and a record as the program wants them";
+    case ROUTE_REFUSED_NOT_SIGNED:
+        return "there is no such row, or its kind is not 9 or 10";
     default:
         return "no refusal has this number";
     }
@@ -206,15 +211,15 @@ route_answer route_pack_u64_seq(const uint64_t *numbers, size_t numbers_len, uin
  * 1 + 3k on. Word 1 + 3N is M; M child words follow, and the table ends. Node 0 is the root. The
  * children of a node are the child words first to first + count - 1, each a node's number. Kinds:
  * 0 constant, 1 uint32, 2 uint64, 3 array, 4 tuple, 5 array of bytes, 6 array of uint32, 7 array of
- * uint64, 8 tagged union. */
+ * uint64, 8 tagged union, 9 int32, 10 int64. */
 
 /* Accepts the words that are a sound table; child words of no node are not looked at. Changes nothing.
  * Refused: 1 at word 0, when words_len is 0, or N is 0 or above 256;
  * 2 at word 1 + 3N, when M's word is missing, M is above 1024, or words_len is not 2 + 3N + M;
  * then, node after node, from node 0 on:
- * 3 at word 1 + 3k, when the kind of node k is above 8;
- * 4 at word 2 + 3k, when its kind is 3 and its count not 1, when its kind is 0, 1, 2, 5, 6 or 7 and
- * its first or count not 0, or when first + count is above M;
+ * 3 at word 1 + 3k, when the kind of node k is above 10;
+ * 4 at word 2 + 3k, when its kind is 3 and its count not 1, when its kind is 0, 1, 2, 5, 6, 7, 9 or
+ * 10 and its first or count not 0, or when first + count is above M;
  * 5 at the word of its first child whose number is not above k or not below N. */
 ROUTE_NODISCARD
 route_answer route_check_grammar(const uint32_t *words, size_t words_len);
@@ -222,9 +227,11 @@ route_answer route_check_grammar(const uint32_t *words, size_t words_len);
 /* Value rows: row i is the words kind, span, word 2 and word 3, from word 4i on. Kinds are those of
  * grammar tables. The span is the number of rows of the value, its own included; the rows of its
  * children follow its own, child after child. Word 2 is 0 for kind 0, the number for kinds 1 and 2,
- * the count of elements for kinds 3 to 7, the tag for kind 8. Word 3 is the offset of the first
- * element in the store for kinds 5 to 7, else 0. Words behind row n - 1 are not looked at. A call
- * uses less than 1 MiB of stack, on values as deep as 4096 rows can be. */
+ * the count of elements for kinds 3 to 7, the tag for kind 8; for kinds 9 and 10 it is the number's
+ * two's complement pattern as an unsigned number, (uint32_t)-3 for the int32 -3, so for kind 9
+ * below 4294967296. Word 3 is the offset of the first element in the store for kinds 5 to 7, else
+ * 0. Words behind row n - 1 are not looked at. A call uses less than 1 MiB of stack, on values as
+ * deep as 4096 rows can be. */
 
 /* Gives in `first` the size in bytes of the value that rows 0 to n - 1 stand for: the length of its
  * record, at most 4293951488. Changes nothing.
@@ -232,9 +239,9 @@ route_answer route_check_grammar(const uint32_t *words, size_t words_len);
  * 12 at row 0, when n is 0 or above 4096, or 4 * n is above rows_len;
  * 13 at row 0, when its span is not n;
  * then, row after row, from row 0 on:
- * 13 at the row, when its kind is above 8; when its span is 0, reaches past its parent's end, or is
- * not 1 for kind 0, 1, 2, 5, 6 or 7; when word 2 of kind 0 or word 3 of kind 0, 1, 2, 3, 4 or 8 is
- * not 0; or when its kind is 1 and its number above 4294967295;
+ * 13 at the row, when its kind is above 10; when its span is 0, reaches past its parent's end, or
+ * is not 1 for kind 0, 1, 2, 5, 6, 7, 9 or 10; when word 2 of kind 0 or word 3 of kind 0, 1, 2, 3,
+ * 4, 8, 9 or 10 is not 0; or when its kind is 1 or 9 and its word 2 above 4294967295;
  * 14 at the row, when its kind is 5, 6 or 7 and its offset plus its count times 1, 4 or 8 is above
  * store_len, count 0 too;
  * then its children, as many as word 2 says for kinds 3 and 4, one for kind 8, and behind them
@@ -252,11 +259,21 @@ ROUTE_NODISCARD
 route_answer route_locate_array(const uint64_t *rows, size_t rows_len, size_t n,
                                 const uint8_t *store, size_t store_len, size_t row);
 
-/* Reading: the bytes of a value are, for kind 0, none; kind 1, 4; kind 2, 8; kinds 3, 5, 6 and 7,
- * an 8-byte count of elements and the elements; kind 4, its fields in order; kind 8, an 8-byte tag
- * and the value of that case. Each number is least byte first. A call reads a value of node 0 of
- * the grammar and gives in `first` its row count n, in `second` the first byte behind it. It uses
- * less than 64 KiB of stack, on grammars as deep as 256 nodes can be. */
+/* Gives in `first` the number of a row of kind 9 or 10 as a two's complement pattern of 64 bits,
+ * whatever its kind: (int64_t)a.first of the answer a is the number. C23 and C++20 define that cast
+ * so, and GCC and Clang do in every version of the languages. Changes nothing.
+ * Refused: as route_compute_size_of;
+ * 20 at the row, when row is not below n or its kind is not 9 or 10. */
+ROUTE_NODISCARD
+route_answer route_signed_number(const uint64_t *rows, size_t rows_len, size_t n,
+                                 const uint8_t *store, size_t store_len, size_t row);
+
+/* Reading: the bytes of a value are, for kind 0, none; kinds 1 and 9, 4; kinds 2 and 10, 8; kinds
+ * 3, 5, 6 and 7, an 8-byte count of elements and the elements; kind 4, its fields in order; kind 8,
+ * an 8-byte tag and the value of that case. Each number is least byte first, a signed one in two's
+ * complement. A call reads a value of node 0 of the grammar and gives in `first` its row count n,
+ * in `second` the first byte behind it. It uses less than 64 KiB of stack, on grammars as deep as
+ * 256 nodes can be. */
 
 /* Reads from byte index on. The rows lent are rows_len divided by 4, rounded down, at most 4096;
  * none with rows_len 0. Changes only rows 0 to n - 1, which stand for the value, with the record as

@@ -113,6 +113,7 @@ typedef struct argument {
     CALL(check_grammar, "w", ARRAY(0))                                                         \
     CALL(compute_size_of, "rnb", ARRAY(0), NUMBER(1), ARRAY(2))                                \
     CALL(locate_array, "rnbn", ARRAY(0), NUMBER(1), ARRAY(2), NUMBER(3))                       \
+    CALL(signed_number, "rnbn", ARRAY(0), NUMBER(1), ARRAY(2), NUMBER(3))                      \
     CALL(parse_val, "wbnR", ARRAY(0), ARRAY(1), NUMBER(2), ARRAY(3))                           \
     CALL(demarshall, "wbR", ARRAY(0), ARRAY(1), ARRAY(2))                                      \
     CALL(check_val, "wbn", ARRAY(0), ARRAY(1), NUMBER(2))                                      \
@@ -389,12 +390,31 @@ static void test_overlapping(void)
         equal(route_same_route(bytes, 5, record + 1, 8, record, 9), (route_answer){9, 2, 0, 0, 2}));
 }
 
+/* A signed number by the casts of the header: its pattern in the row, and `first` of the answer. */
+static void test_casts(void)
+{
+    enum { NUMBERS = 7 };
+    static const int32_t of_32[NUMBERS] = {0, 1, INT32_MAX, INT32_MIN, INT32_MIN + 1, -3, -1};
+    static const int64_t of_64[NUMBERS] = {0, 1, INT64_MAX, INT64_MIN, INT64_MIN + 1, -3, -1};
+
+    subject = "casts";
+    for (int i = 0; i < NUMBERS; i++) {
+        const uint64_t row_32[] = {ROUTE_KIND_INT32, 1, (uint32_t)of_32[i], 0};
+        route_answer a = route_signed_number(row_32, ROUTE_ROW_WORDS, 1, NULL, 0, 0);
+        CHECK(gives(a, (uint64_t)of_32[i]) && (int64_t)a.first == of_32[i]);
+        const uint64_t row_64[] = {ROUTE_KIND_INT64, 1, (uint64_t)of_64[i], 0};
+        a = route_signed_number(row_64, ROUTE_ROW_WORDS, 1, NULL, 0, 0);
+        CHECK(gives(a, (uint64_t)of_64[i]) && (int64_t)a.first == of_64[i]);
+    }
+}
+
 static void test_meanings(void)
 {
     subject = "meanings";
-    for (uint64_t number = 1; number <= ROUTE_REFUSED_INPUT_LAYOUT; number++)
+    for (uint64_t number = 1; number <= ROUTE_REFUSED_NOT_SIGNED; number++)
         CHECK(strcmp(route_refusal_meaning(number), route_refusal_meaning(0)) != 0);
-    CHECK(strcmp(route_refusal_meaning(20), route_refusal_meaning(0)) == 0);
+    CHECK(strcmp(route_refusal_meaning(ROUTE_REFUSED_NOT_SIGNED + 1), route_refusal_meaning(0)) ==
+          0);
 }
 
 int main(void)
@@ -406,6 +426,7 @@ int main(void)
     test_lengths();
     test_longest();
     test_overlapping();
+    test_casts();
     test_meanings();
     printf("%u passed, %u failed\n", passed, failed);
     return failed != 0 || passed == 0;
