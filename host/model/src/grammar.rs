@@ -8,7 +8,7 @@ const MOST_NODES: u32 = 256;
 /// The most child words a table has.
 const MOST_CHILD_WORDS: u32 = 1024;
 
-/// Whether a node of this kind, 0 to 8, may have this first and this count.
+/// Whether a node of this kind, 0 to 10, may have this first and this count.
 fn fits_kind(kind: u32, first: u32, count: u32) -> bool {
     match kind {
         3 => count == 1,
@@ -42,7 +42,7 @@ pub fn check_grammar(words: &[u32]) -> Result<(), Refusal> {
     let (nodes, child_words) = sections(words, n)?;
     for (k, node) in nodes.chunks(3).enumerate() {
         let (kind, first, count) = (node[0], node[1], node[2]);
-        if kind > 8 {
+        if kind > 10 {
             return Err(at_word(3, 1 + 3 * k));
         }
         let end = u64::from(first) + u64::from(count);

@@ -1,6 +1,7 @@
-//! A model of the route-record library, written from the definitions of its Dafny source and from
-//! the table of refusals. It shares nothing with the proved code. A function here only reads the
-//! buffers it is given, and gives back what they hold after the call.
+//! A model of the route-record library, written from the definitions of its Dafny source, from the
+//! definition of two's complement and from the table of refusals. It shares nothing with the proved
+//! code. A function here only reads the buffers it is given, and gives back what they hold after the
+//! call.
 
 #![forbid(unsafe_code)]
 #![deny(missing_docs)]
@@ -12,6 +13,7 @@ mod refusal;
 mod rows;
 mod same_route;
 mod show;
+mod signed;
 mod writing;
 
 pub use grammar::check_grammar;
@@ -21,4 +23,5 @@ pub use refusal::{Place, Refusal};
 pub use rows::{compute_size_of, locate_array};
 pub use same_route::{same_route, SameRouteRefusal};
 pub use show::show;
+pub use signed::signed_number;
 pub use writing::{marshall, marshall_val, Writing};

@@ -93,7 +93,9 @@ impl<'a> Reader<'_, 'a> {
             5 => self.elements(1).map(V::ByteArray),
             6 => self.elements(4).map(V::Uint32Array),
             7 => self.elements(8).map(V::Uint64Array),
-            _ => self.case(children),
+            8 => self.case(children),
+            9 => self.number(4).map(|pattern| V::Int32(pattern as u32)),
+            _ => self.number(8).map(V::Int64),
         }
     }
 }
@@ -123,6 +125,8 @@ fn words(value: &V) -> [u64; 3] {
         V::Uint32Array(elements) => array(6, 4, elements),
         V::Uint64Array(elements) => array(7, 8, elements),
         V::Case(tag, _) => [8, *tag, 0],
+        V::Int32(pattern) => [9, u64::from(*pattern), 0],
+        V::Int64(pattern) => [10, *pattern, 0],
     }
 }
 

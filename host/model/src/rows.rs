@@ -8,11 +8,11 @@ use crate::refusal::{at_byte, at_row, Refusal};
 pub(crate) const MOST_ROWS: usize = 4096;
 /// The most bytes of a record or a store.
 pub(crate) const MOST_BYTES: usize = 1_048_576;
-/// The largest number of kind 1.
+/// The largest number of kind 1, and the largest pattern of kind 9.
 const MOST_UINT32: u64 = 4_294_967_295;
 
 /// The words of a row: kind, span, word 2 and word 3.
-type Row = [u64; 4];
+pub(crate) type Row = [u64; 4];
 
 /// The elements of a value of kind 5 to 7: where they start in the store, and their bytes there.
 pub(crate) struct Elements<'a> {
@@ -20,8 +20,8 @@ pub(crate) struct Elements<'a> {
     pub(crate) packed: &'a [u8],
 }
 
-/// GM's datatype `V`. Number arrays stay packed, since arrays that overlap in the store may have
-/// far more elements than the store has bytes.
+/// GM's datatype `V`, and the signed numbers as their patterns. Number arrays stay packed, since
+/// arrays that overlap in the store may have far more elements than the store has bytes.
 pub(crate) enum V<'a> {
     Constant,
     Uint32(u32),
@@ -32,6 +32,8 @@ pub(crate) enum V<'a> {
     Uint32Array(Elements<'a>),
     Uint64Array(Elements<'a>),
     Case(u64, Box<V<'a>>),
+    Int32(u32),
+    Int64(u64),
 }
 
 /// Refuses a record or a store that is too long.
@@ -60,11 +62,11 @@ fn is_valid([kind, span, word2, word3]: Row, most: usize) -> bool {
     };
     let is_word2_valid = match kind {
         0 => word2 == 0,
-        1 => word2 <= MOST_UINT32,
+        1 | 9 => word2 <= MOST_UINT32,
         _ => true,
     };
     let is_word3_valid = matches!(kind, 5..=7) || word3 == 0;
-    kind <= 8 && is_span_valid && is_word2_valid && is_word3_valid
+    kind <= 10 && is_span_valid && is_word2_valid && is_word3_valid
 }
 
 /// The elements of an array row, `width` bytes each.
@@ -120,10 +122,12 @@ fn value<'a>(rows: &[Row], row: usize, end: usize, store: &'a [u8]) -> Result<V<
         5 => elements(rows, row, 1, store).map(V::ByteArray),
         6 => elements(rows, row, 4, store).map(V::Uint32Array),
         7 => elements(rows, row, 8, store).map(V::Uint64Array),
-        _ => {
+        8 => {
             let child = children(rows, row, 1, store)?.remove(0);
             Ok(V::Case(word2, Box::new(child)))
         }
+        9 => Ok(V::Int32(word2 as u32)),
+        _ => Ok(V::Int64(word2)),
     }
 }
 
@@ -147,8 +151,8 @@ fn seq_sum(values: &[V]) -> u64 {
 pub(crate) fn size_of_v(value: &V) -> u64 {
     match value {
         V::Constant => 0,
-        V::Uint32(_) => 4,
-        V::Uint64(_) => 8,
+        V::Uint32(_) | V::Int32(_) => 4,
+        V::Uint64(_) | V::Int64(_) => 8,
         V::Array(values) => 8 + seq_sum(values),
         V::Tuple(values) => seq_sum(values),
         V::ByteArray(array) | V::Uint32Array(array) | V::Uint64Array(array) => {
@@ -158,14 +162,20 @@ pub(crate) fn size_of_v(value: &V) -> u64 {
     }
 }
 
-/// Checks that `n` rows stand for a value.
-fn check_rows(rows: &[u64], n: usize, store: &[u8]) -> Result<(), Refusal> {
-    whole_value(rows, n, store).map(|_| ())
-}
-
 /// The length in bytes of the record of the value that `n` rows stand for.
 pub fn compute_size_of(rows: &[u64], n: usize, store: &[u8]) -> Result<u64, Refusal> {
     whole_value(rows, n, store).map(|value| size_of_v(&value))
+}
+
+/// The row of this number, if it is below `n`; the `n` rows stand for a value.
+pub(crate) fn checked_row(
+    rows: &[u64],
+    n: usize,
+    store: &[u8],
+    row: usize,
+) -> Result<Option<Row>, Refusal> {
+    whole_value(rows, n, store)?;
+    Ok(table(rows, n)?.get(row).copied())
 }
 
 /// Where the elements of an array row start in the store, and their length in bytes.
@@ -175,15 +185,11 @@ pub fn locate_array(
     store: &[u8],
     row: usize,
 ) -> Result<(usize, usize), Refusal> {
-    check_rows(rows, n, store)?;
-    let (kind, count, place) = match table(rows, n)?.get(row) {
-        Some(&[kind, _, count, place]) => (kind, count as usize, place as usize),
-        None => return Err(at_row(18, row)),
+    let (place, length) = match checked_row(rows, n, store, row)? {
+        Some([5, _, count, place]) => (place, count),
+        Some([6, _, count, place]) => (place, 4 * count),
+        Some([7, _, count, place]) => (place, 8 * count),
+        _ => return Err(at_row(18, row)),
     };
-    match kind {
-        5 => Ok((place, count)),
-        6 => Ok((place, 4 * count)),
-        7 => Ok((place, 8 * count)),
-        _ => Err(at_row(18, row)),
-    }
+    Ok((place as usize, length as usize))
 }

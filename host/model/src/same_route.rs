@@ -41,6 +41,8 @@ fn are_equal(left: &V, right: &V) -> bool {
         (V::Uint32Array(left), V::Uint32Array(right)) => have_equal_numbers(4, left, right),
         (V::Uint64Array(left), V::Uint64Array(right)) => have_equal_numbers(8, left, right),
         (V::Case(tag, left), V::Case(other, right)) => tag == other && are_equal(left, right),
+        (V::Int32(left), V::Int32(right)) => left == right,
+        (V::Int64(left), V::Int64(right)) => left == right,
         _ => false,
     }
 }

@@ -23,6 +23,7 @@ fn check_in_grammar(value: &V, row: usize, grammar: &[u32], number: u32) -> Resu
     let check = |row, value, number| check_in_grammar(value, row, grammar, number);
     match (value, kind) {
         (V::Constant, 0) | (V::Uint32(_), 1) | (V::Uint64(_), 2) => Ok(row + 1),
+        (V::Int32(_), 9) | (V::Int64(_), 10) => Ok(row + 1),
         (V::ByteArray(_), 5) | (V::Uint32Array(_), 6) | (V::Uint64Array(_), 7) => Ok(row + 1),
         (V::Array(values), 3) => {
             let mut values = values.iter();
@@ -55,8 +56,8 @@ fn array_bytes(elements: &Elements, width: usize) -> Vec<u8> {
 fn bytes(value: &V) -> Vec<u8> {
     match value {
         V::Constant => vec![],
-        V::Uint32(number) => digits(u64::from(*number), 4),
-        V::Uint64(number) => digits(*number, 8),
+        V::Uint32(number) | V::Int32(number) => digits(u64::from(*number), 4),
+        V::Uint64(number) | V::Int64(number) => digits(*number, 8),
         V::Array(values) => [digits(values.len() as u64, 8), all_bytes(values)].concat(),
         V::Tuple(values) => all_bytes(values),
         V::ByteArray(elements) => array_bytes(elements, 1),
