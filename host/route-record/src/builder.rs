@@ -73,6 +73,24 @@ impl Builder {
         self.row(Kind::UINT64, number, 0);
     }
 
+    /// An int32. Its row holds the number's 32-bit two's complement pattern.
+    ///
+    /// ```
+    /// use route_record::Value;
+    ///
+    /// let value = Value::build(|value| value.int32(-3))?;
+    /// assert_eq!(value.row_words(), [9, 1, 4_294_967_293, 0]);
+    /// # Ok::<(), route_record::Refusal>(())
+    /// ```
+    pub fn int32(&mut self, number: i32) {
+        self.row(Kind::INT32, u64::from(number as u32), 0);
+    }
+
+    /// An int64. Its row holds the number's 64-bit two's complement pattern.
+    pub fn int64(&mut self, number: i64) {
+        self.row(Kind::INT64, number as u64, 0);
+    }
+
     /// An array whose elements the closure makes.
     pub fn array(&mut self, elements: impl FnOnce(&mut Builder)) {
         let (word2, count) = self.parent(Kind::ARRAY, elements);

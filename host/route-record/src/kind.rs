@@ -6,8 +6,13 @@
 pub enum Class {
     /// Nothing: there is one such value, and it has no bytes.
     Constant,
-    /// One number of so many bytes.
+    /// One unsigned number of so many bytes.
     Number {
+        /// Bytes of the number.
+        width: usize,
+    },
+    /// One signed number of so many bytes, in two's complement.
+    Signed {
         /// Bytes of the number.
         width: usize,
     },
@@ -72,6 +77,8 @@ kinds! {
     6 UINT32_ARRAY "GUint32Array" "u32s" Class::Elements { width: 4 };
     7 UINT64_ARRAY "GUint64Array" "u64s" Class::Elements { width: 8 };
     8 TAGGED_UNION "GTaggedUnion" "union" Class::Union;
+    9 INT32 "GInt32" "i32" Class::Signed { width: 4 };
+    10 INT64 "GInt64" "i64" Class::Signed { width: 8 };
 }
 
 #[cfg(test)]

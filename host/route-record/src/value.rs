@@ -161,6 +161,9 @@ impl<'v> Row<'v> {
         match self.kind().class {
             Class::Constant => Contents::Constant,
             Class::Number { .. } => Contents::Number(words[2]),
+            // A cast to a signed type of the pattern's width keeps its bits.
+            Class::Signed { width: 4 } => Contents::Signed((words[2] as i32).into()),
+            Class::Signed { .. } => Contents::Signed(words[2] as i64),
             Class::Array => Contents::Array(self.children()),
             Class::Tuple => Contents::Tuple(self.children()),
             Class::Elements { width } => {
@@ -179,10 +182,31 @@ impl<'v> Row<'v> {
         }
     }
 
-    /// The number, of a row that is one.
+    /// The number, of a row that is an unsigned one, so of kind 1 or 2. A signed one is given by
+    /// [`signed`](Row::signed).
     pub fn number(&self) -> Option<u64> {
         match self.contents() {
             Contents::Number(number) => Some(number),
+            _ => None,
+        }
+    }
+
+    /// The number, of a row that is a signed one, so of kind 9 or 10: what
+    /// [`calls::signed_number`] gives. An unsigned one is given by [`number`](Row::number).
+    ///
+    /// ```
+    /// use route_record::Grammar;
+    ///
+    /// let grammar = "tuple(i32, u32)".parse::<Grammar>()?;
+    /// let value = grammar.demarshall_vec(&[0xff; 8])?;
+    /// let fields: Vec<_> = value.root().children().collect();
+    /// assert_eq!((fields[0].signed(), fields[0].number()), (Some(-1), None));
+    /// assert_eq!((fields[1].signed(), fields[1].number()), (None, Some(4_294_967_295)));
+    /// # Ok::<(), Box<dyn std::error::Error>>(())
+    /// ```
+    pub fn signed(&self) -> Option<i64> {
+        match self.contents() {
+            Contents::Signed(number) => Some(number),
             _ => None,
         }
     }
@@ -244,8 +268,10 @@ impl fmt::Debug for Row<'_> {
 pub enum Contents<'v> {
     /// Nothing.
     Constant,
-    /// A number.
+    /// An unsigned number.
     Number(u64),
+    /// A signed number.
+    Signed(i64),
     /// Elements, each a value.
     Array(Children<'v>),
     /// Fields, each a value.

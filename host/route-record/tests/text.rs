@@ -53,6 +53,13 @@ fn every_kind_is_written_by_its_form() {
 }
 
 #[test]
+fn signed_numbers_are_types_of_their_own() {
+    let words_of = |kind| [3, 4, 0, 2, kind, 0, 0, 1, 0, 0, 2, 1, 2];
+    assert_eq!(words("tuple(i32, u32)"), words_of(9));
+    assert_eq!(words("tuple(i64, u32)"), words_of(10));
+}
+
+#[test]
 fn a_name_is_one_node_and_a_kind_one_at_each_use() {
     let pair = [2, 4, 0, 2, 1, 0, 0, 2, 1, 1];
     assert_eq!(words("n = u32; tuple(n, n)"), pair);
@@ -102,6 +109,7 @@ fn wrong_texts() {
         ("u32;", "1:4", end, "';'"),
         ("u32\r\n\n %=", "3:2", end, "'%'"),
         ("U32", "1:1", a_type, "'U32'"),
+        ("i32s", "1:1", a_type, "'i32s'"),
         ("tuple(größe, 3)", "1:7", a_type, "'größe'"),
         ("tuple(u32, 3)", "1:12", a_type, "'3'"),
         ("\u{feff}u32", "1:1", a_type, "'\\u{feff}'"),
@@ -117,6 +125,7 @@ fn wrong_texts() {
         ("a; a = u32", "1:1", a_type, "'a'"),
         ("u32 a = u32", "1:5", end, "'a'"),
         ("\n u32 = u64 u32", "2:2", "a name that is no kind", "'u32'"),
+        ("i64 = u64 i64", "1:1", "a name that is no kind", "'i64'"),
         (
             "ä = u32; ä = u64; ä",
             "1:10",
@@ -152,7 +161,7 @@ fn wrong_texts() {
 /// A refused table is said with what stands at the refusal's word.
 #[test]
 fn refused_tables() {
-    let node = "word 1 is the kind of node 0: kind 9, first 0, count 0; child words 0";
+    let node = "word 1 is the kind of node 0: kind 11, first 0, count 0; child words 0";
     let first = "word 5 is the first of node 1: kind 3, first 0, count 4294967295; child words 1";
     let tuple = |field: &str, count: usize| {
         format!(
@@ -163,7 +172,7 @@ fn refused_tables() {
     for (text, number, place, word, length) in [
         ("257", 1, 0, "word 0 is the node count: 257", 1),
         ("1", 2, 4, "word 4 is the count of child words: missing", 1),
-        ("1 9 0 0 0", 3, 1, node, 5),
+        ("1 11 0 0 0", 3, 1, node, 5),
         ("2 0 0 0 3 0 0xFFFFFFFF 1 1", 4, 5, first, 9),
         ("1 4 0 1 1 0", 5, 5, "word 5 is child word 0: 0", 6),
         (

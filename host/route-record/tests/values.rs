@@ -4,8 +4,9 @@
 use std::collections::HashSet;
 use std::thread;
 
+use route_record::calls::signed_number;
 use route_record::{
-    Grammar, Place, Refusal, Value, KINDS, MAX_BYTES, MAX_ROWS, REFUSALS, ROW_WORDS,
+    Builder, Grammar, Place, Refusal, Value, KINDS, MAX_BYTES, MAX_ROWS, REFUSALS, ROW_WORDS,
 };
 
 fn grammar() -> Grammar {
@@ -136,6 +137,100 @@ fn elements_are_equal_by_bytes_and_width_wherever_they_lie() {
     assert_eq!(elements[0], elements[1]);
     assert_ne!(elements[1], elements[2]);
     assert_eq!(elements.iter().collect::<HashSet<_>>().len(), 2);
+}
+
+/// A signed number is written as these bytes under its type, and read back from them.
+fn assert_signed(text: &str, make: impl FnOnce(&mut Builder), bytes: &[u8], number: i64) {
+    let grammar = text.parse::<Grammar>().unwrap();
+    let built = Value::build(make).unwrap();
+    assert_eq!(grammar.marshall_vec(&built).unwrap(), bytes);
+    let read = grammar.demarshall_vec(bytes).unwrap();
+    let row = read.root();
+    assert_eq!((row.kind().text, row.words()), (text, built.row_words()));
+    assert_eq!((row.signed(), row.number()), (Some(number), None));
+    assert_eq!(format!("{:?}", row.contents()), format!("Signed({number})"));
+}
+
+#[test]
+fn signed_numbers_at_the_ends_of_both_widths() {
+    for (pattern, number) in [
+        (0_u32, 0),
+        (1, 1),
+        (2_147_483_646, i32::MAX - 1),
+        (2_147_483_647, i32::MAX),
+        (2_147_483_648, i32::MIN),
+        (2_147_483_649, i32::MIN + 1),
+        (4_294_967_294, -2),
+        (4_294_967_295, -1),
+    ] {
+        let make = |value: &mut Builder| value.int32(number);
+        assert_signed("i32", make, &pattern.to_le_bytes(), number.into());
+    }
+    for (pattern, number) in [
+        (0_u64, 0),
+        (4_294_967_295, 4_294_967_295),
+        (9_223_372_036_854_775_806, i64::MAX - 1),
+        (9_223_372_036_854_775_807, i64::MAX),
+        (9_223_372_036_854_775_808, i64::MIN),
+        (9_223_372_036_854_775_809, i64::MIN + 1),
+        (18_446_744_073_709_551_614, -2),
+        (18_446_744_073_709_551_615, -1),
+    ] {
+        let make = |value: &mut Builder| value.int64(number);
+        assert_signed("i64", make, &pattern.to_le_bytes(), number);
+    }
+}
+
+/// Every kind stands in a row, and each row has a signed number where the library gives one.
+#[test]
+fn a_row_has_the_signed_number_that_the_library_gives() {
+    let value = Value::build(|value| {
+        value.tuple(|fields| {
+            fields.constant();
+            fields.uint32(u32::MAX);
+            fields.uint64(u64::MAX);
+            fields.array(|trims| {
+                trims.int32(-1);
+                trims.int32(i32::MIN);
+            });
+            fields.byte_array(&[0xff; 8]);
+            fields.uint32_array(&[u32::MAX]);
+            fields.uint64_array(&[u64::MAX]);
+            fields.tagged_union(9, |value| value.int64(i64::MIN));
+            fields.int32(i32::MAX);
+            fields.int64(-3);
+        });
+    });
+    let value = value.unwrap();
+    let (rows, n, store) = (value.row_words(), value.row_count(), value.store());
+    let (mut kinds, mut numbers) = (HashSet::new(), Vec::new());
+    for (_, row) in value.rows() {
+        let not_signed = Refusal {
+            number: Refusal::NOT_SIGNED,
+            place: Place::Row(row.index() as u64),
+        };
+        let given = signed_number(rows, n, store, row.index());
+        assert_eq!(row.signed().ok_or(not_signed), given, "{row:?}");
+        kinds.insert(row.kind());
+        numbers.extend(row.signed());
+    }
+    assert_eq!(kinds.len(), KINDS.len());
+    let expected = [-1, i32::MIN.into(), i64::MIN, i32::MAX.into(), -3];
+    assert_eq!(numbers, expected);
+}
+
+#[test]
+fn signed_and_unsigned_numbers_are_two_kinds() {
+    let refusal = |text: &str, make: fn(&mut Builder)| {
+        let grammar = text.parse::<Grammar>().unwrap();
+        let record = grammar.marshall_vec(&Value::build(make).unwrap());
+        record.unwrap_err().number
+    };
+    assert_eq!(refusal("i32", |value| value.uint32(5)), 15);
+    assert_eq!(refusal("u32", |value| value.int32(5)), 15);
+    assert_eq!(refusal("i64", |value| value.uint64(5)), 15);
+    assert_eq!(refusal("u64", |value| value.int64(5)), 15);
+    assert_eq!(refusal("i64", |value| value.int32(5)), 15);
 }
 
 #[test]

@@ -1,9 +1,10 @@
 //! Reading a record by its grammar, into value rows or as a check.
 //!
-//! The bytes of a constant are none, of a uint32 4, of a uint64 8, of a tuple its fields in order,
-//! of an array an 8-byte element count and the elements, of a case an 8-byte tag and its value;
-//! each number is least byte first. The record is the store of the rows. Rows are four words each;
-//! a slice has as many rows as its words divided by 4, rounded down, at most 4,096.
+//! The bytes of a constant are none, of a uint32 or int32 4, of a uint64 or int64 8, of a tuple its
+//! fields in order, of an array an 8-byte element count and the elements, of a case an 8-byte tag
+//! and its value; each number is least byte first, a signed one in two's complement. The record is
+//! the store of the rows. Rows are four words each; a slice has as many rows as its words divided
+//! by 4, rounded down, at most 4,096.
 //!
 //! A call uses less than 64 KiB of stack, on grammars as deep as 256 nodes can be.
 

@@ -3,9 +3,9 @@
 //!
 //! A row is four words: kind, span, word 2 and word 3. The span is the number of rows of the value,
 //! its own included; the rows of its children follow its own, child after child. Word 2 is 0 for a
-//! constant, the number for kinds 1 and 2, the element count for kinds 3 to 7, the tag for kind 8,
-//! the unsigned bit pattern of the number for kinds 9 and 10, in two's complement of 32 and 64 bits.
-//! Word 3 is the offset of the first element in the store for kinds 5 to 7, else 0.
+//! constant, the number for kinds 1 and 2, the element count for kinds 3 to 7, the tag for kind 8;
+//! for kinds 9 and 10 it is the number's two's complement pattern, of 32 and 64 bits, as an unsigned
+//! number. Word 3 is the offset of the first element in the store for kinds 5 to 7, else 0.
 //!
 //! A call uses less than 1 MiB of stack, on values as deep as 4,096 rows can be.
 
@@ -68,7 +68,7 @@ pub fn locate_array(
     Ok((within_store(answer.first), within_store(answer.second)))
 }
 
-/// The number of row `row`, of kind 9 or 10: word 2 is its bit pattern in two's complement.
+/// The signed number of row `row`, of kind 9 or 10: the one whose pattern is the row's word 2.
 ///
 /// Refused as [`compute_size_of`] is, then by 20 at row `row` when `row` is not below `n` or its
 /// kind is not 9 or 10.

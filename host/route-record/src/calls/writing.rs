@@ -1,9 +1,10 @@
 //! Writing the record of the value that rows stand for, by its grammar.
 //!
-//! The bytes of a constant are none, of a uint32 4, of a uint64 8, of a tuple its fields in order,
-//! of an array an 8-byte element count and the elements, of a case an 8-byte tag and its value;
-//! each number is least byte first. The elements of kinds 5 to 7 are the store's bytes from their
-//! offset on. The store is any slice: that the rows were read from it is not asked.
+//! The bytes of a constant are none, of a uint32 or int32 4, of a uint64 or int64 8, of a tuple its
+//! fields in order, of an array an 8-byte element count and the elements, of a case an 8-byte tag
+//! and its value; each number is least byte first, a signed one in two's complement. The elements
+//! of kinds 5 to 7 are the store's bytes from their offset on. The store is any slice: that the
+//! rows were read from it is not asked.
 //!
 //! A call uses less than 1 MiB of stack, on values as deep as 4,096 rows can be.
 
