@@ -3,7 +3,7 @@ ghost use mathlib.Core.Path.{_≡_};
 ghost use Rattle.refusal.specs.Meaning.{reasonOf, outcomeOf};
 ghost use Rattle.refusal.specs.Outcome.{accepted, test, reason, word, byte, row};
 
-// Document 01's numbers, in the order of its table.
+// The numbers of document 01, in the order of its table, then those of document 02.
 pub const NODE_COUNT: u64 = 1;
 
 pub const GRAMMAR_LENGTH: u64 = 2;
@@ -41,6 +41,8 @@ pub const OUTPUT_TOO_SHORT: u64 = 17;
 pub const NOT_AN_ARRAY: u64 = 18;
 
 pub const INPUT_LAYOUT: u64 = 19;
+
+pub const NOT_SIGNED: u64 = 20;
 
 // Where a refusal was found: a grammar word, a byte or a row.
 pub enum Place {

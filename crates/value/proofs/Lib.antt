@@ -1,4 +1,5 @@
 pub mod KindLaws
+pub mod Signed
 pub mod Laws
 pub mod Source
 pub mod Agreement

@@ -4,3 +4,4 @@ pub mod Bytes
 pub mod Step
 pub mod Parse
 pub mod Reading
+pub mod Signed
