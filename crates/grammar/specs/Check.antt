@@ -18,7 +18,7 @@ keepsRule (elements k) first count = eqb first 0 && eqb count 0
 keepsRule union first count = true
 keepsRule other first count = false
 
--- whether document 01 names the kind: its kind words are 0 to 8
+-- whether the papers name the kind: their kind words are 0 to 10
 abbrev pub isNamed : Kind → Bool
 isNamed constant = true
 isNamed (number k) = true

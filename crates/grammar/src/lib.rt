@@ -118,7 +118,9 @@ fn check_node(words: &[u32], k: usize, children: usize) -> Answer
         6 => check_rule(leaf, at, first, count, children),
         7 => check_rule(leaf, at, first, count, children),
         8 => check_rule(true, at, first, count, children),
-        9.. => Answer::Refused(refusal::at_word(refusal::NODE_KIND, 1 + 3 * k)),
+        9 => check_rule(leaf, at, first, count, children),
+        10 => check_rule(leaf, at, first, count, children),
+        11.. => Answer::Refused(refusal::at_word(refusal::NODE_KIND, 1 + 3 * k)),
     }
 }
 

@@ -1,6 +1,6 @@
 -- The arms of the value reader: what was read behind the claimed row is the value of the node.
 use mathlib.Core.Path.{_≡_, refl, ap, sym, subst, _∙_}
-use mathlib.Core.Logic.{_⊎_, ⊎-elim}
+use mathlib.Core.Bool.{false}
 use mathlib.Core.List.{List, [], _∷_, _++_}
 use Prim.Native.Nat.{ℕ, suc, _+_, _-_, _*_, _≤_, _<_}
 use native.Mathlib.Nat.{add-zero}
@@ -17,7 +17,7 @@ use Rattle.value.specs.Kinds.{Kind, Number, Elements, width, numberKind, elemen
 use Rattle.value.specs.Tree.{G, Gs, GConstant, GNumber, GArray, GTuple, GNumberArray, GTaggedUnion, seqG, seqV, caseAt, Val, Vals, VConstant, VNumber, VArray, VTuple, VNumberArray, VCase, rowCount, rowCounts}
 use Rattle.value.specs.Step.{Step, yield, next, give, elements}
 use Rattle.value.specs.Reading.{State, Stop, Reading, stop, move, begin, claim, free, takeNumber, takeNumbers, readBody, readFields, readVal}
-use Rattle.value.proofs.KindLaws.{number-kind, elements-kind, other-kinds}
+use Rattle.value.proofs.KindLaws.{number-kind, elements-kind, other-kinds, isParent, not-parent}
 use Rattle.value.proofs.Agreement.{agrees, agrees-elements, agrees-fields, agrees-accepted, elements-count, fields-count}
 use Rattle.tables.specs.Grammar.{kindWord, firstWord, countWord, childWord}
 use Rattle.grammar.specs.Rule.{CountRule}
@@ -278,10 +278,6 @@ counted-value {d} {entry} {mid} {row} u g (Next v) ready l h =
     let f = agrees-accepted (agrees (u .capacity) d g (stateOf u) (ready .inside)) (record { value = w .0; state = stateOf v }) (w .1) in
     (omega (arith, f .1), omega (arith, f .1, f .2, ready .few, ready .most))
 
--- kinds 0 to 2 and 5 to 7 have no children
-pub leaf : {w : ℕ} → (w < 3) ⊎ ((4 < w) × (w < 8)) → Leaf w
-leaf {w} h = record {
-  noArray = λ e. ⊎-elim (λ (l : w < 3). omega arith) (λ (l : (4 < w) × (w < 8)). omega arith) h;
-  noTuple = λ e. ⊎-elim (λ (l : w < 3). omega arith) (λ (l : (4 < w) × (w < 8)). omega arith) h;
-  noCase = λ e. ⊎-elim (λ (l : w < 3). omega arith) (λ (l : (4 < w) × (w < 8)). omega arith) h;
-}
+-- the other kinds have no children
+pub leaf : {w k : ℕ} → w ≡ k → isParent k ≡ false → Leaf w
+leaf e n = record { noArray = not-parent e n refl; noTuple = not-parent e n refl; noCase = not-parent e n refl }

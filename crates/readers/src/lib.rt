@@ -220,7 +220,7 @@ fn refuse_kind(node: usize, s: State) -> Step
 }
 
 // A value without children, behind its claimed row. The arms that refuse the kind are not reached: the cycle reads parents
-// itself, and no kind is above 8 in a table that passes.
+// itself, and no kind is above 10 in a table that passes.
 fn read_leaf(
     grammar: &[u32],
     node: usize,
@@ -243,7 +243,9 @@ fn read_leaf(
         6 => read_elements(bytes, rows, row, 6, 4, s),
         7 => read_elements(bytes, rows, row, 7, 8, s),
         8 => refuse_kind(node, s),
-        9..=4294967295 => refuse_kind(node, s),
+        9 => read_number(rows, row, 9, s.take4(bytes)),
+        10 => read_number(rows, row, 10, s.take8(bytes)),
+        11..=4294967295 => refuse_kind(node, s),
     }
 }
 
@@ -268,7 +270,9 @@ fn read_value(grammar: &[u32], node: usize, bytes: &[u8], rows: &mut [u64], s: S
                 6 => read_leaf(grammar, node, bytes, rows, row, kind, t),
                 7 => read_leaf(grammar, node, bytes, rows, row, kind, t),
                 8 => read_case(grammar, node, bytes, rows, row, t),
-                9..=4294967295 => refuse_kind(node, t),
+                9 => read_leaf(grammar, node, bytes, rows, row, kind, t),
+                10 => read_leaf(grammar, node, bytes, rows, row, kind, t),
+                11..=4294967295 => refuse_kind(node, t),
             }
         }
     }

@@ -11,9 +11,9 @@ use lib.Dec.{leb, ltb, eqb}
 use borrow.Author.Tests.{lt-ltb, le-ltb, ltb-true, ltb-false, le-leb, lt-leb, eq-eqb, ne-eqb}
 use Rattle.refusal.specs.Outcome.{Outcome, accepted, refused, bind, test, map, Reason, reason, byte, row}
 use Rattle.refusal.proofs.Outcome.{Post, holds, fails, post-reflects, post-accepted, map-map, test-true, test-false}
-use Rattle.refusal.proofs.Tests.{and-true, NoneBelow, none-below, reflects-leb, reflects-ltb, reflects-and}
-use Rattle.value.specs.Kinds.{Kind, kinds, kindOf, other}
-use Rattle.value.proofs.KindLaws.{kind-other}
+use Rattle.refusal.proofs.Tests.{and-true, NoneBelow, reflects-leb, reflects-ltb, reflects-and}
+use Rattle.value.specs.Kinds.{Kind, lastKind, kindOf, other}
+use Rattle.value.proofs.KindLaws.{none-of}
 use Rattle.value.specs.Tree.{Val, Vals, vnil, vcons}
 use Rattle.tables.specs.Row.{rowWidth, Row, rowAt}
 use Rattle.rows.specs.Walk.{keepsRule, withinStore, childCount, rowValue, checkRow, walkChildren, walkTo, walkRow, countHolds, walk}
@@ -40,11 +40,6 @@ bind-same k l (holds a p) h = h a p
 bind-same k l (fails e q) h = refl
 
 -- ---- a row by itself
-
--- in the last arm of a match on 0 to 8
-pub none-of : (k : ℕ) → NoneBelow 9 k → kindOf k ≡ other
-unfolding kinds
-none-of k r = kind-other k (none-below 9 k r)
 
 pub row-eq : (r : Row) {k n a b : ℕ} → r .kind ≡ k → r .span ≡ n → r .word2 ≡ a → r .word3 ≡ b → r ≡ record { kind = k; span = n; word2 = a; word3 = b }
 row-eq r p q x y = rw (← p, ← q, ← x, ← y)
@@ -76,7 +71,7 @@ pub by-kind : {A : Type 0} (f : Kind → A) {m k : ℕ} {x : A} → m ≡ k → 
 by-kind f e h = h ∙ ap (λ (n : ℕ). f (kindOf n)) (sym e)
 
 -- in its last arm
-pub by-other : {A : Type 0} (f : Kind → A) {m : ℕ} {x : A} → NoneBelow 9 m → x ≡ f other → x ≡ f (kindOf m)
+pub by-other : {A : Type 0} (f : Kind → A) {m : ℕ} {x : A} → NoneBelow (suc lastKind) m → x ≡ f other → x ≡ f (kindOf m)
 by-other f {m} n h = h ∙ ap f (sym (none-of m n))
 
 -- in an arm of the row's match: the span reaches, and the kind's rule is decided

@@ -11,7 +11,7 @@ use lib.Seq.{length-take-le}
 use borrow.Author.Tests.{lt-ltb, le-leb, leb-true}
 use Rattle.packed.specs.Packed.{packLittleEndian}
 use Rattle.packed.proofs.Laws.{length-pack}
-use Rattle.value.specs.Kinds.{Number, uint32, uint64, width, elementWidth, Kind, kinds, kindOf, constant, number, array, tuple, elements, union, other}
+use Rattle.value.specs.Kinds.{Number, uint32, uint64, int32, int64, width, elementWidth, Kind, kinds, kindOf, constant, number, array, tuple, elements, union, other}
 use Rattle.value.specs.Tree.{Val, Vals, VConstant, VNumber, VArray, VTuple, VNumberArray, VCase, vnil, vcons, TypedVal, TypedVals, SizeOfV, SeqSum, rowCount, rowCounts}
 use Rattle.value.specs.Bytes.{bytesOf, bytesOfAll}
 use Rattle.value.proofs.KindLaws.{number-kind, elements-kind}
@@ -153,6 +153,8 @@ module _ (t s : List ℕ) where
 width-most : (k : Number) → width k ≤ 8
 width-most uint32 = omega arith
 width-most uint64 = omega arith
+width-most int32 = omega arith
+width-most int64 = omega arith
 
 -- a row's own bytes are those of an array at most, which lie in the store
 own-most : (k : Kind) (r : Row) (len : ℕ) → withinStore k r len ≡ true → len ≤ 1048576 → ownSize k r ≤ mostOwnSize

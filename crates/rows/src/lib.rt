@@ -91,7 +91,9 @@ fn check_row(rows: &[u64], store: &[u8], row: usize, end: usize) -> Wanted
         6 => check_rule(leaf, packed::within(len, start, count, 4), 0, row),
         7 => check_rule(leaf, packed::within(len, start, count, 8), 0, row),
         8 => check_rule(unused, true, 1, row),
-        9.. => Wanted::Refused(refusal::at_row(refusal::ROW_MALFORMED, row)),
+        9 => check_rule(both(leaf, both(word2 < TWO_TO_32, unused)), true, 0, row),
+        10 => check_rule(both(leaf, unused), true, 0, row),
+        11.. => Wanted::Refused(refusal::at_row(refusal::ROW_MALFORMED, row)),
     }
 }
 
@@ -189,7 +191,9 @@ fn own_size(rows: &[u64], row: usize) -> u64
         6 => 8 + 4 * count,
         7 => 8 + 8 * count,
         8 => 8,
-        9.. => 0,
+        9 => 4,
+        10 => 8,
+        11.. => 0,
     }
 }
 
@@ -218,7 +222,7 @@ pub fn compute_size_of(rows: &[u64], n: usize, store: &[u8]) -> SizeOf
 }
 
 // Whether a table that passes has this row; else the refusal of this number at that row.
-fn find_row(rows: &[u64], n: usize, store: &[u8], row: usize, number: u64) -> Answer
+pub fn find_row(rows: &[u64], n: usize, store: &[u8], row: usize, number: u64) -> Answer
     ensures { λ r. ⌜ outcomeOf r ≡ map (λ _. tt) (lookUp number (now (rows .entry)) n (now (store .entry)) row) ⌝ }
 {
     match check_rows(rows, n, store) {
@@ -250,7 +254,9 @@ fn elements_at(rows: &[u64], row: usize) -> Located
         6 => Located::At(start, 4 * count),
         7 => Located::At(start, 8 * count),
         8 => no_elements(row),
-        9.. => no_elements(row),
+        9 => no_elements(row),
+        10 => no_elements(row),
+        11.. => no_elements(row),
     }
 }
 

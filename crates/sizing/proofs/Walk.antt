@@ -15,21 +15,19 @@ use Rattle.refusal.specs.declared.Refusal.{Refusal}
 use Rattle.refusal.specs.declared.Answer.{Answer}
 use Rattle.refusal.specs.declared.Answer.the-variants.{Accepted, Refused}
 use Rattle.refusal.proofs.Outcome.{test-true}
-use Rattle.refusal.proofs.Tests.{NoneBelow, reflects-eqb, reflects-ltb, reflects-and}
+use Rattle.refusal.proofs.Tests.{NoneBelow, none-below, reflects-eqb, reflects-ltb, reflects-and}
 use Rattle.refusal.proofs.Meaning.{done, stopped}
-use Rattle.value.specs.Kinds.{numberKind, elementsKind, Number, uint32, uint64, Elements, bytes, uint32s, uint64s, kinds, lastKind, kindOf, other}
+use Rattle.value.specs.Kinds.{numberKind, elementsKind, Number, uint32, uint64, int32, int64, Elements, bytes, uint32s, uint64s, kinds, lastKind, kindOf}
+use Rattle.value.proofs.KindLaws.{isParent}
 use Rattle.value.specs.Tree.{G, Gs, Val, Vals, VConstant, VNumber, VArray, VTuple, VNumberArray, VCase, vnil, vcons, seqG, seqV, caseAt, rowCount, rowCounts}
 use Rattle.tables.specs.Grammar.{nodeCount, kindWord, firstWord, countWord, childWord}
 use Rattle.grammar.specs.Rule.{Passes}
 use Rattle.grammar.specs.Tree.{nodeTree, childTrees, treeOf}
-use Rattle.grammar.specs.Check.{isNamed}
-use Rattle.grammar.proofs.Laws.{reflects-kind}
 use Rattle.grammar.proofs.Rule.{node-inside, child-inside}
 use Rattle.grammar.proofs.Tree.{tree-node, trees-length, trees-at}
 use Rattle.tables.specs.Row.{rowWidth, Row, rowAt}
 use Rattle.rows.specs.Layout.{ownRow}
 use Rattle.rows.specs.Rule.{StandFor, StandForAll}
-use Rattle.rows.proofs.Laws.{none-of}
 use Rattle.rows.proofs.Rule.{own-row, row-span}
 use Rattle.sizing.specs.InGrammar.{kindNumber, elementGrammar, partGrammars, at15, checkInGrammar, checkAllInGrammar, checkEachInGrammar}
 use Rattle.sizing.specs.Checks.{Standing, StandingAll, Checks, ChecksAll}
@@ -47,7 +45,9 @@ node-kind (suc (suc (suc (suc (suc zero))))) gs h = refl
 node-kind (suc (suc (suc (suc (suc (suc zero)))))) gs h = refl
 node-kind (suc (suc (suc (suc (suc (suc (suc zero))))))) gs h = refl
 node-kind (suc (suc (suc (suc (suc (suc (suc (suc zero)))))))) gs h = refl
-node-kind (suc (suc (suc (suc (suc (suc (suc (suc (suc w))))))))) gs h = absurd (omega arith)
+node-kind (suc (suc (suc (suc (suc (suc (suc (suc (suc zero))))))))) gs h = refl
+node-kind (suc (suc (suc (suc (suc (suc (suc (suc (suc (suc zero)))))))))) gs h = refl
+node-kind (suc (suc (suc (suc (suc (suc (suc (suc (suc (suc (suc w))))))))))) gs h = absurd (omega arith)
 
 -- a kind word whose children are fields or cases
 abbrev pub Parted : ℕ → Type 0
@@ -100,16 +100,16 @@ module _ (g : List ℕ) (p : Passes g) (k : ℕ) (b : k < nodeCount g) where
   child-above i l e = let x = child-inside g p k b i l in (omega (arith, x .4 .0), omega (arith, x .4 .1), omega (arith, x .2, x .4 .1))
 
 -- the last arm of a match on the kinds is not reached
-pub not-named : (w : ℕ) → NoneBelow 9 w → w ≤ lastKind → ⊥
-not-named w r h =
-    let n : isNamed other ≡ true = sym (ap isNamed (none-of w r)) ∙ reflects-kind w .0 h in
-    let z : _≡_ {A = ℕ} 0 1 = cc in omega arith
+pub not-named : (w : ℕ) → NoneBelow (suc lastKind) w → w ≤ lastKind → ⊥
+not-named w r h = omega (arith, none-below (suc lastKind) w r)
 
 -- ---- a value by its own row
 
-number-not : (k : Number) {n : ℕ} → numberKind k ≡ n → 3 ≤ n → ⊥
-number-not uint32 e h = omega arith
-number-not uint64 e h = omega arith
+number-not : (k : Number) {n : ℕ} → numberKind k ≡ n → 3 ≤ n → n ≤ 8 → ⊥
+number-not uint32 e h l = omega arith
+number-not uint64 e h l = omega arith
+number-not int32 e h l = omega arith
+number-not int64 e h l = omega arith
 
 elements-not : (k : Elements) {n : ℕ} → elementsKind k ≡ n → (n ≡ 3 → ⊥) × (n ≡ 4 → ⊥) × (n ≡ 8 → ⊥)
 elements-not bytes e = (λ f. omega arith, λ f. omega arith, λ f. omega arith)
@@ -126,7 +126,7 @@ module _ (t s : List ℕ) (i : ℕ) where
   pub is-array : (v : Val) → StandFor t s i v → rowAt t i .kind ≡ 3 → (vs : Vals) × (v ≡ VArray vs) × StandForAll t s (suc i) vs × (length (seqV vs) ≡ rowAt t i .word2)
   unfolding ownRow StandFor
   is-array VConstant h e = absurd (omega (arith, own-kind VConstant h e))
-  is-array (VNumber k n) h e = absurd (number-not k (own-kind (VNumber k n) h e) (omega arith))
+  is-array (VNumber k n) h e = absurd (number-not k (own-kind (VNumber k n) h e) (omega arith) (omega arith))
   is-array (VArray vs) h e = (vs, refl, h .1, sym (own-word2 (VArray vs) h))
   is-array (VTuple vs) h e = absurd (omega (arith, own-kind (VTuple vs) h e))
   is-array (VNumberArray k ns) h e = absurd (elements-not k (own-kind (VNumberArray k ns) h e) .0 refl)
@@ -135,7 +135,7 @@ module _ (t s : List ℕ) (i : ℕ) where
   pub is-tuple : (v : Val) → StandFor t s i v → rowAt t i .kind ≡ 4 → (vs : Vals) × (v ≡ VTuple vs) × StandForAll t s (suc i) vs × (length (seqV vs) ≡ rowAt t i .word2)
   unfolding ownRow StandFor
   is-tuple VConstant h e = absurd (omega (arith, own-kind VConstant h e))
-  is-tuple (VNumber k n) h e = absurd (number-not k (own-kind (VNumber k n) h e) (omega arith))
+  is-tuple (VNumber k n) h e = absurd (number-not k (own-kind (VNumber k n) h e) (omega arith) (omega arith))
   is-tuple (VArray vs) h e = absurd (omega (arith, own-kind (VArray vs) h e))
   is-tuple (VTuple vs) h e = (vs, refl, h .1, sym (own-word2 (VTuple vs) h))
   is-tuple (VNumberArray k ns) h e = absurd (elements-not k (own-kind (VNumberArray k ns) h e) .1 refl)
@@ -144,17 +144,13 @@ module _ (t s : List ℕ) (i : ℕ) where
   pub is-case : (v : Val) → StandFor t s i v → rowAt t i .kind ≡ 8 → (u : Val) × (v ≡ VCase (rowAt t i .word2) u) × StandFor t s (suc i) u
   unfolding ownRow StandFor
   is-case VConstant h e = absurd (omega (arith, own-kind VConstant h e))
-  is-case (VNumber k n) h e = absurd (number-not k (own-kind (VNumber k n) h e) (omega arith))
+  is-case (VNumber k n) h e = absurd (number-not k (own-kind (VNumber k n) h e) (omega arith) (omega arith))
   is-case (VArray vs) h e = absurd (omega (arith, own-kind (VArray vs) h e))
   is-case (VTuple vs) h e = absurd (omega (arith, own-kind (VTuple vs) h e))
   is-case (VNumberArray k ns) h e = absurd (elements-not k (own-kind (VNumberArray k ns) h e) .2 refl)
   is-case (VCase c v) h e = (v, ap (λ (x : ℕ). VCase x v) (sym (own-word2 (VCase c v) h)), h .1)
 
 -- ---- a row's arm
-
--- the kinds that have children
-abbrev pub isParent : ℕ → Bool
-isParent k = eqb k 3 || (eqb k 4 || eqb k 8)
 
 module _ (t s : List ℕ) (i : ℕ) (g : G) (v : Val) (h : StandFor t s i v) where
   -- the kinds differ

@@ -37,13 +37,10 @@ fn check_in_grammar(rows: &[u64], grammar: &[u32], row: usize, node: usize) -> A
         0 => Answer::Accepted,
         1 => Answer::Accepted,
         2 => Answer::Accepted,
-        3 => check_all_in_grammar(
-            rows,
-            grammar,
-            row + 1,
-            word2,
-            tables::child_at(grammar, node, 0),
-        ),
+        3 => {
+            let element = tables::child_at(grammar, node, 0);
+            check_all_in_grammar(rows, grammar, row + 1, word2, element)
+        }
         4 => {
             if word2 != count {
                 return not_in_grammar(row);
@@ -57,14 +54,12 @@ fn check_in_grammar(rows: &[u64], grammar: &[u32], row: usize, node: usize) -> A
             if count <= word2 {
                 return not_in_grammar(row);
             }
-            check_in_grammar(
-                rows,
-                grammar,
-                row + 1,
-                tables::child_at(grammar, node, word2 as usize),
-            )
+            let case = tables::child_at(grammar, node, word2 as usize);
+            check_in_grammar(rows, grammar, row + 1, case)
         }
-        9.. => not_in_grammar(row),
+        9 => Answer::Accepted,
+        10 => Answer::Accepted,
+        11.. => not_in_grammar(row),
     }
 }
 

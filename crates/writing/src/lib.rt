@@ -66,7 +66,9 @@ fn marshall_row(rows: &[u64], row: usize, store: &[u8], out: &mut [u8], index: u
         6 => marshall_elements(word2, 4, store, place, out, index),
         7 => marshall_elements(word2, 8, store, place, out, index),
         8 => marshall_uint64(word2, out, index),
-        9.. => index,
+        9 => marshall_uint32(word2 as u32, out, index),
+        10 => marshall_uint64(word2, out, index),
+        11.. => index,
     }
 }
 

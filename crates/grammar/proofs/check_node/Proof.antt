@@ -1,11 +1,11 @@
--- Each arm cites the law of its kind word; the last arm's word is none of 0 to 8.
+-- Each arm cites the law of its kind word; the last arm's word is none of 0 to 10.
 use mathlib.Core.Path.{_≡_, refl, ap, sym, _∙_}
 use mathlib.Core.Bool.{Bool, true, _&&_}
-use Prim.Native.Nat.{ℕ, _+_, _*_, _≤_}
+use Prim.Native.Nat.{ℕ, suc, _+_, _*_, _≤_}
 use lib.Dec.{leb}
 use Rattle.refusal.specs.Outcome.{accepted, refused, test, reason, word}
 use Rattle.refusal.proofs.Tests.{none-below}
-use Rattle.value.specs.Kinds.{kinds, kindOf}
+use Rattle.value.specs.Kinds.{kinds, lastKind, kindOf}
 use Rattle.tables.specs.Grammar.{kindWord}
 use Rattle.grammar.specs.Check.{keepsRule, isNamed, checkNode}
 use Rattle.grammar.proofs.Laws.{node-named, node-other}
@@ -78,6 +78,12 @@ check-rule-requires-8 c κs = search needs
 check-rule-requires-9 : tie.Need-check-rule-requires-9
 check-rule-requires-9 c κs = search needs
 
+check-rule-requires-10 : tie.Need-check-rule-requires-10
+check-rule-requires-10 c κs = search needs
+
+check-rule-requires-11 : tie.Need-check-rule-requires-11
+check-rule-requires-11 c κs = search needs
+
 mul-at-word : tie.Need-mul-at-word
 mul-at-word c = search needs
 
@@ -124,11 +130,19 @@ unfolding kindOf kinds
 returns-9 c = c .check-rule9 .ensures ∙ arm (c .before .before) 8 (c .before .match .keys9) refl refl
 
 returns-10 : tie.Need-returns-10
+unfolding kindOf kinds
+returns-10 c = c .check-rule10 .ensures ∙ arm (c .before .before) 9 (c .before .match .keys10) refl (c .before .before .is-leaf .ensures)
+
+returns-11 : tie.Need-returns-11
+unfolding kindOf kinds
+returns-11 c = c .check-rule11 .ensures ∙ arm (c .before .before) 10 (c .before .match .keys11) refl (c .before .before .is-leaf .ensures)
+
+returns-12 : tie.Need-returns-12
 unfolding kinds
-returns-10 c =
+returns-12 c =
     let d = c .before .before in
     let a = d .before .before .before .before .before .args in
-    let h : 9 ≤ kindWord (a .words .now) (a .k) = rw (sym (d .before .before .before .word .ensures .0)) (none-below 9 (d .before .before .before .word .result) (c .before .match .rest)) in
+    let h : suc lastKind ≤ kindWord (a .words .now) (a .k) = rw (sym (d .before .before .before .word .ensures .0)) (none-below (suc lastKind) (d .before .before .before .word .result) (c .before .match .rest)) in
     ap refused (c .at-word .ensures) ∙ node-other (a .words .now) (a .k) h
 
 pub check-node-spec : {M : Type 1} → statement M
@@ -154,6 +168,8 @@ check-node-spec =
     check-rule-requires-7
     check-rule-requires-8
     check-rule-requires-9
+    check-rule-requires-10
+    check-rule-requires-11
     mul-at-word
     add-at-word
     at-word-requires
@@ -166,4 +182,6 @@ check-node-spec =
     returns-7
     returns-8
     returns-9
-    returns-10)
+    returns-10
+    returns-11
+    returns-12)

@@ -1,12 +1,12 @@
 -- The readers of the cycle meet their contracts. The measure is the rows still free: three times for a value, two more for an array,
 -- a tuple or a case, one more for contents.
 use mathlib.Core.Path.{_≡_, refl, ap, sym, _∙_}
-use mathlib.Core.Logic.{inl, inr}
 use mathlib.Core.List.{List}
-use Prim.Native.Nat.{_+_, _-_, _*_, _≤_}
+use Prim.Native.Nat.{suc, _+_, _-_, _*_, _≤_}
 use native.Mathlib.Nat.{sub-zero, add-zero}
 use native.Mathlib.Omega.{arith}
 use Rattle.refusal.proofs.Tests.{none-below}
+use Rattle.value.specs.Kinds.{lastKind}
 use Rattle.value.specs.Tree.{Gs}
 use Rattle.value.specs.Step.{yield, both, elements}
 use Rattle.value.specs.Reading.{readBody, readVal, readFields}
@@ -598,13 +598,13 @@ read-value-shared-slice-read-kind : (t : ℕ) → read-value-lts.Need-shared-sli
 read-value-shared-slice-read-kind t c = search needs
 
 read-value-read-leaf-requires : (t : ℕ) → read-value-lts.Need-read-leaf-requires (read-value-calls t) (read-value-at t) read-value.Post
-read-value-read-leaf-requires t c κs = (claimed t (c .before .before .before .before) refl, leaf (inl (omega (arith, c .before .match2 .keys1))))
+read-value-read-leaf-requires t c κs = (claimed t (c .before .before .before .before) refl, leaf (c .before .match2 .keys1) refl)
 
 read-value-read-leaf-requires-2 : (t : ℕ) → read-value-lts.Need-read-leaf-requires-2 (read-value-calls t) (read-value-at t) read-value.Post
-read-value-read-leaf-requires-2 t c κs = (claimed t (c .before .before .before .before) refl, leaf (inl (omega (arith, c .before .match2 .keys2))))
+read-value-read-leaf-requires-2 t c κs = (claimed t (c .before .before .before .before) refl, leaf (c .before .match2 .keys2) refl)
 
 read-value-read-leaf-requires-3 : (t : ℕ) → read-value-lts.Need-read-leaf-requires-3 (read-value-calls t) (read-value-at t) read-value.Post
-read-value-read-leaf-requires-3 t c κs = (claimed t (c .before .before .before .before) refl, leaf (inl (omega (arith, c .before .match2 .keys3))))
+read-value-read-leaf-requires-3 t c κs = (claimed t (c .before .before .before .before) refl, leaf (c .before .match2 .keys3) refl)
 
 read-value-read-array-requires : (t : ℕ) → read-value-lts.Need-read-array-requires (read-value-calls t) (read-value-at t) read-value.Post
 read-value-read-array-requires t c κs =
@@ -617,18 +617,24 @@ read-value-read-tuple-requires t c κs =
     (omega (arith, c .before .before .before .before .before .before .before .before .before .before .pre .0, q .begun, q .capacity, q .free), claimed t (c .before .before .before .before) (c .before .match2 .keys5))
 
 read-value-read-leaf-requires-4 : (t : ℕ) → read-value-lts.Need-read-leaf-requires-4 (read-value-calls t) (read-value-at t) read-value.Post
-read-value-read-leaf-requires-4 t c κs = (claimed t (c .before .before .before .before) refl, leaf (inr (omega (arith, c .before .match2 .keys6), omega (arith, c .before .match2 .keys6))))
+read-value-read-leaf-requires-4 t c κs = (claimed t (c .before .before .before .before) refl, leaf (c .before .match2 .keys6) refl)
 
 read-value-read-leaf-requires-5 : (t : ℕ) → read-value-lts.Need-read-leaf-requires-5 (read-value-calls t) (read-value-at t) read-value.Post
-read-value-read-leaf-requires-5 t c κs = (claimed t (c .before .before .before .before) refl, leaf (inr (omega (arith, c .before .match2 .keys7), omega (arith, c .before .match2 .keys7))))
+read-value-read-leaf-requires-5 t c κs = (claimed t (c .before .before .before .before) refl, leaf (c .before .match2 .keys7) refl)
 
 read-value-read-leaf-requires-6 : (t : ℕ) → read-value-lts.Need-read-leaf-requires-6 (read-value-calls t) (read-value-at t) read-value.Post
-read-value-read-leaf-requires-6 t c κs = (claimed t (c .before .before .before .before) refl, leaf (inr (omega (arith, c .before .match2 .keys8), omega (arith, c .before .match2 .keys8))))
+read-value-read-leaf-requires-6 t c κs = (claimed t (c .before .before .before .before) refl, leaf (c .before .match2 .keys8) refl)
 
 read-value-read-case-requires : (t : ℕ) → read-value-lts.Need-read-case-requires (read-value-calls t) (read-value-at t) read-value.Post
 read-value-read-case-requires t c κs =
     let q = claimed-row t (c .before .before .before .before) in
     (omega (arith, c .before .before .before .before .before .before .before .before .before .before .pre .0, q .begun, q .capacity, q .free), claimed t (c .before .before .before .before) (c .before .match2 .keys9))
+
+read-value-read-leaf-requires-7 : (t : ℕ) → read-value-lts.Need-read-leaf-requires-7 (read-value-calls t) (read-value-at t) read-value.Post
+read-value-read-leaf-requires-7 t c κs = (claimed t (c .before .before .before .before) refl, leaf (c .before .match2 .keys10) refl)
+
+read-value-read-leaf-requires-8 : (t : ℕ) → read-value-lts.Need-read-leaf-requires-8 (read-value-calls t) (read-value-at t) read-value.Post
+read-value-read-leaf-requires-8 t c κs = (claimed t (c .before .before .before .before) refl, leaf (c .before .match2 .keys11) refl)
 
 read-value-refuse-kind-requires : (t : ℕ) → read-value-lts.Need-refuse-kind-requires (read-value-calls t) (read-value-at t) read-value.Post
 read-value-refuse-kind-requires t c κs = node-inside (c .before .before .before .before .before .before .before .before .before .args .grammar .now) (c .before .before .before .before .before .before .before .before .before .args .node) (c .before .before .before .before .before .before .before .before .before .pre .1 .0) .1
@@ -703,10 +709,22 @@ read-value-same-length-9 t c = search needs
 read-value-returns-10 : (t : ℕ) → read-value-lts.Need-returns-10 (read-value-calls t) (read-value-at t) read-value.Post
 read-value-returns-10 t c = arm t (c .before .before .before .before .before .before .before) (c .before .before .read-case .ensures)
 
+read-value-same-length-10 : (t : ℕ) → read-value-lts.Need-same-length-10 (read-value-calls t) (read-value-at t) read-value.Post
+read-value-same-length-10 t c = search needs
+
 read-value-returns-11 : (t : ℕ) → read-value-lts.Need-returns-11 (read-value-calls t) (read-value-at t) read-value.Post
-read-value-returns-11 t c =
+read-value-returns-11 t c = arm t (c .before .before .before .before .before .before .before) (c .before .before .read-leaf7 .ensures)
+
+read-value-same-length-11 : (t : ℕ) → read-value-lts.Need-same-length-11 (read-value-calls t) (read-value-at t) read-value.Post
+read-value-same-length-11 t c = search needs
+
+read-value-returns-12 : (t : ℕ) → read-value-lts.Need-returns-12 (read-value-calls t) (read-value-at t) read-value.Post
+read-value-returns-12 t c = arm t (c .before .before .before .before .before .before .before) (c .before .before .read-leaf8 .ensures)
+
+read-value-returns-13 : (t : ℕ) → read-value-lts.Need-returns-13 (read-value-calls t) (read-value-at t) read-value.Post
+read-value-returns-13 t c =
     let a = c .before .before .before .before .before .before .before .before .before .before .args in
-    let h = none-below 9 (kindWord (a .grammar .now) (a .node)) (c .before .match2 .rest) in
+    let h = none-below (suc lastKind) (kindWord (a .grammar .now) (a .node)) (c .before .match2 .rest) in
     let k = node-inside (a .grammar .now) (a .node) (c .before .before .before .before .before .before .before .before .before .before .pre .1 .0) .2 in
     absurd (omega arith)
 
@@ -821,6 +839,8 @@ pub +read-array+read-array-contents+read-case+read-tuple+read-tuple-contents+rea
     (read-value-read-leaf-requires-5 t)
     (read-value-read-leaf-requires-6 t)
     (read-value-read-case-requires t)
+    (read-value-read-leaf-requires-7 t)
+    (read-value-read-leaf-requires-8 t)
     (read-value-refuse-kind-requires t)
     (read-value-returns t)
     (read-value-same-length t)
@@ -841,4 +861,8 @@ pub +read-array+read-array-contents+read-case+read-tuple+read-tuple-contents+rea
     (read-value-returns-9 t)
     (read-value-same-length-9 t)
     (read-value-returns-10 t)
+    (read-value-same-length-10 t)
     (read-value-returns-11 t)
+    (read-value-same-length-11 t)
+    (read-value-returns-12 t)
+    (read-value-returns-13 t)

@@ -1,7 +1,8 @@
 use mathlib.Core.Path.{refl}
+use Prim.Native.Nat.{suc}
 use native.Mathlib.Omega.{arith}
 use Rattle.refusal.proofs.Tests.{none-below}
-use Rattle.value.specs.Kinds.{uint32, uint64, bytes as byteElements, uint32s, uint64s}
+use Rattle.value.specs.Kinds.{lastKind, uint32, uint64, int32, int64, bytes as byteElements, uint32s, uint64s}
 use Rattle.readers.proofs.Laws.{node-inside}
 use Rattle.readers.proofs.Arms.{leaf-constant, leaf-number, leaf-elements}
 use borrow.Author.Needs.{needs}
@@ -22,6 +23,18 @@ take8-requires c κs = search needs
 
 read-number-requires-2 : tie.Need-read-number-requires-2
 read-number-requires-2 c κs = search needs
+
+take4-requires-2 : tie.Need-take4-requires-2
+take4-requires-2 c κs = search needs
+
+read-number-requires-3 : tie.Need-read-number-requires-3
+read-number-requires-3 c κs = search needs
+
+take8-requires-2 : tie.Need-take8-requires-2
+take8-requires-2 c κs = search needs
+
+read-number-requires-4 : tie.Need-read-number-requires-4
+read-number-requires-4 c κs = search needs
 
 read-elements-requires : tie.Need-read-elements-requires
 read-elements-requires c κs = search needs
@@ -95,10 +108,28 @@ returns-8 c = leaf-elements (c .before .before .before .before .before .before .
 returns-9 : tie.Need-returns-9
 returns-9 c = absurd (c .before .before .before .before .before .pre .1 .noCase (c .before .match .keys9))
 
+same-length-7 : tie.Need-same-length-7
+same-length-7 c = search needs
+
 returns-10 : tie.Need-returns-10
 returns-10 c =
+    let a = c .before .before .before .before .before .before .before .before .before .args in
+    let n = c .before .before .before .take42 in
+    leaf-number (c .before .before .before .before .before .before .before .before .before .pre .0) int32 (c .before .before .before .before .before .match .keys10) (n .ensures .0) (c .before .before .read-number3 .ensures int32 (a .s .capacity) (a .s .at) refl (n .ensures .1))
+
+same-length-8 : tie.Need-same-length-8
+same-length-8 c = search needs
+
+returns-11 : tie.Need-returns-11
+returns-11 c =
+    let a = c .before .before .before .before .before .before .before .before .before .args in
+    let n = c .before .before .before .take82 in
+    leaf-number (c .before .before .before .before .before .before .before .before .before .pre .0) int64 (c .before .before .before .before .before .match .keys11) (n .ensures .0) (c .before .before .read-number4 .ensures int64 (a .s .capacity) (a .s .at) refl (n .ensures .1))
+
+returns-12 : tie.Need-returns-12
+returns-12 c =
     let s = c .before .before .before .before .before in
-    let h = none-below 9 (s .args .kind) (c .before .match .rest) in
+    let h = none-below (suc lastKind) (s .args .kind) (c .before .match .rest) in
     let k = node-inside (s .args .grammar .now) (s .args .node) (s .pre .0 .node) .2 in
     absurd (omega (arith, s .pre .0 .kind))
 
@@ -117,6 +148,10 @@ read-leaf-spec =
     read-elements-requires-2
     read-elements-requires-3
     refuse-kind-requires-3
+    take4-requires-2
+    read-number-requires-3
+    take8-requires-2
+    read-number-requires-4
     refuse-kind-requires-4
     same-length
     returns
@@ -133,4 +168,8 @@ read-leaf-spec =
     same-length-6
     returns-8
     returns-9
-    returns-10)
+    same-length-7
+    returns-10
+    same-length-8
+    returns-11
+    returns-12)

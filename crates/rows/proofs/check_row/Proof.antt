@@ -1,4 +1,4 @@
--- Each arm cites the law of the match with its kind word; the last arm's word is none of 0 to 8.
+-- Each arm cites the law of the match with its kind word; the last arm's word is none of 0 to 10.
 use mathlib.Core.Path.{_≡_, refl, ap, sym, _∙_}
 use mathlib.Core.Bool.{Bool, false, _&&_}
 use Prim.Native.Nat.{ℕ, _+_, _^_}
@@ -10,7 +10,8 @@ use Rattle.refusal.specs.Outcome.{accepted, refused, test, reason, row}
 use Rattle.value.specs.Kinds.{Kind, kinds, kindOf}
 use Rattle.tables.specs.Row.{Row, rowAt}
 use Rattle.rows.specs.Walk.{keepsRule, withinStore, childCount, checkRow}
-use Rattle.rows.proofs.Laws.{row-eq, none-of, row-arm, row-out}
+use Rattle.value.proofs.KindLaws.{none-of}
+use Rattle.rows.proofs.Laws.{row-eq, row-arm, row-out}
 use borrow.Author.Needs.{needs}
 use Rattle.rows.proofs.check_row.Statement.{statement}
 use Rattle.rows.proofs.check_row.Tie as tie
@@ -106,6 +107,21 @@ check-rule-requires-8 c κs = search needs
 check-rule-requires-9 : tie.Need-check-rule-requires-9
 check-rule-requires-9 c κs = search needs
 
+both-requires-6 : tie.Need-both-requires-6
+both-requires-6 c κs = search needs
+
+both-requires-7 : tie.Need-both-requires-7
+both-requires-7 c κs = search needs
+
+check-rule-requires-10 : tie.Need-check-rule-requires-10
+check-rule-requires-10 c κs = search needs
+
+both-requires-8 : tie.Need-both-requires-8
+both-requires-8 c κs = search needs
+
+check-rule-requires-11 : tie.Need-check-rule-requires-11
+check-rule-requires-11 c κs = search needs
+
 at-row-requires-2 : tie.Need-at-row-requires-2
 at-row-requires-2 c κs = search needs
 
@@ -148,7 +164,17 @@ unfolding kindOf kinds
 returns-10 c = c .check-rule9 .ensures ∙ arm (c .before .before) 8 (c .before .match .keys9) refl refl refl
 
 returns-11 : tie.Need-returns-11
-returns-11 c =
+unfolding kindOf kinds
+returns-11 c = c .check-rule10 .ensures ∙ arm (c .before .before .before .before) 9 (c .before .before .before .match .keys10) (c .before .both7 .ensures ∙ rw (c .before .before .both6 .ensures)) refl refl
+
+returns-12 : tie.Need-returns-12
+unfolding kindOf kinds
+returns-12 c =
+    let d = c .before .before .before in
+    c .check-rule11 .ensures ∙ arm d 10 (c .before .before .match .keys11) (c .before .both8 .ensures ∙ rw (lt-ltb (d .before .before .before .word2-at .result) (256 ^ 8) (omega arith))) refl refl
+
+returns-13 : tie.Need-returns-13
+returns-13 c =
     let d = c .before .before in
     let k = d .before .before .before .before .before .kind-at .result in
     ap refused (c .at-row2 .ensures) ∙ arm d k {kept = false} refl (sym (ap (λ (x : Kind). keepsRule x (read d k)) (none-of k (c .before .match .rest)))) refl refl
@@ -181,6 +207,11 @@ check-row-spec =
     within-requires-3
     check-rule-requires-8
     check-rule-requires-9
+    both-requires-6
+    both-requires-7
+    check-rule-requires-10
+    both-requires-8
+    check-rule-requires-11
     at-row-requires-2
     returns-2
     returns-3
@@ -191,4 +222,6 @@ check-row-spec =
     returns-8
     returns-9
     returns-10
-    returns-11)
+    returns-11
+    returns-12
+    returns-13)

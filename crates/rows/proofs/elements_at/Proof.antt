@@ -1,4 +1,4 @@
--- Each arm cites the law of its kind word; the last arm's word is none of 0 to 8.
+-- Each arm cites the law of its kind word; the last arm's word is none of 0 to 10.
 use mathlib.Core.Path.{_≡_, refl, sym, subst, _∙_}
 use Prim.Native.Nat.{ℕ, _*_, _≤_}
 use native.Mathlib.Omega.{arith}
@@ -67,6 +67,12 @@ no-elements-requires-6 c κs = search needs
 no-elements-requires-7 : tie.Need-no-elements-requires-7
 no-elements-requires-7 c κs = search needs
 
+no-elements-requires-8 : tie.Need-no-elements-requires-8
+no-elements-requires-8 c κs = search needs
+
+no-elements-requires-9 : tie.Need-no-elements-requires-9
+no-elements-requires-9 c κs = search needs
+
 returns : tie.Need-returns
 unfolding kindOf kinds elementsPart
 returns c = c .no-elements .ensures ∙ arm (c .before .before) (c .before .match .keys1) refl
@@ -104,8 +110,16 @@ unfolding kindOf kinds elementsPart
 returns-9 c = c .no-elements6 .ensures ∙ arm (c .before .before) (c .before .match .keys9) refl
 
 returns-10 : tie.Need-returns-10
+unfolding kindOf kinds elementsPart
+returns-10 c = c .no-elements7 .ensures ∙ arm (c .before .before) (c .before .match .keys10) refl
+
+returns-11 : tie.Need-returns-11
+unfolding kindOf kinds elementsPart
+returns-11 c = c .no-elements8 .ensures ∙ arm (c .before .before) (c .before .match .keys11) refl
+
+returns-12 : tie.Need-returns-12
 unfolding elementsPart
-returns-10 c = c .no-elements7 .ensures ∙ arm (c .before .before) refl (by-other (part (c .before .before)) (c .before .match .rest) refl)
+returns-12 c = c .no-elements9 .ensures ∙ arm (c .before .before) refl (by-other (part (c .before .before)) (c .before .match .rest) refl)
 
 pub elements-at-spec : {M : Type 1} → statement M
 elements-at-spec =
@@ -123,6 +137,8 @@ elements-at-spec =
     mul-t9
     no-elements-requires-6
     no-elements-requires-7
+    no-elements-requires-8
+    no-elements-requires-9
     returns
     returns-2
     returns-3
@@ -132,4 +148,6 @@ elements-at-spec =
     returns-7
     returns-8
     returns-9
-    returns-10)
+    returns-10
+    returns-11
+    returns-12)

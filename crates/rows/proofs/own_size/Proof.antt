@@ -1,4 +1,4 @@
--- Each arm cites the law of its kind word; the last arm's word is none of 0 to 8.
+-- Each arm cites the law of its kind word; the last arm's word is none of 0 to 10.
 use mathlib.Core.Path.{_≡_, refl, sym, subst, _∙_}
 use Prim.Native.Nat.{ℕ, _≤_}
 use native.Mathlib.Omega.{arith}
@@ -86,7 +86,15 @@ unfolding kindOf kinds
 returns-9 c = arm (c .before) (c .match .keys9) refl
 
 returns-10 : tie.Need-returns-10
-returns-10 c = arm (c .before) refl (by-other (size (c .before)) (c .match .rest) refl)
+unfolding kindOf kinds
+returns-10 c = arm (c .before) (c .match .keys10) refl
+
+returns-11 : tie.Need-returns-11
+unfolding kindOf kinds
+returns-11 c = arm (c .before) (c .match .keys11) refl
+
+returns-12 : tie.Need-returns-12
+returns-12 c = arm (c .before) refl (by-other (size (c .before)) (c .match .rest) refl)
 
 pub own-size-spec : {M : Type 1} → statement M
 own-size-spec =
@@ -108,4 +116,6 @@ own-size-spec =
     returns-7
     returns-8
     returns-9
-    returns-10)
+    returns-10
+    returns-11
+    returns-12)

@@ -6,6 +6,7 @@ use Prim.Native.Nat.{_+_, _-_, _*_, _≤_}
 use native.Mathlib.Nat.{sub-zero, add-zero}
 use native.Mathlib.Omega.{arith}
 use Rattle.value.specs.Tree.{Vals}
+use Rattle.value.proofs.KindLaws.{isParent}
 use Rattle.refusal.specs.Outcome.{Outcome, Reason}
 use Rattle.refusal.specs.declared.Answer.the-variants.{Accepted}
 use Rattle.tables.specs.Grammar.{kindWord, firstWord, countWord, childWord}
@@ -14,7 +15,7 @@ use Rattle.grammar.proofs.Rule.{node-inside}
 use Rattle.tables.specs.Row.{rowAt}
 use Rattle.sizing.specs.InGrammar.{kindNumber, checkAllInGrammar, checkEachInGrammar}
 use Rattle.sizing.specs.Checks.{StandingAll, Checks}
-use Rattle.sizing.proofs.Walk.{tree-kind, tree-element, tuple-parts, union-parts, tree-parts, part-count, tree-case, one-child, child-above, not-named, isParent, arm-other, arm-leaf, arm-array, arm-count, arm-tuple, arm-tag, arm-case, elements-stand, fields-stand, case-stands, first-stands, others-stand, next-inside, Left, left-all, left-none, left-stopped, left-next, all-step, each-step, none-step, none-each}
+use Rattle.sizing.proofs.Walk.{tree-kind, tree-element, tuple-parts, union-parts, tree-parts, part-count, tree-case, one-child, child-above, not-named, arm-other, arm-leaf, arm-array, arm-count, arm-tuple, arm-tag, arm-case, elements-stand, fields-stand, case-stands, first-stands, others-stand, next-inside, Left, left-all, left-none, left-stopped, left-next, all-step, each-step, none-step, none-each}
 use borrow.Author.Needs.{needs}
 use Prim.Native.Nat.{ℕ, _<_}
 use borrow.Fn.Kinds.{In}
@@ -555,7 +556,13 @@ check-in-grammar-returns-12 t c =
     λ s v h. arm-case (a .rows .now) s (a .row) (treeOf g (a .node)) v h (row-kind t q k) (tree-is t q k) (omega (arith, l, part-count g (p .0) (a .node) (p .1) union-parts n)) e (c .check-in-grammar .result) (c .check-in-grammar .ensures)
 
 check-in-grammar-returns-13 : (t : ℕ) → check-in-grammar-lts.Need-returns-13 (check-in-grammar-calls t) (check-in-grammar-at t) check-in-grammar.Post
-check-in-grammar-returns-13 t c =
+check-in-grammar-returns-13 t c = leaf t (c .before) (c .match .keys10) refl
+
+check-in-grammar-returns-14 : (t : ℕ) → check-in-grammar-lts.Need-returns-14 (check-in-grammar-calls t) (check-in-grammar-at t) check-in-grammar.Post
+check-in-grammar-returns-14 t c = leaf t (c .before) (c .match .keys11) refl
+
+check-in-grammar-returns-15 : (t : ℕ) → check-in-grammar-lts.Need-returns-15 (check-in-grammar-calls t) (check-in-grammar-at t) check-in-grammar.Post
+check-in-grammar-returns-15 t c =
     let a = c .before .before .before .before .before .before .before .before .before .args in
     let p = c .before .before .before .before .before .before .before .before .before .pre .1 in
     let g = a .grammar .now in
@@ -616,8 +623,8 @@ pub +check-all-in-grammar+check-each-in-grammar+check-in-grammar-spec : {M : Typ
     (check-in-grammar-word-requires-2 t)
     (check-in-grammar-not-in-grammar-requires t)
     (check-in-grammar-returns t)
-    (check-in-grammar-add-check-all-in-grammar t)
     (check-in-grammar-child-at-requires t)
+    (check-in-grammar-add-check-all-in-grammar t)
     (check-in-grammar-check-all-in-grammar-requires t)
     (check-in-grammar-not-in-grammar-requires-2 t)
     (check-in-grammar-returns-2 t)
@@ -625,8 +632,8 @@ pub +check-all-in-grammar+check-each-in-grammar+check-in-grammar-spec : {M : Typ
     (check-in-grammar-check-each-in-grammar-requires t)
     (check-in-grammar-not-in-grammar-requires-3 t)
     (check-in-grammar-returns-3 t)
-    (check-in-grammar-add-check-in-grammar t)
     (check-in-grammar-child-at-requires-2 t)
+    (check-in-grammar-add-check-in-grammar t)
     (check-in-grammar-check-in-grammar-requires t)
     (check-in-grammar-not-in-grammar-requires-4 t)
     (check-in-grammar-returns-4 t)
@@ -639,3 +646,5 @@ pub +check-all-in-grammar+check-each-in-grammar+check-in-grammar-spec : {M : Typ
     (check-in-grammar-returns-11 t)
     (check-in-grammar-returns-12 t)
     (check-in-grammar-returns-13 t)
+    (check-in-grammar-returns-14 t)
+    (check-in-grammar-returns-15 t)

@@ -1,4 +1,4 @@
--- Each arm cites its kind's class; the last arm's word is none of 0 to 8.
+-- Each arm cites its kind's class; the last arm's word is none of 0 to 10.
 use mathlib.Core.Path.{_≡_, refl, ap, sym, subst, _∙_}
 use mathlib.Core.Bool.{true}
 use mathlib.Core.List.{List, []}
@@ -10,11 +10,12 @@ use borrow.Author.Tests.{leb-true}
 use Rattle.refusal.proofs.Tests.{reflects-eqb, reflects-ltb, reflects-and}
 use Rattle.packed.specs.Packed.{put}
 use Rattle.packed.proofs.Put.{put-nothing}
-use Rattle.value.specs.Kinds.{uint32, Elements, bytes, uint32s, uint64s, elementWidth, Kind, kinds, kindOf, number, elements}
+use Rattle.value.specs.Kinds.{Number, uint32, int32, width, Elements, bytes, uint32s, uint64s, elementWidth, Kind, kinds, kindOf, number, elements}
 use Rattle.tables.specs.Row.{Row, rowAt}
 use Rattle.rows.specs.Walk.{keepsRule, withinStore}
 use Rattle.rows.specs.Size.{ownBytes, ownSize}
-use Rattle.rows.proofs.Laws.{none-of, row-eq}
+use Rattle.value.proofs.KindLaws.{none-of}
+use Rattle.rows.proofs.Laws.{row-eq}
 use borrow.Author.Needs.{needs}
 use Rattle.writing.proofs.marshall_row.Statement.{statement}
 use Rattle.writing.proofs.marshall_row.Tie as tie
@@ -49,11 +50,11 @@ room c e =
     let s = c .before .before .before .before .before .before in
     subst (λ (k : Kind). s .args .index + ownSize k (this c) ≤ length (s .args .out .now)) e (subst (λ (x : Row). s .args .index + ownSize (kindOf (x .kind)) x ≤ length (s .args .out .now)) (sym (read c)) (s .pre .1))
 
-number-fits : (c : tie.After-word3-at) → kindOf (this c .kind) ≡ number uint32 → this c .word2 < 256 ^ 4
-number-fits c e =
+number-fits : (c : tie.After-word3-at) (k : Number) → kindOf (this c .kind) ≡ number k → this c .word2 < 256 ^ width k
+number-fits c k e =
     let r = this c in
-    let h : keepsRule (number uint32) r ≡ true = sym (ap (λ (k : Kind). keepsRule k r) e) ∙ ap (λ (x : Row). keepsRule (kindOf (x .kind)) x) (read c) ∙ c .before .before .before .before .before .before .pre .0 .rule in
-    reflects-and (reflects-eqb (r .span) 1) (reflects-and (reflects-ltb (r .word2) (256 ^ 4)) (reflects-eqb (r .word3) 0)) .1 h .1 .0
+    let h : keepsRule (number k) r ≡ true = sym (ap (λ (x : Kind). keepsRule x r) e) ∙ ap (λ (x : Row). keepsRule (kindOf (x .kind)) x) (read c) ∙ c .before .before .before .before .before .before .pre .0 .rule in
+    reflects-and (reflects-eqb (r .span) 1) (reflects-and (reflects-ltb (r .word2) (256 ^ width k)) (reflects-eqb (r .word3) 0)) .1 h .1 .0
 
 elements-fit : (c : tie.After-word3-at) (k : Elements) → kindOf (this c .kind) ≡ elements k → (this c .word3 + elementWidth k * this c .word2 ≤ length (c .before .before .before .before .before .before .args .store .now)) × (c .before .before .before .before .before .before .args .index + (8 + elementWidth k * this c .word2) ≤ length (c .before .before .before .before .before .before .args .out .now))
 elements-fit c k e =
@@ -73,7 +74,7 @@ word3-at-requires c κs = search needs
 
 cast-marshall-uint32 : tie.Need-cast-marshall-uint32
 unfolding kindOf kinds ownBytes
-cast-marshall-uint32 c = omega (arith, number-fits (c .before) (ap kindOf (c .match .keys2)))
+cast-marshall-uint32 c = omega (arith, number-fits (c .before) uint32 (ap kindOf (c .match .keys2)))
 
 marshall-uint32-requires : tie.Need-marshall-uint32-requires
 unfolding kindOf kinds ownBytes
@@ -102,6 +103,18 @@ marshall-elements-requires-3 c κs = elements-fit (c .before .before) uint64s (a
 marshall-uint64-requires-3 : tie.Need-marshall-uint64-requires-3
 unfolding kindOf kinds ownBytes
 marshall-uint64-requires-3 c κs = room (c .before .before) (ap kindOf (c .before .match .keys9))
+
+cast-marshall-uint32-2 : tie.Need-cast-marshall-uint32-2
+unfolding kindOf kinds ownBytes
+cast-marshall-uint32-2 c = omega (arith, number-fits (c .before) int32 (ap kindOf (c .match .keys10)))
+
+marshall-uint32-requires-2 : tie.Need-marshall-uint32-requires-2
+unfolding kindOf kinds ownBytes
+marshall-uint32-requires-2 c κs = room (c .before .before) (ap kindOf (c .before .match .keys10))
+
+marshall-uint64-requires-4 : tie.Need-marshall-uint64-requires-4
+unfolding kindOf kinds ownBytes
+marshall-uint64-requires-4 c κs = room (c .before .before) (ap kindOf (c .before .match .keys11))
 
 returns : tie.Need-returns
 unfolding kindOf kinds ownBytes
@@ -160,9 +173,23 @@ returns-9 : tie.Need-returns-9
 unfolding kindOf kinds ownBytes
 returns-9 c = arm (c .before .before .before .before .before) (ap kindOf (c .before .before .before .before .match .keys9)) (c .before .before .marshall-uint643 .ensures)
 
+same-length-8 : tie.Need-same-length-8
+same-length-8 c = search needs
+
 returns-10 : tie.Need-returns-10
 unfolding kindOf kinds ownBytes
-returns-10 c = arm (c .before) (none-of (this (c .before) .kind) (c .match .rest)) (nothing (c .before))
+returns-10 c = arm (c .before .before .before .before .before) (ap kindOf (c .before .before .before .before .match .keys10)) (c .before .before .marshall-uint322 .ensures)
+
+same-length-9 : tie.Need-same-length-9
+same-length-9 c = search needs
+
+returns-11 : tie.Need-returns-11
+unfolding kindOf kinds ownBytes
+returns-11 c = arm (c .before .before .before .before .before) (ap kindOf (c .before .before .before .before .match .keys11)) (c .before .before .marshall-uint644 .ensures)
+
+returns-12 : tie.Need-returns-12
+unfolding kindOf kinds ownBytes
+returns-12 c = arm (c .before) (none-of (this (c .before) .kind) (c .match .rest)) (nothing (c .before))
 
 pub marshall-row-spec : {M : Type 1} → statement M
 marshall-row-spec =
@@ -179,6 +206,9 @@ marshall-row-spec =
     marshall-elements-requires-2
     marshall-elements-requires-3
     marshall-uint64-requires-3
+    cast-marshall-uint32-2
+    marshall-uint32-requires-2
+    marshall-uint64-requires-4
     returns
     same-length
     returns-2
@@ -195,4 +225,8 @@ marshall-row-spec =
     returns-8
     same-length-7
     returns-9
-    returns-10)
+    same-length-8
+    returns-10
+    same-length-9
+    returns-11
+    returns-12)
