@@ -27,6 +27,7 @@ fn describe(row: &Row, shown: usize) -> String {
     let kind = row.kind().text;
     match row.contents() {
         Contents::Number(number) => format!("{kind} {number}"),
+        Contents::Signed(number) => format!("{kind} {number}"),
         Contents::Array(children) | Contents::Tuple(children) => {
             format!("{kind} of {}", children.len())
         }
@@ -55,7 +56,7 @@ fn list(elements: &Elements, shown: usize) -> String {
 /// The bytes of a record that are the row's own: rows and their bytes are in the same order.
 fn own_bytes(row: &Row) -> usize {
     match row.kind().class {
-        Class::Number { width } => width,
+        Class::Number { width } | Class::Signed { width } => width,
         Class::Array | Class::Union => COUNT_BYTES,
         Class::Elements { width } => COUNT_BYTES + width * row.words()[2] as usize,
         _ => 0,

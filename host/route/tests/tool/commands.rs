@@ -49,30 +49,54 @@ fn check_of_a_grammar_alone() {
 fn tree_of_every_kind() {
     let grammar = "\
         number = u64
-        tuple(array(union(constant, number)), bytes, u32s, u64s, tuple(), number)";
+        tuple(array(union(constant, number)), bytes, i32, u32s, i64, u64s, u32, tuple(), number)";
     let record = "\
         0200000000000000
           0000000000000000
           0100000000000000 0201000000000000
         0300000000000000 005aff
+        ffffffff
         0200000000000000 00000000 ffffffff
+        0000000000000080
         0100000000000000 ffffffffffffffff
+        ffffffff
         0700000000000000";
     let tree = "\
-byte  0  tuple of 6
+byte  0  tuple of 9
 byte  0    array of 2
 byte  8      union tag 0
 byte 16        constant
 byte 16      union tag 1
 byte 24        u64 258
 byte 32    bytes of 3: 00 5a ff
-byte 43    u32s of 2: 0 4294967295
-byte 59    u64s of 1: 18446744073709551615
-byte 75    tuple of 0
-byte 75    u64 7
+byte 43    i32 -1
+byte 47    u32s of 2: 0 4294967295
+byte 63    i64 -9223372036854775808
+byte 71    u64s of 1: 18446744073709551615
+byte 87    u32 4294967295
+byte 91    tuple of 0
+byte 91    u64 7
 ";
     let got = route(&["tree", "-g", grammar, "--hex", "-"], record.as_bytes());
     assert_eq!(got, printed(0, tree));
+}
+
+#[test]
+fn tree_of_signed_numbers() {
+    for (grammar, record, number) in [
+        ("i32", "00000000", "0"),
+        ("i32", "ffffff7f", "2147483647"),
+        ("i32", "00000080", "-2147483648"),
+        ("i32", "fdffffff", "-3"),
+        ("i64", "ffffffff00000000", "4294967295"),
+        ("i64", "ffffffffffffff7f", "9223372036854775807"),
+        ("i64", "ffffffffffffffff", "-1"),
+    ] {
+        let got = route(&["tree", "-g", grammar, "--hex", "-"], record.as_bytes());
+        assert_eq!(got, printed(0, &format!("byte 0  {grammar} {number}\n")));
+    }
+    let cut = route(&["tree", "-g", "tuple(i32, i64)", "-"], &[0xff; 11]);
+    assert_eq!(cut, refused(9, Place::Byte(4)));
 }
 
 /// What the tree of an array of the numbers from 0 on says behind the count.
@@ -177,6 +201,22 @@ fn words_print_a_table_that_is_read_again() {
     assert_eq!(route(&["words", "-g", shared], b""), printed(0, words));
     let again = route(&["words", "-"], words.as_bytes());
     assert_eq!(again, printed(0, words));
+}
+
+#[test]
+fn words_of_signed_numbers() {
+    let array = "\
+static const uint32_t trims[] = {
+    3,
+    4, 0, 2,
+    9, 0, 0,
+    10, 0, 0,
+    2,
+    1, 2,
+};
+";
+    let got = route(&["words", "-g", "tuple(i32, i64)", "--c", "trims"], b"");
+    assert_eq!(got, printed(0, array));
 }
 
 #[test]

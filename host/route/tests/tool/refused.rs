@@ -15,9 +15,9 @@ fn a_refusal_is_one_line_with_number_place_and_words() {
 fn every_command_refuses_a_refused_grammar() {
     let folder = folder("refused");
     let record = &file(&folder, "record", "");
-    let grammar = "1, 9 0 0, 0";
+    let grammar = "1, 11 0 0, 0";
     let node =
-        "word 1 is the kind of node 0: kind 9, first 0, count 0; child words 0 (table length 5)";
+        "word 1 is the kind of node 0: kind 11, first 0, count 0; child words 0 (table length 5)";
     let refusal = refused_grammar(3, 1, node);
     for (command, records) in [
         ("check", &[][..]),
