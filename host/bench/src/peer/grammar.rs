@@ -57,7 +57,7 @@ impl<'a> Grammar<'a> {
     /// Node k by itself: refusal 3, then 4.
     fn check_node(&self, k: usize, [kind, first, count]: [u32; 3]) -> Result<(), Refusal> {
         let kept = match kind {
-            0..=2 | 5..=7 => first == 0 && count == 0,
+            0..=2 | 5..=7 | 9 | 10 => first == 0 && count == 0,
             3 => count == 1,
             4 | 8 => true,
             _ => return Err(Refusal::at_word(3, 1 + 3 * k)),

@@ -92,11 +92,11 @@ impl Reader<'_> {
         let kind = u64::from(node[0]);
         match kind {
             0 => self.put(row, [kind, 1, 0, 0]),
-            1 => {
+            1 | 9 => {
                 let number = self.take_u32()?;
                 self.put(row, [kind, 1, u64::from(number), 0]);
             }
-            2 => {
+            2 | 10 => {
                 let number = self.take_u64()?;
                 self.put(row, [kind, 1, number, 0]);
             }

@@ -41,8 +41,8 @@ impl Walk<'_> {
         let unused = word3 == 0;
         let (kept, width, children) = match kind {
             0 => (leaf && word2 == 0 && unused, None, 0),
-            1 => (leaf && word2 <= u64::from(u32::MAX) && unused, None, 0),
-            2 => (leaf && unused, None, 0),
+            1 | 9 => (leaf && word2 <= u64::from(u32::MAX) && unused, None, 0),
+            2 | 10 => (leaf && unused, None, 0),
             3 | 4 => (unused, None, word2),
             5 => (leaf, Some(1), 0),
             6 => (leaf, Some(4), 0),

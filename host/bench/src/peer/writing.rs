@@ -102,7 +102,7 @@ fn element_width(kind: u64) -> u64 {
 fn own_size(&[kind, _, count, _]: &Row) -> u64 {
     match kind {
         0 | 4 => 0,
-        1 => 4,
+        1 | 9 => 4,
         _ => 8 + element_width(kind) * count,
     }
 }
@@ -111,11 +111,11 @@ fn own_size(&[kind, _, count, _]: &Row) -> u64 {
 fn put_row(&[kind, _, word2, place]: &Row, store: &[u8], out: &mut [u8]) -> usize {
     match kind {
         0 | 4 => 0,
-        1 => {
+        1 | 9 => {
             out[..4].copy_from_slice(&(word2 as u32).to_le_bytes());
             4
         }
-        2 | 3 | 8 => {
+        2 | 3 | 8 | 10 => {
             out[..8].copy_from_slice(&word2.to_le_bytes());
             8
         }
