@@ -2,6 +2,7 @@
 //! numbers from 0 on.
 
 use std::fmt;
+use std::str::FromStr;
 
 /// A value.
 #[derive(Clone, Debug, PartialEq, Eq)]
@@ -197,10 +198,11 @@ impl<'a> Parser<'a> {
     }
 }
 
-/// A number in decimal digits, without leading zeros.
-pub fn decimal(digits: &str) -> Result<u64, String> {
-    match digits.parse::<u64>() {
-        Ok(number) if number.to_string() == digits => Ok(number),
-        _ => Err(format!("`{}` is no number", start_of(digits))),
+/// A number in decimal digits, without leading zeros, and with `-` before them where the type has
+/// numbers below zero and it is one.
+pub fn decimal<N: FromStr + ToString>(text: &str) -> Result<N, String> {
+    match text.parse::<N>() {
+        Ok(number) if number.to_string() == text => Ok(number),
+        _ => Err(format!("`{}` is no number", start_of(text))),
     }
 }

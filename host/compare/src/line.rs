@@ -2,7 +2,7 @@
 
 use route_record::{Place, Refusal};
 
-use crate::json::{Fields, Json};
+use crate::json::{decimal, Fields, Json};
 use crate::list::{self, Layout};
 use crate::{Answer, Case, Field, Outcome};
 
@@ -90,8 +90,24 @@ impl Field<'_> {
 }
 
 /// A number and its name.
-fn named(name: &str, number: u64) -> (String, Json) {
+fn named(name: &str, number: impl ToString) -> (String, Json) {
     (name.to_string(), Json::Text(number.to_string()))
+}
+
+/// The text of a number that an accepted case gives.
+fn given_text(case: &Case, number: u64) -> String {
+    match case {
+        Case::SignedNumber { .. } => (number as i64).to_string(),
+        _ => number.to_string(),
+    }
+}
+
+/// The number that an accepted case gives, of its text.
+fn given_of(case: &Case, text: &str) -> Result<u64, String> {
+    match case {
+        Case::SignedNumber { .. } => decimal::<i64>(text).map(|number| number as u64),
+        _ => decimal(text),
+    }
 }
 
 /// The fields of a line that say what comes of the case: `accepted` with the numbers given and the
@@ -99,10 +115,10 @@ fn named(name: &str, number: u64) -> (String, Json) {
 fn outcome_fields(outcome: &Outcome) -> Vec<(String, Json)> {
     let mut after = outcome.after();
     match &outcome.answer {
-        Answer::Accepted(given) => {
-            let names = after.given_names().iter().zip(given);
-            let given = names.map(|(name, &number)| named(name, number)).collect();
-            let mut fields = vec![("accepted".to_string(), Json::Object(given))];
+        Answer::Accepted(numbers) => {
+            let given = after.given_names().iter().zip(numbers);
+            let given = given.map(|(name, &number)| named(name, given_text(&after, number)));
+            let mut fields = vec![("accepted".to_string(), Json::Object(given.collect()))];
             if let (Some(name), Some(lent)) = (after.lent_name(), after.lent()) {
                 fields.push((format!("{name}_after"), lent.to_json(name)));
             }
@@ -131,7 +147,7 @@ fn outcome_fields(outcome: &Outcome) -> Vec<(String, Json)> {
 fn read_accepted(case: &Case, json: Json) -> Result<Answer, String> {
     let mut fields = Fields::of(json)?;
     let names = case.given_names().iter();
-    let given = names.map(|name| list::number_of(&fields.take_text(name)?));
+    let given = names.map(|name| given_of(case, &fields.take_text(name)?));
     let answer = Answer::Accepted(given.collect::<Result<_, String>>()?);
     fields.finish()?;
     Ok(answer)

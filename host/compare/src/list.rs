@@ -125,7 +125,7 @@ pub fn show_numbers<N: ToString>(numbers: &[N]) -> String {
 
 /// A number of its type in decimal digits.
 pub fn number_of<N: TryFrom<u64>>(digits: &str) -> Result<N, String> {
-    let number = decimal(digits)?;
+    let number: u64 = decimal(digits)?;
     N::try_from(number).map_err(|_| format!("`{digits}` is too large"))
 }
 

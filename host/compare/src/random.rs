@@ -40,6 +40,20 @@ impl Random {
         choices[self.below(choices.len())]
     }
 
+    /// A number of so many bytes: in half of all draws the least, the greatest, the first of the
+    /// upper half, or one next to these.
+    pub fn number_of(&mut self, width: usize) -> u64 {
+        let greatest = u64::MAX >> (64 - 8 * width);
+        let number = match self.below(2) {
+            0 => {
+                let end = self.pick(&[0, greatest, greatest / 2 + 1]);
+                end.wrapping_add(self.pick(&[0, 1, u64::MAX]))
+            }
+            _ => self.number(),
+        };
+        number & greatest
+    }
+
     /// This many random bytes.
     pub fn bytes(&mut self, count: usize) -> Vec<u8> {
         (0..count).map(|_| self.number() as u8).collect()

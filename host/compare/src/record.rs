@@ -102,8 +102,8 @@ impl Writer<'_> {
         let children = children_of(self.table, node);
         match node[0] {
             0 => (),
-            1 => self.random_bytes(4),
-            2 => self.random_bytes(8),
+            1 | 9 => self.number(4),
+            2 | 10 => self.number(8),
             3 => self.array(children[0] as usize),
             4 => children
                 .iter()
@@ -115,9 +115,10 @@ impl Writer<'_> {
         }
     }
 
-    fn random_bytes(&mut self, count: usize) {
-        let bytes = self.random.bytes(count);
-        self.record.bytes.extend(bytes);
+    /// Writes a number of this many bytes.
+    fn number(&mut self, width: usize) {
+        let number = self.random.number_of(width);
+        self.record.bytes.extend(&number.to_le_bytes()[..width]);
     }
 
     /// Writes an element count or a tag.
@@ -130,7 +131,8 @@ impl Writer<'_> {
     fn numbers(&mut self, width: usize) {
         let count = self.random.within(0..=5);
         self.count(count);
-        self.random_bytes(count * width);
+        let bytes = self.random.bytes(count * width);
+        self.record.bytes.extend(bytes);
     }
 
     /// Writes an array of values of a node.

@@ -5,7 +5,7 @@ use route_record::{MAX_BYTES, MAX_ROWS, ROW_WORDS};
 use crate::Random;
 
 /// The kinds of values of one row, arrays and tuples of no value among them.
-const LEAVES: [u64; 8] = [0, 1, 2, 3, 4, 5, 6, 7];
+const LEAVES: [u64; 10] = [0, 1, 2, 3, 4, 5, 6, 7, 9, 10];
 
 /// The kinds of values of more rows.
 const PARENTS: [u64; 3] = [3, 4, 8];
@@ -51,14 +51,15 @@ impl RowTable {
         let kind = random.pick(if span == 1 { &LEAVES } else { &PARENTS });
         let word2 = match kind {
             0 => 0,
-            1 => random.number() >> 32,
-            2 | 8 => random.number(),
+            1 | 9 => random.number_of(4),
+            2 | 10 => random.number_of(8),
             3 | 4 => random.within((span - 1).min(1)..=span - 1) as u64,
+            8 => random.number(),
             _ => random.within(0..=9) as u64,
         };
         let own_bytes = match kind {
             0 | 4 => 0,
-            1 => 4,
+            1 | 9 => 4,
             _ => 8,
         };
         self.record.extend(&word2.to_le_bytes()[..own_bytes]);
@@ -92,9 +93,18 @@ impl RowTable {
 
     /// The numbers of the rows of arrays in the store.
     pub fn arrays(&self) -> Vec<usize> {
+        self.of_kinds(|kind| element_width(kind).is_some())
+    }
+
+    /// The numbers of the rows of signed numbers.
+    pub fn signed(&self) -> Vec<usize> {
+        self.of_kinds(|kind| matches!(kind, 9 | 10))
+    }
+
+    /// The numbers of the rows of some kinds.
+    fn of_kinds(&self, is_of_them: impl Fn(u64) -> bool) -> Vec<usize> {
         let rows = 0..self.rows.len();
-        rows.filter(|&row| element_width(self.rows[row][0]).is_some())
-            .collect()
+        rows.filter(|&row| is_of_them(self.rows[row][0])).collect()
     }
 
     /// Moves each array to any place in the store where it has room.
@@ -134,8 +144,8 @@ impl RowTable {
         let width = element_width(kind).unwrap_or(1) as u64;
         let length = self.record.len() as u64;
         let room = length.saturating_sub(place) / width;
-        let powers = [0, 1 << 32, 1 << 61, 1 << 62, 1 << 63];
-        let bounds = [8, n as u64, (n - row) as u64, length, room];
+        let powers = [0, 1 << 31, 1 << 32, 1 << 61, 1 << 62, 1 << 63];
+        let bounds = [10, n as u64, (n - row) as u64, length, room];
         let limits = [&powers[..], &bounds, &[kind, span, count, place]].concat();
         let word = &mut self.rows[row][random.below(4)];
         let old = *word;

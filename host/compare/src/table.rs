@@ -3,7 +3,7 @@
 use crate::Random;
 
 /// The kinds, those with children more often than the others.
-const KINDS: [u32; 14] = [0, 1, 2, 5, 6, 7, 3, 3, 4, 4, 4, 8, 8, 8];
+const KINDS: [u32; 16] = [0, 1, 2, 5, 6, 7, 9, 10, 3, 3, 4, 4, 4, 8, 8, 8];
 
 /// A grammar table.
 pub struct Table {
@@ -79,8 +79,9 @@ impl Table {
             _ => 1 + 3 * n + random.within(0..=m),
         };
         let old = words[at];
+        let own = [k as u32, n as u32, m as u32, old];
+        let limits = [&[0, 10, 256, 1_024, 1 << 31], &own[..]].concat();
         while words[at] == old {
-            let limits = [0, 8, 256, 1_024, 1 << 31, k as u32, n as u32, m as u32, old];
             words[at] = random.pick(&limits);
             words[at] = words[at].wrapping_add(random.pick(&[0, 1, u32::MAX]));
         }

@@ -3,7 +3,7 @@
 //! 1.0.152 by `bincode::serialize`, and `DefaultOptions::new().with_fixint_encoding()` gave the
 //! same. The Rust value of each is beside it. Unions are left out: bincode's tags have 4 bytes.
 
-use compare::{table, Value};
+use compare::{leaf, table, Answer, Case, Value};
 
 /// Reads bincode's bytes into these rows, and writes the rows to bincode's bytes.
 fn compare_with(bytes: &[u8], grammar: &[u32], rows: &[[u64; 4]]) {
@@ -27,6 +27,126 @@ fn unit_and_numbers() {
         &[8, 7, 6, 5, 4, 3, 2, 1],
         &table(&[[2, 0, 0]], &[]),
         &[[2, 1, 0x0102_0304_0506_0708, 0]],
+    );
+}
+
+/// Compares bincode's bytes of a signed number, and asks for the number of their row.
+fn compare_signed(number: i64, bytes: &[u8], kind: u32, pattern: u64) {
+    let row = [kind.into(), 1, pattern, 0];
+    compare_with(bytes, &leaf(kind), &[row]);
+    let signed_number = Case::SignedNumber {
+        rows: row.to_vec(),
+        n: 1,
+        store: vec![],
+        row: 0,
+    };
+    let expected = Answer::Accepted(vec![number as u64]);
+    assert_eq!(signed_number.compare().answer, expected);
+}
+
+#[test]
+fn signed_numbers() {
+    let int32s: [(i32, [u8; 4], u64); 8] = [
+        (0, [0, 0, 0, 0], 0),
+        (1, [1, 0, 0, 0], 1),
+        (305_419_896, [120, 86, 52, 18], 305_419_896),
+        (i32::MAX, [255, 255, 255, 127], 2_147_483_647),
+        (i32::MIN, [0, 0, 0, 128], 2_147_483_648),
+        (i32::MIN + 1, [1, 0, 0, 128], 2_147_483_649),
+        (-3, [253, 255, 255, 255], 4_294_967_293),
+        (-1, [255, 255, 255, 255], 4_294_967_295),
+    ];
+    for (number, bytes, pattern) in int32s {
+        compare_signed(number.into(), &bytes, 9, pattern);
+    }
+    let int64s: [(i64, [u8; 8], u64); 8] = [
+        (0, [0; 8], 0),
+        (1, [1, 0, 0, 0, 0, 0, 0, 0], 1),
+        (
+            0x0102_0304_0506_0708,
+            [8, 7, 6, 5, 4, 3, 2, 1],
+            0x0102_0304_0506_0708,
+        ),
+        (
+            i64::MAX,
+            [255, 255, 255, 255, 255, 255, 255, 127],
+            9_223_372_036_854_775_807,
+        ),
+        (
+            i64::MIN,
+            [0, 0, 0, 0, 0, 0, 0, 128],
+            9_223_372_036_854_775_808,
+        ),
+        (
+            i64::MIN + 1,
+            [1, 0, 0, 0, 0, 0, 0, 128],
+            9_223_372_036_854_775_809,
+        ),
+        (
+            -3,
+            [253, 255, 255, 255, 255, 255, 255, 255],
+            18_446_744_073_709_551_613,
+        ),
+        (-1, [255; 8], 18_446_744_073_709_551_615),
+    ];
+    for (number, bytes, pattern) in int64s {
+        compare_signed(number, &bytes, 10, pattern);
+    }
+}
+
+#[test]
+fn vectors_of_signed_numbers() {
+    // vec![0i32, i32::MIN, -1]
+    compare_with(
+        &[
+            3, 0, 0, 0, 0, 0, 0, 0, 0, 0, 0, 0, 0, 0, 0, 128, 255, 255, 255, 255,
+        ],
+        &table(&[[3, 0, 1], [9, 0, 0]], &[1]),
+        &[
+            [3, 4, 3, 0],
+            [9, 1, 0, 0],
+            [9, 1, 2_147_483_648, 0],
+            [9, 1, 4_294_967_295, 0],
+        ],
+    );
+    // vec![i64::MAX, i64::MIN, -2]
+    compare_with(
+        &[
+            3, 0, 0, 0, 0, 0, 0, 0, 255, 255, 255, 255, 255, 255, 255, 127, 0, 0, 0, 0, 0, 0, 0,
+            128, 254, 255, 255, 255, 255, 255, 255, 255,
+        ],
+        &table(&[[3, 0, 1], [10, 0, 0]], &[1]),
+        &[
+            [3, 4, 3, 0],
+            [10, 1, 9_223_372_036_854_775_807, 0],
+            [10, 1, 9_223_372_036_854_775_808, 0],
+            [10, 1, 18_446_744_073_709_551_614, 0],
+        ],
+    );
+}
+
+#[test]
+fn signed_and_unsigned() {
+    // (-3i32, vec![0x41u8, 0x42])
+    compare_with(
+        &[253, 255, 255, 255, 2, 0, 0, 0, 0, 0, 0, 0, 65, 66],
+        &table(&[[4, 0, 2], [9, 0, 0], [5, 0, 0]], &[1, 2]),
+        &[[4, 3, 2, 0], [9, 1, 4_294_967_293, 0], [5, 1, 2, 12]],
+    );
+    // (-1i32, u32::MAX, -1i64, u64::MAX)
+    compare_with(
+        &[255; 24],
+        &table(
+            &[[4, 0, 4], [9, 0, 0], [1, 0, 0], [10, 0, 0], [2, 0, 0]],
+            &[1, 2, 3, 4],
+        ),
+        &[
+            [4, 5, 4, 0],
+            [9, 1, 4_294_967_295, 0],
+            [1, 1, 4_294_967_295, 0],
+            [10, 1, u64::MAX, 0],
+            [2, 1, u64::MAX, 0],
+        ],
     );
 }
 

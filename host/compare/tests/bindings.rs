@@ -3,7 +3,7 @@
 use std::collections::HashSet;
 
 use compare::{Random, Record, Table};
-use route_record::calls::locate_array;
+use route_record::calls::{locate_array, signed_number};
 use route_record::{
     Builder, Class, Contents, Grammar, GrammarError, Kind, Position, Refusal, Row, Value, KINDS,
 };
@@ -19,9 +19,10 @@ fn grown(random: &mut Random, n: usize, shared: usize) -> Table {
         parent.insert(random.below(parent.len() + 1), child as u32);
     }
     let (mut nodes, mut children) = (Vec::new(), Vec::new());
+    let leaves = [&[0, 1, 2, 5, 6, 7, 9, 10].repeat(2)[..], &[4, 8]].concat();
     for of_node in below {
         let (kind, first) = match of_node.len() {
-            0 => (random.pick(&[0, 1, 2, 5, 6, 7, 0, 1, 2, 5, 6, 7, 4, 8]), 0),
+            0 => (random.pick(&leaves), 0),
             1 => (random.pick(&[3, 4, 8]), children.len()),
             _ => (random.pick(&[4, 8]), children.len()),
         };
@@ -40,6 +41,10 @@ fn rebuild(row: Row, builder: &mut Builder) {
             builder.uint32(number.try_into().expect("below 2^32"));
         }
         Contents::Number(number) => builder.uint64(number),
+        Contents::Signed(number) if row.kind().number == Kind::INT32 => {
+            builder.int32(number.try_into().expect("a number of 32 bits"));
+        }
+        Contents::Signed(number) => builder.int64(number),
         Contents::Array(_) => builder.array(all),
         Contents::Tuple(_) => builder.tuple(all),
         Contents::Elements(elements) => match elements.width() {
@@ -102,6 +107,8 @@ fn assert_round_trip(grammar: &Grammar, record: &Record) -> Vec<u32> {
         let located = locate_array(rows, record.rows, store, number).ok();
         let range = located.map(|(start, length)| start..start + length);
         assert_eq!(range, row.elements().map(|elements| elements.range()));
+        let signed = signed_number(rows, record.rows, store, number).ok();
+        assert_eq!(signed, row.signed());
     }
 
     let built = Value::build(|builder| rebuild(value.root(), builder)).expect("a value");
@@ -128,7 +135,7 @@ fn what_was_read_and_built_again_is_written_as_it_was() {
     let mut random = Random::new(61);
     let mut met = vec![0; KINDS.len()];
     let mut records = 0;
-    while records < 500 {
+    while records < 800 {
         let (n, shared) = (random.within(1..=40), random.pick(&[0, 3, 10]));
         let table = grown(&mut random, n, shared);
         let spare = random.pick(&[0, 30, 100]);

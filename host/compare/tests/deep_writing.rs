@@ -61,7 +61,7 @@ fn compare_chain(kind: u32, own: &[u8]) {
     assert_eq!(answer(&value, size - 1), refusal(17, place));
     value.rows[4 * 255] = 2;
     assert_eq!(answer(&value, size), refusal(15, Place::Row(255)));
-    value.rows[4 * 255] = 9;
+    value.rows[4 * 255] = 11;
     assert_eq!(answer(&value, size), refusal(13, Place::Row(255)));
 }
 
@@ -81,7 +81,7 @@ fn deepest_rows(kind: u64) {
     }
     let expected = refusal(15, Place::Row(255));
     assert_eq!(on_small_stack(&value, 0), [expected.clone(), expected]);
-    value.rows[4 * 4_095] = 9;
+    value.rows[4 * 4_095] = 11;
     let expected = refusal(13, Place::Row(4_095));
     assert_eq!(on_small_stack(&value, 0), [expected.clone(), expected]);
 }

@@ -77,16 +77,16 @@ fn sound_tables(choices: &[&[u32]]) -> usize {
 
 #[test]
 fn tables_of_up_to_six_words() {
-    let words: &[u32] = &[0, 1, 2, 3, 4, 8, 9, u32::MAX];
+    let words: &[u32] = &[0, 1, 2, 3, 4, 8, 10, 11, u32::MAX];
     let sound = [0, 1, 2, 3, 4, 5, 6].map(|length| sound_tables(&vec![words; length]));
-    // 5 words: the kinds 0, 1, 2, 4, 8 without children. 6 words: these, and first 1 for 4 and 8,
-    // with any child word.
-    assert_eq!(sound, [0, 0, 0, 0, 0, 5, 7 * 8]);
+    // 5 words: the kinds 0, 1, 2, 4, 8, 10 without children. 6 words: these, and first 1 for 4 and
+    // 8, with any child word.
+    assert_eq!(sound, [0, 0, 0, 0, 0, 6, 8 * 9]);
 }
 
 #[test]
 fn tables_of_two_nodes_and_two_child_words() {
-    let kind: &[u32] = &[0, 3, 4, 9];
+    let kind: &[u32] = &[0, 3, 4, 11];
     let first: &[u32] = &[0, 1, 2, 3, u32::MAX];
     let count: &[u32] = &[0, 1, 2, u32::MAX];
     let child: &[u32] = &[0, 1, 2, u32::MAX];
@@ -113,20 +113,83 @@ fn all_rows(kinds: &[u64], spans: &[u64], words2: &[u64]) -> Vec<Row> {
     rows
 }
 
-#[test]
-fn sizes_of_two_rows() {
-    let rows = all_rows(&[0, 3, 4, 5, 8, 9], &[0, 1, 2, u64::MAX], &[0, 1, u64::MAX]);
+/// All pairs of rows of kinds that are there, and of the first that is not.
+fn pairs_of_rows() -> Vec<Vec<u64>> {
+    let kinds = [0, 3, 4, 5, 8, 9, 10, 11];
+    let rows = all_rows(&kinds, &[0, 1, 2, u64::MAX], &[0, 1, u64::MAX]);
     let pairs = rows
         .iter()
-        .flat_map(|root| rows.iter().map(|child| [*root, *child]));
-    let cases = pairs.map(|pair| Case::ComputeSizeOf {
-        rows: pair.concat(),
+        .flat_map(|root| rows.iter().map(|child| [*root, *child].concat()));
+    pairs.collect()
+}
+
+/// The accepted roots of two rows: an array or a tuple of 1, or a case with one of 3 tags.
+const ROOTS: usize = 1 + 1 + 3;
+
+/// The accepted signed numbers in such a root: of kind 9 without the pattern above its limit, and
+/// of kind 10.
+const SIGNED: usize = 2 + 3;
+
+#[test]
+fn sizes_of_two_rows() {
+    let cases = pairs_of_rows().into_iter().map(|rows| Case::ComputeSizeOf {
+        rows,
         n: 2,
         store: vec![0],
     });
-    // The root is an array or a tuple of 1, or a case with one of 3 tags. In it there is a
-    // constant, an array or a tuple of 0, or an array of bytes: none at offset 0 or 1, one at 0.
-    assert_eq!(accepted(cases), (1 + 1 + 3) * (1 + 1 + 1 + 3));
+    // In the root there is a constant, an array or a tuple of 0, an array of bytes (none at offset
+    // 0 or 1, one at 0) or a signed number.
+    assert_eq!(accepted(cases), ROOTS * (1 + 1 + 1 + 3 + SIGNED));
+}
+
+#[test]
+fn signed_numbers_of_two_rows() {
+    let pairs = pairs_of_rows();
+    let count = |row: usize| {
+        let cases = pairs.iter().map(|rows| Case::SignedNumber {
+            rows: rows.clone(),
+            n: 2,
+            store: vec![0],
+            row,
+        });
+        accepted(cases)
+    };
+    assert_eq!(count(1), ROOTS * SIGNED);
+    for row in [0, 2, 3, 1 << 62, usize::MAX] {
+        assert_eq!(count(row), 0, "{row}");
+    }
+}
+
+/// The powers of 2 below 2^64 and the numbers next to them, and what these lack to 2^64.
+fn near_powers() -> Vec<u64> {
+    let powers = (0..64).map(|bit| 1u64 << bit);
+    let near = powers.flat_map(|power| [power - 1, power, power + 1]);
+    near.flat_map(|number| [number, number.wrapping_neg()])
+        .collect()
+}
+
+/// Each such number as a pattern: of kind 10 it is the number that Rust's type has for it; of kind
+/// 9 its lower half is, and the whole is 13 where it is above the limit.
+#[test]
+fn signed_numbers_near_powers_of_two() {
+    let answer = |kind, pattern| {
+        let case = Case::SignedNumber {
+            rows: vec![kind, 1, pattern, 0],
+            n: 1,
+            store: vec![],
+            row: 0,
+        };
+        case.compare().answer.c_words()
+    };
+    let given = |number: i64| [0, 0, 0, number as u64, 0];
+    for pattern in near_powers() {
+        assert_eq!(answer(10, pattern), given(pattern as i64));
+        let low = pattern as u32;
+        assert_eq!(answer(9, low.into()), given((low as i32).into()));
+        if pattern > low.into() {
+            assert_eq!(answer(9, pattern), [13, 3, 0, 0, 0]);
+        }
+    }
 }
 
 /// The writing of these rows to an output of 100 bytes.
@@ -143,7 +206,7 @@ fn writing(grammar: &[u32], rows: &[Row], store: &[u8]) -> Case {
 /// All values of two rows, under all tables of a root and a child.
 #[test]
 fn writings_of_two_rows() {
-    let rows = all_rows(&[0, 1, 3, 4, 5, 8], &[1, 2], &[0, 1, 2]);
+    let rows = all_rows(&[0, 1, 3, 4, 5, 8, 9], &[1, 2], &[0, 1, 2]);
     let mut written = 0;
     for [kind, count] in [
         [0, 0],
@@ -155,7 +218,7 @@ fn writings_of_two_rows() {
         [8, 1],
         [8, 2],
     ] {
-        for child in [0, 4, 5] {
+        for child in [0, 1, 4, 5, 9] {
             let grammar = [2, kind, 0, count, child, 0, 0, 2, 1, 1];
             let pairs = rows
                 .iter()
@@ -164,8 +227,9 @@ fn writings_of_two_rows() {
         }
     }
     // The root is an array or a tuple of 1, or a case of one union or of two of the other. In it
-    // there is a constant, a tuple of 0, or an array of bytes: none at offset 0 or 1, one at 0.
-    assert_eq!(written, (1 + 1 + 1 + 2) * (1 + 1 + 3));
+    // there is a constant, one of 3 uint32, a tuple of 0, an array of bytes (none at offset 0 or 1,
+    // one at 0) or one of 3 signed numbers.
+    assert_eq!(written, (1 + 1 + 1 + 2) * (1 + 3 + 1 + 3 + 3));
 }
 
 /// Arrays of each width, of every count and at every offset of a store of 24 bytes.
@@ -185,21 +249,23 @@ fn arrays_anywhere_in_the_store() {
 }
 
 /// A value of each kind, the values with parts first: nodes, child words and rows.
-const NODES: [[u32; 3]; 10] = [
-    [4, 0, 9],
-    [3, 9, 1],
-    [4, 10, 2],
-    [8, 12, 2],
+const NODES: [[u32; 3]; 12] = [
+    [4, 0, 11],
+    [3, 11, 1],
+    [4, 12, 2],
+    [8, 14, 2],
     [0, 0, 0],
     [1, 0, 0],
     [2, 0, 0],
     [5, 0, 0],
     [6, 0, 0],
     [7, 0, 0],
+    [9, 0, 0],
+    [10, 0, 0],
 ];
-const CHILDREN: [u32; 14] = [1, 2, 3, 4, 5, 6, 7, 8, 9, 5, 5, 4, 4, 5];
-const ROWS: [Row; 15] = [
-    [4, 15, 9, 0],
+const CHILDREN: [u32; 16] = [1, 2, 3, 4, 5, 6, 7, 8, 9, 10, 11, 5, 5, 4, 4, 5];
+const ROWS: [Row; 17] = [
+    [4, 17, 11, 0],
     [3, 3, 2, 0],
     [1, 1, 1, 0],
     [1, 1, 2, 0],
@@ -214,10 +280,12 @@ const ROWS: [Row; 15] = [
     [5, 1, 1, 0],
     [6, 1, 1, 1],
     [7, 1, 1, 2],
+    [9, 1, 7, 0],
+    [10, 1, 8, 0],
 ];
 
 /// The rows of the value of each kind that have no part.
-const LEAVES: [usize; 11] = [2, 3, 5, 6, 8, 9, 10, 11, 12, 13, 14];
+const LEAVES: [usize; 13] = [2, 3, 5, 6, 8, 9, 10, 11, 12, 13, 14, 15, 16];
 
 /// Rows of every kind in the place of each row without parts, and of two of them at once: of these
 /// that which is of another kind first is refused, and the value itself is written.
@@ -226,7 +294,7 @@ fn another_kind_in_each_row() {
     let grammar = table(&NODES, &CHILDREN);
     for first in LEAVES {
         for second in LEAVES {
-            for kind in 0..8 {
+            for kind in [0, 1, 2, 3, 4, 5, 6, 7, 9, 10] {
                 let mut rows = ROWS;
                 (rows[first], rows[second]) = ([kind, 1, 0, 0], [kind, 1, 0, 0]);
                 let other = [first, second]
@@ -239,6 +307,26 @@ fn another_kind_in_each_row() {
                 }
             }
         }
+    }
+}
+
+/// The signed number of each row of the value of each kind, and of those that are not there.
+#[test]
+fn signed_numbers_of_each_kind() {
+    let far = [1 << 32, 1 << 62, 1 << 63, usize::MAX];
+    for row in (0..=20).chain(far) {
+        let case = Case::SignedNumber {
+            rows: ROWS.concat(),
+            n: ROWS.len(),
+            store: vec![9; 10],
+            row,
+        };
+        let expected = match row {
+            15 => [0, 0, 0, 7, 0],
+            16 => [0, 0, 0, 8, 0],
+            _ => [20, 3, row as u64, 0, 0],
+        };
+        assert_eq!(case.compare().answer.c_words(), expected);
     }
 }
 
@@ -256,7 +344,7 @@ fn tuple_counts() {
     assert_eq!(accepted(cases), 6);
 }
 
-/// The grammar and the record of the value of each kind: 81 bytes, 15 rows.
+/// The grammar and the record of the value of each kind: 93 bytes, 17 rows.
 fn each_kind() -> (Vec<u32>, Vec<u8>) {
     let grammar = table(&NODES, &CHILDREN);
     let outcome = writing(&grammar, &ROWS, &[9; 10]).compare();
@@ -282,9 +370,9 @@ fn reading(grammar: &[u32], record: &[u8], words: usize) -> Case {
 fn readings_of_every_length_and_capacity() {
     let (grammar, record) = each_kind();
     let longer = [&record[..], &[0; 9]].concat();
-    let lengths = (0..=longer.len()).map(|length| reading(&grammar, &longer[..length], 64));
+    let lengths = (0..=longer.len()).map(|length| reading(&grammar, &longer[..length], 72));
     assert_eq!(accepted(lengths), 1);
-    let words = (0..=70).map(|words| reading(&grammar, &record, words));
+    let words = (0..=78).map(|words| reading(&grammar, &record, words));
     assert_eq!(accepted(words), 11);
     let slices = (0..=record.len()).map(|length| {
         // A comparison copies the record; here the bytes cut off stand behind it.
@@ -310,7 +398,7 @@ fn readings_from_every_index() {
         grammar: grammar.clone(),
         record: record.clone(),
         index,
-        rows: vec![99; 64],
+        rows: vec![99; 72],
     });
     assert_eq!(accepted(cases), 1);
 }
@@ -325,7 +413,7 @@ fn readings_of_every_byte() {
     let cases = others.map(|(at, flip)| {
         let mut other = record.clone();
         other[at] ^= flip;
-        reading(&grammar, &other, 64)
+        reading(&grammar, &other, 72)
     });
     assert_eq!(accepted(cases), 255 * free);
 }

@@ -32,6 +32,16 @@ fn packing() -> Case {
     }
 }
 
+/// The signed number of a row of kind 9 alone.
+fn signed_number(pattern: u64) -> Case {
+    Case::SignedNumber {
+        rows: vec![9, 1, pattern, 0],
+        n: 1,
+        store: vec![],
+        row: 0,
+    }
+}
+
 #[test]
 fn texts() {
     assert_eq!(
@@ -47,6 +57,10 @@ fn texts() {
         text(reading),
         r#"{"name": "a name", "call": "demarshall", "grammar": ["2", "3 0 1", "0 0 0", "1", "1"], "record": ["0600000000000000"], "rows": [{"repeat": "99 99 99 99", "times": 7}, "99"], "accepted": {"row_count": "7", "rest_index": "8"}, "rows_after": ["3 7 6 0", {"repeat": "0 1 0 0", "times": 6}, "99"]}"#
     );
+    assert_eq!(
+        text(signed_number(4_294_967_293)),
+        r#"{"name": "a name", "call": "signed_number", "rows": ["9 1 4294967293 0"], "n": "1", "store": [], "row": "0", "accepted": {"number": "-3"}}"#
+    );
     let refused = Case::SameRoute {
         grammar: vec![1, 2, 0, 0, 0],
         first: vec![0; 8],
@@ -60,7 +74,9 @@ fn texts() {
 
 #[test]
 fn read_back() {
-    for case in Case::blanks().into_iter().chain([packing()]) {
+    let signed = [0, 1, (1 << 31) - 1, 1 << 31, (1 << 32) - 1].map(signed_number);
+    let others = [packing()].into_iter().chain(signed);
+    for case in Case::blanks().into_iter().chain(others) {
         let line = line(case);
         assert_eq!(read(&line.to_json().to_string()), Ok(line));
     }
@@ -97,11 +113,16 @@ fn grammars_of_any_words_read_back() {
     }
 }
 
-/// The error of the packing's line with a part replaced.
-fn error(old: &str, new: &str) -> String {
-    let sound = text(packing());
+/// The error of a case's line with a part replaced.
+fn error_in(case: Case, old: &str, new: &str) -> String {
+    let sound = text(case);
     assert!(sound.contains(old), "{old}");
     read(&sound.replace(old, new)).expect_err(new)
+}
+
+/// The error of the packing's line with a part replaced.
+fn error(old: &str, new: &str) -> String {
+    error_in(packing(), old, new)
 }
 
 #[test]
@@ -166,6 +187,34 @@ fn numbers_and_bytes_have_one_spelling() {
     ] {
         assert_eq!(error(old, new), expected);
     }
+}
+
+/// A number below zero stands where a signed one is given, and nowhere else.
+#[test]
+fn signed_numbers_have_one_spelling() {
+    let sound = signed_number(4_294_967_293);
+    for other in [
+        "-03",
+        "--3",
+        "+3",
+        "- 3",
+        "-",
+        "-0",
+        "9223372036854775808",
+        "-9223372036854775809",
+        "18446744073709551613",
+    ] {
+        let (old, new) = (r#""-3""#, format!("\"{other}\""));
+        let expected = format!("`{other}` is no number");
+        assert_eq!(error_in(sound.clone(), old, &new), expected);
+    }
+    let size = Case::ComputeSizeOf {
+        rows: vec![9, 1, 0, 0],
+        n: 1,
+        store: vec![],
+    };
+    let error = error_in(size, r#""size": "4""#, r#""size": "-4""#);
+    assert_eq!(error, "`-4` is no number");
 }
 
 #[test]

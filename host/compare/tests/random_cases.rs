@@ -21,7 +21,7 @@ fn run_cases(seed: u64, cases: u64) -> Answers {
 /// Every call gives every answer that it can give, and no other.
 #[test]
 fn each_call_gives_each_of_its_answers() {
-    let answers = run_cases(1, 8_000);
+    let answers = run_cases(1, 12_000);
     let mut total = 0;
     for blank in Case::blanks() {
         for &number in blank.answer_numbers() {

@@ -57,6 +57,11 @@ pub fn locate_array(rows: &[u64], n: usize, store: &[u8], row: usize) -> Answer 
     Answer::of(located.map(|(start, length)| [start as u64, length as u64]))
 }
 
+pub fn signed_number(rows: &[u64], n: usize, store: &[u8], row: usize) -> Answer {
+    let number = calls::signed_number(rows, n, store, row);
+    Answer::of(number.map(|number| [number as u64]))
+}
+
 /// The answer of a reading.
 fn read(parsed: Result<Parsed, Refusal>) -> Answer {
     Answer::of(parsed.map(|parsed| [parsed.rows as u64, parsed.rest_index as u64]))

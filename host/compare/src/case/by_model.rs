@@ -74,6 +74,11 @@ pub fn locate_array(rows: &[u64], n: usize, store: &[u8], row: usize) -> Answer 
     answer(located.map(|(start, length)| [start as u64, length as u64]))
 }
 
+pub fn signed_number(rows: &[u64], n: usize, store: &[u8], row: usize) -> Answer {
+    let number = model::signed_number(rows, n, store, row);
+    answer(number.map(|number| [number as u64]))
+}
+
 /// The row count and `rest_index` of a reading.
 fn counts(reading: &Reading) -> [u64; 2] {
     [

@@ -108,6 +108,8 @@ cases! {
         lends [] gives [size];
     LocateArray locate_array { rows: Vec<u64>, n: usize, store: Vec<u8>, row: usize }
         lends [] gives [start, length];
+    SignedNumber signed_number { rows: Vec<u64>, n: usize, store: Vec<u8>, row: usize }
+        lends [] gives [number];
     ParseVal parse_val { grammar: Vec<u32>, record: Vec<u8>, index: usize, rows: Vec<u64> }
         lends [rows] gives [row_count, rest_index];
     Demarshall demarshall { grammar: Vec<u32>, record: Vec<u8>, rows: Vec<u64> }
@@ -144,6 +146,7 @@ impl Case {
             Case::CheckGrammar { .. } => &[0, 1, 2, 3, 4, 5],
             Case::ComputeSizeOf { .. } => &[0, 6, 12, 13, 14],
             Case::LocateArray { .. } => &[0, 6, 12, 13, 14, 18],
+            Case::SignedNumber { .. } => &[0, 6, 12, 13, 14, 20],
             Case::ParseVal { .. } | Case::CheckVal { .. } => &[0, 1, 2, 3, 4, 5, 6, 7, 8, 9, 10],
             Case::Demarshall { .. } | Case::CheckWhole { .. } | Case::SameRoute { .. } => {
                 &[0, 1, 2, 3, 4, 5, 6, 8, 9, 10, 11]

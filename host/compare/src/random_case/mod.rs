@@ -11,13 +11,13 @@ impl Case {
     /// A random case of any call. The calls on grammars, rows and records come more often than the
     /// packers and unpackers, which have fewer answers.
     pub fn random(random: &mut Random) -> Case {
-        match random.below(34) {
+        match random.below(37) {
             0..4 => packed(random, &U32),
             4..8 => packed(random, &U64),
             8..11 => check_grammar(random),
-            11..17 => on_rows(random),
-            17..26 => reading::case(random),
-            26..32 => writing::case(random),
+            11..20 => on_rows(random),
+            20..29 => reading::case(random),
+            29..35 => writing::case(random),
             _ => reading::same_route(random),
         }
     }
@@ -88,7 +88,7 @@ fn deep_table(random: &mut Random) -> Table {
         [kind, k as u32, 1 + u32::from(is_pair)]
     };
     let mut nodes: Vec<[u32; 3]> = (0..n - 1).map(parent).collect();
-    nodes.push([random.pick(&[0, 1, 2, 5, 6, 7]), 0, 0]);
+    nodes.push([random.pick(&[0, 1, 2, 5, 6, 7, 9, 10]), 0, 0]);
     let children = (1..n as u32).collect();
     Table { nodes, children }
 }
@@ -135,7 +135,8 @@ fn deep_rows(random: &mut Random) -> RowTable {
     let parents = (2..=n)
         .rev()
         .map(|span| [random.pick(&[3, 4, 8]), span, 1, 0]);
-    let rows = parents.chain([[0, 1, 0, 0]]).collect();
+    let mut rows: Vec<[u64; 4]> = parents.collect();
+    rows.push([random.pick(&[0, 9, 10]), 1, 0, 0]);
     let record = vec![];
     RowTable { rows, record }
 }
@@ -173,7 +174,19 @@ fn sharing_a_store(random: &mut Random) -> RowTable {
     RowTable { rows, record }
 }
 
-/// A case of the size call or of the locator.
+/// A row number for a call that wants one of the listed rows: such a row, or any where there is
+/// none, row 0, the rows around `n`, and those far above.
+fn row_number(random: &mut Random, wanted: &[usize], table: &RowTable, n: usize) -> usize {
+    let row = match wanted.len() {
+        0 => random.below(table.rows.len()),
+        _ => random.pick(wanted),
+    };
+    let near = [0, n.wrapping_sub(1), n, n.wrapping_add(1)];
+    let far = [1 << 32, 1 << 62, usize::MAX];
+    random.pick(&[&[row; 8], &near[..], &far].concat())
+}
+
+/// A case of the size call, of the locator or of the signed number.
 fn on_rows(random: &mut Random) -> Case {
     let mut table = row_table(random);
     let faults = random.pick(&[0, 0, 1, 1, 2, 3]);
@@ -181,21 +194,24 @@ fn on_rows(random: &mut Random) -> Case {
     (0..in_words).for_each(|_| table.damage(random));
     let mut input = RowInput::of(&table);
     (in_words..faults).for_each(|_| spoil_rows(random, &mut input));
-    let arrays = table.arrays();
-    let RowInput { words, n, store } = input;
-    if random.below(2) == 0 {
-        let rows = words;
-        return Case::ComputeSizeOf { rows, n, store };
-    }
-    let row = match arrays.len() {
-        0 => random.below(table.rows.len()),
-        _ => random.pick(&arrays),
-    };
-    let others = [n, n.wrapping_sub(1), usize::MAX, 1 << 62];
-    Case::LocateArray {
-        rows: words,
+    let RowInput {
+        words: rows,
         n,
         store,
-        row: random.pick(&[&[row, row, row, 0], &others[..]].concat()),
+    } = input;
+    match random.below(3) {
+        0 => Case::ComputeSizeOf { rows, n, store },
+        1 => Case::LocateArray {
+            row: row_number(random, &table.arrays(), &table, n),
+            rows,
+            n,
+            store,
+        },
+        _ => Case::SignedNumber {
+            row: row_number(random, &table.signed(), &table, n),
+            rows,
+            n,
+            store,
+        },
     }
 }
