@@ -98,6 +98,41 @@ fn rows_and_stores() {
     }
 }
 
+/// The error of giving the pattern of a signed 32-bit number in place of the number.
+fn gives_the_pattern(case: &Case) -> Outcome {
+    let outcome = case.of_model();
+    match (case, outcome.answer.number()) {
+        (Case::SignedNumber { rows, row, .. }, 0) if rows[ROW_WORDS * row] == 9 => {
+            let pattern = rows[ROW_WORDS * row + 2];
+            Outcome::with(Answer::Accepted(vec![pattern]), case)
+        }
+        _ => outcome,
+    }
+}
+
+/// The row asked for stays the same one while others are left out.
+#[test]
+fn row_numbers() {
+    for seed in 0..5 {
+        let mut table = RowTable::sound(&mut Random::new(seed), 300);
+        let row = *table.signed().last().expect("a signed number");
+        table.rows[row] = [9, 1, (1 << 31) + 9, 0];
+        let large = Case::SignedNumber {
+            rows: table.words(),
+            n: 300,
+            store: table.record,
+            row,
+        };
+        let expected = Case::SignedNumber {
+            rows: vec![9, 1, 1 << 31, 0],
+            n: 1,
+            store: vec![],
+            row: 0,
+        };
+        assert_eq!(smallest(gives_the_pattern, &large), expected);
+    }
+}
+
 /// The error of leaving the last byte of a value out.
 fn leaves_out_the_last_byte(case: &Case) -> Outcome {
     let outcome = case.of_model();
@@ -130,7 +165,8 @@ fn values_and_outputs() {
         else {
             panic!("a writing");
         };
-        assert_eq!((rows.len(), n, index), (4, 1, 0));
+        // A value of one row that has bytes, or a case of a constant.
+        assert!(n <= 2 && rows.len() == ROW_WORDS * n && index == 0);
         assert!(grammar.len() <= 9 && out.len() <= 8 && store.is_empty());
     }
 }

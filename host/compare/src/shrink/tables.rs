@@ -1,5 +1,5 @@
-//! Leaving out rows, nodes and child words, so that a sound table stays sound where it can. Any
-//! content of the tables is possible.
+//! Leaving out rows, nodes and child words, so that a sound table stays sound where it can, and the
+//! row that a call asks for stays the same one. Any content of the tables is possible.
 
 use std::ops::Range;
 
@@ -15,17 +15,31 @@ fn grammar_of(case: &mut Case) -> Option<&mut Vec<u32>> {
     })
 }
 
-/// The words of the rows that a call reads, and their count.
-fn rows_of(case: &mut Case) -> Option<(&mut Vec<u64>, &mut usize)> {
-    let (mut rows, mut count) = (None, None);
+/// The rows that a call reads.
+struct Rows<'a> {
+    words: &'a mut Vec<u64>,
+    /// Their count.
+    n: &'a mut usize,
+    /// The number of the row that the call asks for, if it asks for one.
+    asked: Option<&'a mut usize>,
+}
+
+/// The rows that a call reads.
+fn rows_of(case: &mut Case) -> Option<Rows<'_>> {
+    let (mut rows, mut count, mut asked) = (None, None, None);
     for field in case.fields() {
         match field {
             ("rows", Field::Uint64s(words)) => rows = Some(words),
             ("n", Field::Size(n)) => count = Some(n),
+            ("row", Field::Size(row)) => asked = Some(row),
             _ => (),
         }
     }
-    Some((rows?, count?))
+    Some(Rows {
+        words: rows?,
+        n: count?,
+        asked,
+    })
 }
 
 /// N and M of a table whose length is that of its counts.
@@ -52,8 +66,8 @@ pub(super) fn counts(case: &mut Case) -> Counts {
     let grammar = grammar_of(case).and_then(|words| sections(words));
     let (nodes, child_words) = grammar.unwrap_or((0, 0));
     let (rows, in_root) = match rows_of(case) {
-        Some((rows, n)) if (1..=rows.len() / ROW_WORDS).contains(n) => {
-            (*n, children(rows, *n).len())
+        Some(Rows { words, n, .. }) if (1..=words.len() / ROW_WORDS).contains(n) => {
+            (*n, children(words, *n).len())
         }
         _ => (0, 0),
     };
@@ -84,28 +98,57 @@ fn children(rows: &[u64], n: usize) -> Vec<Range<usize>> {
     children
 }
 
-/// Keeps these rows alone.
-fn keep(rows: &mut Vec<u64>, n: &mut usize, kept: Range<usize>) {
-    *n = kept.len();
-    *rows = rows[ROW_WORDS * kept.start..ROW_WORDS * kept.end].to_vec();
+impl Rows<'_> {
+    /// Keeps these rows alone.
+    fn keep(&mut self, kept: Range<usize>) {
+        *self.n = kept.len();
+        *self.words = self.words[ROW_WORDS * kept.start..ROW_WORDS * kept.end].to_vec();
+        if let Some(asked) = &mut self.asked {
+            **asked = asked.saturating_sub(kept.start);
+        }
+    }
+
+    /// Leaves out rows of values that follow each other, so many, in the same value. The spans that
+    /// reach over them become less, and so does the count of their parent, if that is an array or a
+    /// tuple.
+    fn remove(&mut self, removed: Range<usize>, values: usize) {
+        let (rows, n) = (&mut *self.words, &mut *self.n);
+        let mut parent = None;
+        for other in 0..removed.start {
+            if value(rows, *n, other).end >= removed.end {
+                parent = Some(other);
+                let span = &mut rows[ROW_WORDS * other + 1];
+                *span = span.saturating_sub(removed.len() as u64);
+            }
+        }
+        if let Some(parent) = parent.filter(|&parent| matches!(rows[ROW_WORDS * parent], 3 | 4)) {
+            let count = &mut rows[ROW_WORDS * parent + 2];
+            *count = count.saturating_sub(values as u64);
+        }
+        *n -= removed.len();
+        rows.drain(ROW_WORDS * removed.start..ROW_WORDS * removed.end);
+        if let Some(asked) = self.asked.as_mut().filter(|row| ***row >= removed.end) {
+            **asked -= removed.len();
+        }
+    }
 }
 
 /// Keeps the rows of a row's value alone.
 pub(super) fn keep_value(case: &mut Case, row: usize) {
-    if let Some((rows, n)) = rows_of(case) {
-        let kept = value(rows, *n, row);
-        keep(rows, n, kept);
+    if let Some(mut rows) = rows_of(case) {
+        let kept = value(rows.words, *rows.n, row);
+        rows.keep(kept);
     }
 }
 
 /// Keeps a child of the root alone, and makes its node the root of the grammar.
 pub(super) fn keep_child(case: &mut Case, child: usize) {
-    let Some((rows, n)) = rows_of(case) else {
+    let Some(mut rows) = rows_of(case) else {
         return;
     };
-    let (kind, tag) = (rows[0], rows[2]);
-    let kept = children(rows, *n)[child].clone();
-    keep(rows, n, kept);
+    let (kind, tag) = (rows.words[0], rows.words[2]);
+    let kept = children(rows.words, *rows.n)[child].clone();
+    rows.keep(kept);
     let field = match kind {
         4 => child,
         8 => tag as usize,
@@ -120,40 +163,20 @@ pub(super) fn keep_child(case: &mut Case, child: usize) {
     }
 }
 
-/// Leaves out rows of values that follow each other, so many, in the same value. The spans that
-/// reach over them become less, and so does the count of their parent, if that is an array or a
-/// tuple.
-fn remove_values(rows: &mut Vec<u64>, n: &mut usize, removed: Range<usize>, values: usize) {
-    let mut parent = None;
-    for other in 0..removed.start {
-        if value(rows, *n, other).end >= removed.end {
-            parent = Some(other);
-            let span = &mut rows[ROW_WORDS * other + 1];
-            *span = span.saturating_sub(removed.len() as u64);
-        }
-    }
-    if let Some(parent) = parent.filter(|&parent| matches!(rows[ROW_WORDS * parent], 3 | 4)) {
-        let count = &mut rows[ROW_WORDS * parent + 2];
-        *count = count.saturating_sub(values as u64);
-    }
-    *n -= removed.len();
-    rows.drain(ROW_WORDS * removed.start..ROW_WORDS * removed.end);
-}
-
 /// Leaves out the rows of a row's value.
 pub(super) fn drop_value(case: &mut Case, row: usize) {
-    if let Some((rows, n)) = rows_of(case) {
-        let removed = value(rows, *n, row);
-        remove_values(rows, n, removed, 1);
+    if let Some(mut rows) = rows_of(case) {
+        let removed = value(rows.words, *rows.n, row);
+        rows.remove(removed, 1);
     }
 }
 
 /// Leaves out the rows of children of the root.
 pub(super) fn drop_children(case: &mut Case, range: &Range<usize>) {
-    if let Some((rows, n)) = rows_of(case) {
-        let removed = &children(rows, *n)[range.clone()];
+    if let Some(mut rows) = rows_of(case) {
+        let removed = &children(rows.words, *rows.n)[range.clone()];
         let (first, last) = (&removed[0], &removed[range.len() - 1]);
-        remove_values(rows, n, first.start..last.end, range.len());
+        rows.remove(first.start..last.end, range.len());
     }
 }
 
