@@ -3,10 +3,12 @@ use mathlib.Core.Path.{_≡_}
 use mathlib.Core.Bool.{Bool, true, false}
 use mathlib.Core.List.{List}
 use Prim.Native.Nat.{ℕ}
+use lib.IntN.{ℤ}
 use Rattle.refusal.specs.Outcome.{Outcome, accepted, refused, map, contents, Location, word, byte, row, Reason, reason}
 use Rattle.packed.specs.Packed.{put}
 use Rattle.value.specs.Tree.{Val, SizeOfV}
 use Rattle.value.specs.Bytes.{bytesOf}
+use Rattle.value.specs.Signed.{patternOf}
 use Rattle.value.specs.Step.{Step}
 use Rattle.value.specs.Reading.{State}
 use Rattle.rows.specs.Locate.{Part}
@@ -45,6 +47,10 @@ noValue a = values 0 0
 
 abbrev pub oneValue : ℕ → Values
 oneValue n = values n 0
+
+-- a signed number as its 64-bit pattern, which C casts to int64_t
+abbrev pub signedValue : ℤ → Values
+signedValue z = values (patternOf 8 z) 0
 
 -- a part of the store: its first byte, and how many
 abbrev pub partValues : Part → Values

@@ -3,10 +3,12 @@ ghost use mathlib.Core.Path.{_≡_};
 ghost use Rattle.refusal.specs.Outcome.{refused, map};
 ghost use Rattle.refusal.specs.Meaning.{reasonOf, outcomeOf};
 ghost use Rattle.packed.specs.Meaning.{unpackedU32, unpackedU64};
+ghost use Rattle.value.specs.Signed.{patternOf};
 ghost use Rattle.rows.specs.Meaning.{sizeOf, located};
+ghost use Rattle.signed.specs.Meaning.{signedNumber};
 ghost use Rattle.reading.specs.Meaning.{parsedOf};
 ghost use Rattle.comparing.specs.SameRoute.{sameRouteOf};
-ghost use Rattle.answer_c.specs.Answer.{answerOf, refusalOf, noValue, oneValue, partValues, countValues, sameAnswerOf};
+ghost use Rattle.answer_c.specs.Answer.{answerOf, refusalOf, noValue, oneValue, signedValue, partValues, countValues, sameAnswerOf};
 use comparing::SameRoute;
 use packed::UnpackedU32;
 use packed::UnpackedU64;
@@ -16,6 +18,7 @@ use refusal::Place;
 use refusal::Refusal;
 use rows::Located;
 use rows::SizeOf;
+use signed::SignedNumber;
 
 // The header's `route_answer`.
 #[repr(C)]
@@ -110,6 +113,27 @@ pub fn of_located(answer: Located) -> RouteAnswer
     match answer {
         Located::At(start, size) => accept(start as u64, size as u64),
         Located::Refused(r) => refuse(r),
+    }
+}
+
+// The 64-bit pattern of a number in two's complement. A number below zero has no cast: its pattern is as far below the largest
+// as the number is below −1.
+fn pattern64(n: i64) -> u64
+    ensures { λ r. ⌜ r ≡ patternOf 8 n ⌝ }
+{
+    if n < 0 {
+        18446744073709551615 - ((-1 - n) as u64)
+    } else {
+        n as u64
+    }
+}
+
+pub fn of_signed_number(answer: SignedNumber) -> RouteAnswer
+    ensures { λ r. ⌜ r ≡ answerOf (map signedValue (signedNumber answer)) ⌝ }
+{
+    match answer {
+        SignedNumber::Number(n) => accept(pattern64(n), 0),
+        SignedNumber::Refused(r) => refuse(r),
     }
 }
 

@@ -6,15 +6,17 @@ ghost use Rattle.packed.specs.Packed.{unpackAt, unpackSeqAt, putAt, packLittleE
 ghost use Rattle.grammar.specs.Check.{checkGrammar};
 ghost use Rattle.rows.specs.Size.{computeSizeOf};
 ghost use Rattle.rows.specs.Locate.{locateArray};
+ghost use Rattle.signed.specs.Signed.{signedNumberOf};
 ghost use Rattle.admission.specs.Admission.{capacityOf};
 ghost use Rattle.reading.specs.Calls.{parseValOf, demarshallOf, countsOf};
 ghost use Rattle.sizing.specs.Writes.{marshallValOf};
-ghost use Rattle.answer_c.specs.Answer.{answerOf, noValue, oneValue, partValues, countValues, Answers, AnswersRows, AnswersBytes, AnswersSame};
+ghost use Rattle.answer_c.specs.Answer.{answerOf, noValue, oneValue, signedValue, partValues, countValues, Answers, AnswersRows, AnswersBytes, AnswersSame};
 use answer_c::RouteAnswer;
 use answer_c::of_answer;
 use answer_c::of_located;
 use answer_c::of_parsed;
 use answer_c::of_same_route;
+use answer_c::of_signed_number;
 use answer_c::of_size;
 use answer_c::of_unpacked_u32;
 use answer_c::of_unpacked_u64;
@@ -107,6 +109,18 @@ pub extern "C" fn route_locate_array(
     ensures { λ r. ⌜ r ≡ answerOf (map partValues (locateArray (now (rows .entry)) n (now (store .entry)) row)) ⌝ }
 {
     of_located(rows::locate_array(rows, n, store, row))
+}
+
+#[no_mangle]
+pub extern "C" fn route_signed_number(
+    rows: &[u64],
+    n: usize,
+    store: &[u8],
+    row: usize,
+) -> RouteAnswer
+    ensures { λ r. ⌜ r ≡ answerOf (map signedValue (signedNumberOf (now (rows .entry)) n (now (store .entry)) row)) ⌝ }
+{
+    of_signed_number(signed::signed_number(rows, n, store, row))
 }
 
 #[no_mangle]

@@ -12,7 +12,8 @@ use Rattle.value.specs.Kinds.{width, int32, int64}
 use Rattle.value.specs.Bytes.{bytesOf}
 use Rattle.value.specs.Signed.{half, signedOf, patternOf, InRange, TwosComplement, VInt32, VInt64}
 
-halves : (w : ℕ) → 0 < w → 256 ^ w ≡ half w + half w
+-- two halves are all patterns
+pub halves : (w : ℕ) → 0 < w → 256 ^ w ≡ half w + half w
 halves zero h = absurd (omega arith)
 halves (suc w) h = rw (pow-suc 256 w) (omega arith)
 

@@ -1,11 +1,11 @@
 -- The signed kinds: the number of a bit pattern in two's complement, over its width in bytes.
 use mathlib.Core.Path.{_≡_}
-use mathlib.Core.Bool.{cond}
+use mathlib.Core.Bool.{Bool, true, false, cond}
 use Prim.Native.Nat.{ℕ, suc, _-_, _/_, _^_, _≤_, _<_}
 use lib.Dec.{ltb}
 use lib.IntN.{ℤ, pos, negsuc, subℕ}
 use lib.Signed.{mag}
-use Rattle.value.specs.Kinds.{int32, int64}
+use Rattle.value.specs.Kinds.{Number, uint32, uint64, int32, int64}
 use Rattle.value.specs.Tree.{G, GNumber, Val, VNumber}
 
 -- half of the patterns of w bytes: those below it stand for themselves, the others for numbers below zero
@@ -32,7 +32,13 @@ pub record TwosComplement (w p : ℕ) (z : ℤ) : Type 0 where
   pub low : p < half w → z ≡ pos p
   pub high : half w ≤ p → z ≡ subℕ p (256 ^ w)
 
--- kinds 9 and 10
+-- whether the number of a kind is signed: kinds 9 and 10
+abbrev pub isSigned : Number → Bool
+isSigned uint32 = false
+isSigned uint64 = false
+isSigned int32 = true
+isSigned int64 = true
+
 abbrev pub GInt32 : G
 GInt32 = GNumber int32
 
