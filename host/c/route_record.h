@@ -260,8 +260,8 @@ route_answer route_locate_array(const uint64_t *rows, size_t rows_len, size_t n,
                                 const uint8_t *store, size_t store_len, size_t row);
 
 /* Gives in `first` the number of a row of kind 9 or 10 as a two's complement pattern of 64 bits for
- * both kinds: (int64_t)a.first of the answer a is the number. C23 and C++20 define that cast so, and
- * GCC and Clang do in every version of the languages. Changes nothing.
+ * both kinds: (int64_t)a.first of the answer a is the number. C23 and C++20 define that cast so,
+ * and GCC and Clang do in every version of the languages. Changes nothing.
  * Refused: as route_compute_size_of;
  * 20 at the row, when row is not below n or its kind is not 9 or 10. */
 ROUTE_NODISCARD
