@@ -1,17 +1,22 @@
--- Number 0 of a C answer says that the call is accepted (specs/Accepted.antt): no refusal of the table has number 0.
+-- Number 0 of a C answer says that the call is accepted (specs/Accepted.antt): no refusal of the tables has number 0.
 use mathlib.Core.Path.{_≡_, refl, sym, _∙_}
 use mathlib.Core.Logic.{_↔_}
 use mathlib.Core.Bool.{Bool, true, false}
 use mathlib.Core.List.{List}
 use Prim.Native.Nat.{ℕ, _<_}
 use native.Mathlib.Omega.{arith}
+use lib.IntN.{ℤ}
 use Rattle.refusal.specs.Outcome.{Outcome, accepted, refused, map, Location, Reason, reason}
+use Rattle.value.specs.Kinds.{Number, uint32, uint64, int32, int64, width}
+use Rattle.value.specs.Signed.{InRange}
 use Rattle.value.specs.Tree.{SizeOfV}
+use Rattle.value.proofs.Signed.{pattern-signed}
+use Rattle.signed.proofs.Rule.{signed-exactly}
 use Rattle.reading.specs.Calls.{countsOf}
 use Rattle.comparing.specs.SameRoute.{NamedReason, ofGrammar, ofFirst, ofSecond, Compares}
 use Rattle.answer_c.specs.Answer.{Values, values, answerOf, sameAnswerOf}
-use Rattle.route.specs.Refusals.{Refuses, Listed, ofWord, ofByte, ofOutput, ofRow, ofLocator, Lists, unnamed}
-use Rattle.route.specs.Accepted.{IsAccepted, isAccepted, ZeroIsAccepted, NumberZero}
+use Rattle.route.specs.Refusals.{Refuses, Listed, ofWord, ofByte, ofOutput, ofRow, ofLocator, ofSigned, Lists, unnamed}
+use Rattle.route.specs.Accepted.{IsAccepted, isAccepted, ZeroIsAccepted, NumberZero, WordIsNumber}
 use Rattle.route.proofs.Refusals.{map-refuses}
 use Rattle.route.proofs.Demand1.{demand1}
 
@@ -21,6 +26,7 @@ listed-positive (ofByte n w a b) = omega (arith, a)
 listed-positive (ofOutput b) = omega arith
 listed-positive (ofRow n w a b) = omega (arith, a)
 listed-positive (ofLocator r) = omega arith
+listed-positive (ofSigned r) = omega arith
 
 not-zero : {P : Type 0} {n : ℕ} {l : Location} → Listed (reason n l) → n ≡ 0 → P
 not-zero h q = let p = listed-positive h in absurd (omega (arith, p, q))
@@ -54,8 +60,21 @@ number-zero = record {
   unpackersSeq = λ w s index len. zero-of _ (demand1 .unpackersSeq w s index len) (demand1 .listedUnpackers _ _ _);
   sizes = λ t n s. zero-of _ (demand1 .sizes t n s) (demand1 .listedRows t n s);
   locator = λ t n s i. zero-of _ (demand1 .locator t n s i) (demand1 .listedLocator t n s i);
+  signed = λ t n s i. zero-of _ (demand1 .signed t n s i) (demand1 .listedSigned t n s i);
   reading = λ g d index capacity. zero-of _ (map-refuses countsOf (demand1 .reading g d index capacity)) (demand1 .listedReading g d index capacity);
   wholeReading = λ g d capacity. zero-of _ (map-refuses countsOf (demand1 .wholeReading g d capacity)) (demand1 .listedWhole g d capacity);
   writing = λ g t n s len index. zero-of _ (map-refuses SizeOfV (demand1 .writing g t n s len index)) (demand1 .listedWriting g t n s len index);
   routes = λ g first second o h. named-zero o (λ e q. demand1 .listedRoutes g first second e (demand1 .routes g first second e .0 (h .refuses e .0 q)));
 }
+
+-- the numbers of each kind's width are numbers of 8 bytes
+wider : (k : Number) (z : ℤ) → InRange (width k) z → InRange 8 z
+wider uint32 z h = omega arith
+wider uint64 z h = h
+wider int32 z h = omega arith
+wider int64 z h = h
+
+pub word-is-number : WordIsNumber
+word-is-number t s n i z words bytes e =
+    let h = signed-exactly t n s i z words bytes .0 e in
+    pattern-signed 8 z (omega arith) (wider (h .kind) z (h .number .range)) .1

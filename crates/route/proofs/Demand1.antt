@@ -15,6 +15,7 @@ use Rattle.value.specs.Reading.{State}
 use Rattle.grammar.proofs.Rule.{refused-exactly}
 use Rattle.rows.specs.Layout.{rowsOf}
 use Rattle.rows.proofs.Meaning.{sizeOf-injective, located-injective}
+use Rattle.signed.proofs.Meaning.{signedNumber-injective}
 use Rattle.admission.specs.Admission.{capacityOf}
 use Rattle.reading.specs.Calls.{countsOf}
 use Rattle.reading.proofs.Meaning.{parsedOf-injective}
@@ -23,9 +24,9 @@ use Rattle.route.specs.Rewriting.{rewriteOf}
 use Rattle.comparing.specs.SameRoute.{sameRouteOf}
 use Rattle.comparing.proofs.Meaning.{sameRoute-injective}
 use Rattle.comparing.proofs.Comparing.{compares-one}
-use Rattle.route.proofs.Listed.{grammar-listed, room-listed, unpackers-listed, rows-listed, locator-listed, reading-listed, whole-listed, writing-listed, rewriting-listed, routes-listed}
+use Rattle.route.proofs.Listed.{grammar-listed, room-listed, unpackers-listed, rows-listed, locator-listed, signed-listed, reading-listed, whole-listed, writing-listed, rewriting-listed, routes-listed}
 use Rattle.route.proofs.Reading.{rows-kept}
-use Rattle.route.proofs.Refusals.{map-refuses, room-refuses, present-refuses, walk-refuses, locate-refuses, parse-refuses, demarshall-refuses, marshall-refuses, rewrite-refuses, both-refuses}
+use Rattle.route.proofs.Refusals.{map-refuses, room-refuses, present-refuses, walk-refuses, locate-refuses, signed-refuses, parse-refuses, demarshall-refuses, marshall-refuses, rewrite-refuses, both-refuses}
 
 pub demand1 : Demand1
 demand1 = record {
@@ -34,6 +35,7 @@ demand1 = record {
   unpackedUint64 = unpackedU64-injective;
   size = sizeOf-injective;
   array = located-injective;
+  signedNumbers = signedNumber-injective;
   counts = parsedOf-injective;
   route = sameRoute-injective;
   grammar = refused-exactly;
@@ -44,6 +46,7 @@ demand1 = record {
   rows = walk-refuses;
   sizes = λ t n s. map-refuses SizeOfV (walk-refuses t n s);
   locator = locate-refuses;
+  signed = signed-refuses;
   reading = parse-refuses;
   wholeReading = demarshall-refuses;
   writing = marshall-refuses;
@@ -55,6 +58,7 @@ demand1 = record {
   listedUnpackers = λ len index size e q. unpackers-listed q;
   listedRows = λ t n s e q. rows-listed q;
   listedLocator = λ t n s i e q. locator-listed q;
+  listedSigned = λ t n s i e q. signed-listed q;
   listedReading = λ g d index capacity e q. reading-listed q;
   listedWhole = λ g d capacity e q. whole-listed q;
   listedWriting = λ g t n s len index e q. writing-listed q;

@@ -26,6 +26,7 @@ use Rattle.grammar.proofs.Rule.{accepted-exactly}
 use Rattle.grammar.proofs.Tree.{tree-valid}
 use Rattle.rows.specs.Walk.{walk}
 use Rattle.rows.proofs.Rule.{accepted-exactly as rows-exactly}
+use Rattle.signed.proofs.Rule.{signed-exactly}
 use Rattle.reading.specs.Meaning.{Counts}
 use Rattle.admission.specs.Admission.{capacityOf}
 use Rattle.reading.specs.Calls.{withoutState, parseValOf, demarshallOf, countsOf}
@@ -35,7 +36,7 @@ use Rattle.reading.proofs.Meaning.{parsedOf-injective}
 use Rattle.reading.proofs.Bridge.{parse-parses, parse-stands, parse-none, demarshall-accepted, demarshall-refused}
 use Rattle.sizing.specs.Writes.{marshallValOf}
 use Rattle.sizing.proofs.Writes.{accepted-writes}
-use Rattle.route.specs.Demands.{PutThere, ParseValAgrees, DemarshallAgrees, ChecksAgree, SizesAgree, ByteRule, RuleStands, WritesTheRule, NumbersAgree, Demand2}
+use Rattle.route.specs.Demands.{PutThere, ParseValAgrees, DemarshallAgrees, ChecksAgree, SizesAgree, SignedAgrees, ByteRule, RuleStands, WritesTheRule, NumbersAgree, Demand2}
 use Rattle.route.proofs.Put.{put-at}
 use Rattle.route.proofs.Refusals.{room-there}
 use Rattle.route.proofs.Reading.{rows-laid}
@@ -101,12 +102,17 @@ sizes-agree t s n r words bytes h size = (
   λ x. h ∙ ap (map SizeOfV) (rows-exactly t n s (x .0) words bytes .1 (x .1)) ∙ ap accepted (sym (x .2)),
 )
 
+signed-agrees : SignedAgrees
+signed-agrees t s n i r words bytes h z = let x = signed-exactly t n s i z words bytes in (λ e. x .0 (sym h ∙ e), λ e. h ∙ x .1 e)
+
 byte-rule : ByteRule
 unfolding bytesOf
 byte-rule = record {
   constant = refl;
   uint32 = λ n. refl;
   uint64 = λ n. refl;
+  int32 = λ z. refl;
+  int64 = λ z. refl;
   array = λ vs. refl;
   tuple = λ vs. refl;
   byteArray = bytesOf-byteArray;
@@ -201,6 +207,7 @@ demand2 = record {
   checksAgree = checks-agree;
   rowsAgree = λ t s n v. rows-exactly t n s v;
   sizesAgree = sizes-agree;
+  signedAgrees = signed-agrees;
   ruleStands = rule-stands;
   writesTheRule = writes-the-rule;
   numbersAgree = numbers-agree;

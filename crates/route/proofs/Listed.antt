@@ -1,11 +1,11 @@
--- Every refusal of a call is one of document 01's table (specs/Refusals.antt).
+-- Every refusal of a call is one of the papers' tables (specs/Refusals.antt).
 use mathlib.Core.List.{List}
 use Prim.Native.Nat.{ℕ}
 use native.Mathlib.Omega.{arith}
 use Rattle.refusal.specs.Outcome.{Reason}
 use Rattle.grammar.specs.Rule.{FirstRefusal, first1, first2, first3, first4, first5}
 use Rattle.comparing.specs.SameRoute.{NamedReason}
-use Rattle.route.specs.Refusals.{NoRoom, outputShort, NotThere, above, missing, RowRefused, broken, outside, RowsRefused, storeAbove, rowTable, atRow, LocatorRefused, ofRows, notAnArray, ValueRefused, noRow, bytesMissing, tagAbove, ReadingRefused, grammarFirst, recordAbove, indexAbove, atValue, WholeRefused, ofReading, recordEnd, WritingRefused, grammarBefore, rowsBefore, notInGrammar, sizeAbove, noRoom, RewritingRefused, roomFirst, readingThen, RouteRefused, byGrammar, byFirst, bySecond, Listed, ofWord, ofByte, ofOutput, ofRow, ofLocator, unnamed}
+use Rattle.route.specs.Refusals.{NoRoom, outputShort, NotThere, above, missing, RowRefused, broken, outside, RowsRefused, storeAbove, rowTable, atRow, LocatorRefused, SignedRefused, ofRows, notTaken, ValueRefused, noRow, bytesMissing, tagAbove, ReadingRefused, grammarFirst, recordAbove, indexAbove, atValue, WholeRefused, ofReading, recordEnd, WritingRefused, grammarBefore, rowsBefore, notInGrammar, sizeAbove, noRoom, RewritingRefused, roomFirst, readingThen, RouteRefused, byGrammar, byFirst, bySecond, Listed, ofWord, ofByte, ofOutput, ofRow, ofLocator, ofSigned, unnamed}
 
 pub grammar-listed : {g : List ℕ} {e : Reason} → FirstRefusal g e → Listed e
 grammar-listed (first1 _) = ofWord 1 _ (omega arith) (omega arith)
@@ -32,7 +32,11 @@ rows-listed (atRow _ _ q _) = row-listed q
 
 pub locator-listed : {t : List ℕ} {n : ℕ} {s : List ℕ} {i : ℕ} {e : Reason} → LocatorRefused t n s i e → Listed e
 locator-listed (ofRows q) = rows-listed q
-locator-listed (notAnArray _ _ _) = ofLocator _
+locator-listed (notTaken _ _ _) = ofLocator _
+
+pub signed-listed : {t : List ℕ} {n : ℕ} {s : List ℕ} {i : ℕ} {e : Reason} → SignedRefused t n s i e → Listed e
+signed-listed (ofRows q) = rows-listed q
+signed-listed (notTaken _ _ _) = ofSigned _
 
 value-listed : {g d : List ℕ} {index capacity : ℕ} {e : Reason} → ValueRefused g d index capacity e → Listed e
 value-listed (noRow _ _ _ _) = ofByte 8 _ (omega arith) (omega arith)

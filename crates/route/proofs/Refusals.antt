@@ -15,12 +15,13 @@ use Rattle.refusal.proofs.Outcome.{Post, holds, fails, post-bind, post-test, po
 use Rattle.refusal.proofs.Tests.{refuted, reflects-leb, reflects-ltb, reflects-eqb, reflects-and}
 use Rattle.packed.specs.Packed.{present, room}
 use Rattle.packed.proofs.Calls.{present-index, present-inside, room-fits}
-use Rattle.value.specs.Kinds.{width, Elements, elementWidth, elementsKind, Kind, kindOf, constant, number, array, tuple, elements, union, other}
+use Rattle.value.specs.Kinds.{Number, width, Elements, elementWidth, elementsKind, Kind, kindOf, constant, number, array, tuple, elements, union, other}
 use Rattle.value.specs.Tree.{G, Gs, GConstant, GNumber, GArray, GTuple, GNumberArray, GTaggedUnion, gnil, gcons, Val, VNumber, VArray, VTuple, VNumberArray, VCase, vcons, ValInGrammar, SizeOfV, rowCount}
 use Rattle.value.specs.Step.{Step, next, give, elements as elementsOf}
 use Rattle.value.specs.Parse.{Parse, pair}
 use Rattle.value.specs.Reading.{State, Stop, Reading, stop, start, begin, claim, claimed, free, takeNumber, takeNumbers, readBody, readFields, readCaseAt, readVal}
-use Rattle.value.proofs.KindLaws.{elements-kind, elementWidth-positive}
+use Rattle.value.specs.Signed.{isSigned, signedOf}
+use Rattle.value.proofs.KindLaws.{number-kind, elements-kind, elementWidth-positive}
 use Rattle.value.proofs.Laws.{count-fits, pair-parsed}
 use Rattle.value.proofs.Agreement.{Agrees, same, neither, short, agrees}
 use Rattle.value.proofs.Reading.{read-refused}
@@ -32,6 +33,7 @@ use Rattle.rows.specs.Walk.{withinStore, checkRow, walkChildren, walkTo, walk}
 use Rattle.rows.specs.Locate.{lookUp, elementsPart, locateArray}
 use Rattle.rows.proofs.Laws.{reflects-rows}
 use Rattle.rows.proofs.Rule.{wordOf, kind-word}
+use Rattle.signed.specs.Signed.{signedOfRow, signedNumberOf}
 use Rattle.admission.specs.Admission.{admitOf}
 use Rattle.reading.specs.Calls.{withoutState, parseValOf, demarshallOf}
 use Rattle.admission.proofs.Admission.{admit-grammar, admit-long, admit-index}
@@ -42,7 +44,7 @@ use Rattle.sizing.specs.Writes.{valueToWrite, marshallValOf}
 use Rattle.sizing.proofs.InGrammar.{in-grammar-exactly, in-grammar-refused}
 use Rattle.route.specs.Rewriting.{rewriteOf}
 use Rattle.comparing.specs.SameRoute.{NamedReason, ofGrammar, ofFirst, ofSecond, naming, readBoth}
-use Rattle.route.specs.Refusals.{Refuses, NoRoom, outputShort, NotThere, above, missing, RowRefused, broken, outside, RowsRefused, storeAbove, rowTable, atRow, LocatorRefused, ofRows, notAnArray, ValueRefused, noRow, bytesMissing, tagAbove, ReadingRefused, grammarFirst, recordAbove, indexAbove, atValue, WholeRefused, ofReading, recordEnd, WritingRefused, grammarBefore, rowsBefore, notInGrammar, sizeAbove, noRoom, RewritingRefused, roomFirst, readingThen, RouteRefused, byGrammar, byFirst, bySecond}
+use Rattle.route.specs.Refusals.{Refuses, NoRoom, outputShort, NotThere, above, missing, RowRefused, broken, outside, RowsRefused, storeAbove, rowTable, atRow, LookUpRefused, ofRows, notTaken, IsArray, IsSigned, LocatorRefused, SignedRefused, ValueRefused, noRow, bytesMissing, tagAbove, ReadingRefused, grammarFirst, recordAbove, indexAbove, atValue, WholeRefused, ofReading, recordEnd, WritingRefused, grammarBefore, rowsBefore, notInGrammar, sizeAbove, noRoom, RewritingRefused, roomFirst, readingThen, RouteRefused, byGrammar, byFirst, bySecond}
 
 -- ---- outcomes whose every error has Q
 
@@ -111,9 +113,12 @@ module _ (len index size : ℕ) where
 
 -- ---- rows
 
--- the kind word of a row whose class is that of arrays of numbers
+-- the kind word of a row whose class the papers name
+class-word : (w : ℕ) {c : Kind} → (c ≡ other → ⊥) → kindOf w ≡ c → w ≡ wordOf c
+class-word w n h = kind-word w (λ o. n (sym h ∙ o)) ∙ ap wordOf h
+
 elements-word : (w : ℕ) {k : Elements} → kindOf w ≡ elements k → w ≡ elementsKind k
-elements-word w {k} h = kind-word w (λ o. let z : elements k ≡ other = sym h ∙ o in let y : _≡_ {A = ℕ} 0 1 = cc in omega arith) ∙ ap wordOf h
+elements-word w h = class-word w (λ o. let z : _≡_ {A = ℕ} 0 1 = cc in omega arith) h
 
 -- an array that is not within the store
 not-within : (c : Kind) (r : Row) (len : ℕ) → (withinStore c r len ≡ true → ⊥) → (k : Elements) × (c ≡ elements k) × (len < r .word3 + elementWidth k * r .word2)
@@ -171,46 +176,90 @@ module _ (t : List ℕ) (n : ℕ) (s : List ℕ) where
       back (rowTable a b) = test-true _ _ (le-leb (length s) 1048576 a) ∙ test-false _ _ (refuted (reflects-rows t n) b)
       back (atRow a b q w) = w
 
-  -- a row that is no array of numbers has no part
-  part-refused : (c : Kind) (r : Row) (e : Reason) → ((k : Elements) → c ≡ elements k → ⊥) → elementsPart c r e ≡ refused e
-  unfolding elementsPart
-  part-refused constant r e m = refl
-  part-refused (number k) r e m = refl
-  part-refused array r e m = refl
-  part-refused tuple r e m = refl
-  part-refused (elements k) r e m = absurd (m k refl)
-  part-refused union r e m = refl
-  part-refused other r e m = refl
+-- a call on a row by its kind word: it gives a value where it takes the word, else it is refused
+data Decides {A : Type 0} (part : Kind → Row → Reason → Outcome Reason A) (Takes : ℕ → Type 0) (w : ℕ) : Type 0 where
+  takes : ((r : Row) (e : Reason) → (a : A) × (part (kindOf w) r e ≡ accepted a)) → Takes w → Decides part Takes w
+  leaves : ((r : Row) (e : Reason) → part (kindOf w) r e ≡ refused e) → (Takes w → ⊥) → Decides part Takes w
 
-  -- and only such a row
-  part-post : {Q : Reason → Type 0} (c : Kind) (r : Row) (e : Reason) → (((k : Elements) → c ≡ elements k → ⊥) → Q e) → Only Q (elementsPart c r e)
-  unfolding elementsPart
-  part-post constant r e f = fails e (f (λ k h. let z : _≡_ {A = ℕ} 0 1 = cc in omega arith))
-  part-post (number j) r e f = fails e (f (λ k h. let z : _≡_ {A = ℕ} 0 1 = cc in omega arith))
-  part-post array r e f = fails e (f (λ k h. let z : _≡_ {A = ℕ} 0 1 = cc in omega arith))
-  part-post tuple r e f = fails e (f (λ k h. let z : _≡_ {A = ℕ} 0 1 = cc in omega arith))
-  part-post (elements j) r e f = gives _
-  part-post union r e f = fails e (f (λ k h. let z : _≡_ {A = ℕ} 0 1 = cc in omega arith))
-  part-post other r e f = fails e (f (λ k h. let z : _≡_ {A = ℕ} 0 1 = cc in omega arith))
+module _ {A : Type 0} (m : ℕ) (part : Kind → Row → Reason → Outcome Reason A) (Takes : ℕ → Type 0) (decides : (w : ℕ) → Decides part Takes w) (t : List ℕ) (n : ℕ) (s : List ℕ) (i : ℕ) where
+  abbrev here : Outcome Reason A
+  here = part (kindOf (rowAt t i .kind)) (rowAt t i) (reason m (row i))
 
-  module _ (i : ℕ) where
-    pub locate-refuses : Refuses (LocatorRefused t n s i) (locateArray t n s i)
-    unfolding locateArray lookUp
-    locate-refuses =
-        refuses (bind-assoc (walk t n s) _ _)
-        (post-bind _ (before (λ e q. ofRows q) walk-refuses) (λ v h.
-        rw bind-test (post-reflects _ _ _ (reflects-ltb i n)
-        (λ l. part-post (kindOf (rowAt t i .kind)) (rowAt t i) _ (λ m _. notAnArray v h (λ k _ e. m k (ap kindOf e ∙ elements-kind k))))
-        (λ m _. notAnArray v h (λ k l _. m l)))))
-        (λ e q. back q)
-      where
-        at : (b : Bool) → (b ≡ true → i < n) → ((k : Elements) → i < n → rowAt t i .kind ≡ elementsKind k → ⊥) → bind (test b (reason 18 (row i)) (λ _. accepted (rowAt t i))) (λ r. elementsPart (kindOf (r .kind)) r (reason 18 (row i))) ≡ refused (reason 18 (row i))
-        at true l m = part-refused (kindOf (rowAt t i .kind)) (rowAt t i) (reason 18 (row i)) (λ k e. m k (l refl) (elements-word (rowAt t i .kind) e))
-        at false l m = refl
+  part-post : {Q : Reason → Type 0} → ((Takes (rowAt t i .kind) → ⊥) → Q (reason m (row i))) → Only Q here
+  part-post {Q} f = go (decides (rowAt t i .kind))
+    where
+      go : Decides part Takes (rowAt t i .kind) → Only Q here
+      go (takes g k) = let x = g (rowAt t i) (reason m (row i)) in rw (x .1) (gives (x .0))
+      go (leaves g k) = rw (g (rowAt t i) (reason m (row i))) (fails _ (f k))
 
-        back : {e : Reason} → LocatorRefused t n s i e → locateArray t n s i ≡ refused e
-        back (ofRows {e = e} q) = rw (walk-refuses e .1 q)
-        back (notAnArray v h m) = rw h (at (ltb i n) (ltb-true i n) m)
+  part-refused : (Takes (rowAt t i .kind) → ⊥) → here ≡ refused (reason m (row i))
+  part-refused n = go (decides (rowAt t i .kind))
+    where
+      go : Decides part Takes (rowAt t i .kind) → here ≡ refused (reason m (row i))
+      go (takes g k) = absurd (n k)
+      go (leaves g k) = g (rowAt t i) (reason m (row i))
+
+  look-up-refuses : Refuses (LookUpRefused m Takes t n s i) (bind (lookUp m t n s i) (λ r. part (kindOf (r .kind)) r (reason m (row i))))
+  unfolding lookUp
+  look-up-refuses =
+      refuses (bind-assoc (walk t n s) _ _)
+      (post-bind _ (before (λ e q. ofRows q) (walk-refuses t n s)) (λ v h.
+      rw bind-test (post-reflects _ _ _ (reflects-ltb i n)
+      (λ l. part-post (λ k _. notTaken v h (λ _ x. k x)))
+      (λ k _. notTaken v h (λ l _. k l)))))
+      (λ e q. back q)
+    where
+      at : (b : Bool) → (b ≡ true → i < n) → (i < n → Takes (rowAt t i .kind) → ⊥) → bind (test b (reason m (row i)) (λ _. accepted (rowAt t i))) (λ r. part (kindOf (r .kind)) r (reason m (row i))) ≡ refused (reason m (row i))
+      at true l k = part-refused (k (l refl))
+      at false l k = refl
+
+      back : {e : Reason} → LookUpRefused m Takes t n s i e → bind (lookUp m t n s i) (λ r. part (kindOf (r .kind)) r (reason m (row i))) ≡ refused e
+      back (ofRows {e = e} q) = rw (walk-refuses t n s e .1 q)
+      back (notTaken v h k) = rw h (at (ltb i n) (ltb-true i n) k)
+
+array-decides : (w : ℕ) → Decides elementsPart IsArray w
+unfolding elementsPart
+array-decides w = go (kindOf w) refl
+  where
+    no : {c : Kind} → kindOf w ≡ c → ((k : Elements) → c ≡ elements k → ⊥) → IsArray w → ⊥
+    no e f x = f (x .0) (sym e ∙ ap kindOf (x .1) ∙ elements-kind (x .0))
+
+    go : (c : Kind) → kindOf w ≡ c → Decides elementsPart IsArray w
+    go constant e = leaves (λ r f. rw e) (no e (λ k h. let z : _≡_ {A = ℕ} 0 1 = cc in omega arith))
+    go (number j) e = leaves (λ r f. rw e) (no e (λ k h. let z : _≡_ {A = ℕ} 0 1 = cc in omega arith))
+    go array e = leaves (λ r f. rw e) (no e (λ k h. let z : _≡_ {A = ℕ} 0 1 = cc in omega arith))
+    go tuple e = leaves (λ r f. rw e) (no e (λ k h. let z : _≡_ {A = ℕ} 0 1 = cc in omega arith))
+    go (elements k) e = takes (λ r f. (record { start = r .word3; size = elementWidth k * r .word2 }, rw e)) (k, elements-word w e)
+    go union e = leaves (λ r f. rw e) (no e (λ k h. let z : _≡_ {A = ℕ} 0 1 = cc in omega arith))
+    go other e = leaves (λ r f. rw e) (no e (λ k h. let z : _≡_ {A = ℕ} 0 1 = cc in omega arith))
+
+signed-decides : (w : ℕ) → Decides signedOfRow IsSigned w
+unfolding signedOfRow
+signed-decides w = go (kindOf w) refl
+  where
+    no : {c : Kind} → kindOf w ≡ c → ((k : Number) → isSigned k ≡ true → c ≡ number k → ⊥) → IsSigned w → ⊥
+    no e f x = f (x .0) (x .1) (sym e ∙ ap kindOf (x .2) ∙ number-kind (x .0))
+
+    of-number : (k : Number) (b : Bool) → isSigned k ≡ b → kindOf w ≡ number k → Decides signedOfRow IsSigned w
+    of-number k true h e = takes (λ r f. (signedOf (width k) (r .word2), rw (e, h))) (k, h, class-word w (λ o. let z : _≡_ {A = ℕ} 0 1 = cc in omega arith) e)
+    of-number k false h e = leaves (λ r f. rw (e, h)) (no e (λ j g q. let p : k ≡ j = cc in let z : false ≡ true = sym h ∙ ap isSigned p ∙ g in let y : _≡_ {A = ℕ} 0 1 = cc in omega arith))
+
+    go : (c : Kind) → kindOf w ≡ c → Decides signedOfRow IsSigned w
+    go constant e = leaves (λ r f. rw e) (no e (λ k g h. let z : _≡_ {A = ℕ} 0 1 = cc in omega arith))
+    go (number k) e = of-number k (isSigned k) refl e
+    go array e = leaves (λ r f. rw e) (no e (λ k g h. let z : _≡_ {A = ℕ} 0 1 = cc in omega arith))
+    go tuple e = leaves (λ r f. rw e) (no e (λ k g h. let z : _≡_ {A = ℕ} 0 1 = cc in omega arith))
+    go (elements j) e = leaves (λ r f. rw e) (no e (λ k g h. let z : _≡_ {A = ℕ} 0 1 = cc in omega arith))
+    go union e = leaves (λ r f. rw e) (no e (λ k g h. let z : _≡_ {A = ℕ} 0 1 = cc in omega arith))
+    go other e = leaves (λ r f. rw e) (no e (λ k g h. let z : _≡_ {A = ℕ} 0 1 = cc in omega arith))
+
+pub locate-refuses : (t : List ℕ) (n : ℕ) (s : List ℕ) (i : ℕ) → Refuses (LocatorRefused t n s i) (locateArray t n s i)
+unfolding locateArray
+locate-refuses = look-up-refuses 18 elementsPart IsArray array-decides
+
+pub signed-refuses : (t : List ℕ) (n : ℕ) (s : List ℕ) (i : ℕ) → Refuses (SignedRefused t n s i) (signedNumberOf t n s i)
+unfolding signedNumberOf
+signed-refuses = look-up-refuses 20 signedOfRow IsSigned signed-decides
 
 -- ---- reading
 

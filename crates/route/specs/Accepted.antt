@@ -1,19 +1,23 @@
--- At the C interface number 0 says that a call is accepted: stated of the outcome that each C call answers.
+-- At the C interface number 0 says that a call is accepted: stated of the outcome that each C call answers. And of a signed number the word
+-- that C gets says which it is.
 use mathlib.Core.Path.{_≡_}
 use mathlib.Core.Logic.{_↔_}
 use mathlib.Core.Bool.{Bool}
 use mathlib.Core.List.{List}
-use Prim.Native.Nat.{ℕ}
+use Prim.Native.Nat.{ℕ, _^_}
+use lib.IntN.{ℤ}
 use Rattle.refusal.specs.Outcome.{Outcome, accepted, map, Reason}
-use Rattle.packed.specs.Packed.{unpackAt, unpackSeqAt, putAt}
+use Rattle.packed.specs.Packed.{Bytes, Below, unpackAt, unpackSeqAt, putAt}
 use Rattle.value.specs.Tree.{SizeOfV}
+use Rattle.value.specs.Signed.{signedOf, patternOf}
 use Rattle.grammar.specs.Check.{checkGrammar}
 use Rattle.rows.specs.Size.{computeSizeOf}
 use Rattle.rows.specs.Locate.{locateArray}
+use Rattle.signed.specs.Signed.{signedNumberOf}
 use Rattle.reading.specs.Calls.{parseValOf, demarshallOf, countsOf}
 use Rattle.sizing.specs.Writes.{marshallValOf}
 use Rattle.comparing.specs.SameRoute.{NamedReason, Compares}
-use Rattle.answer_c.specs.Answer.{Values, answerOf, noValue, oneValue, partValues, countValues, sameAnswerOf}
+use Rattle.answer_c.specs.Answer.{Values, answerOf, noValue, oneValue, signedValue, partValues, countValues, sameAnswerOf}
 
 pub data IsAccepted {E A : Type 0} : Outcome E A → Type 0 where
   isAccepted : (a : A) → IsAccepted (accepted a)
@@ -29,8 +33,13 @@ pub record NumberZero : Type 0 where
   pub unpackersSeq : (w : ℕ) (s : List ℕ) (index len : ℕ) → ZeroIsAccepted noValue (unpackSeqAt w s index len)
   pub sizes : (t : List ℕ) (n : ℕ) (s : List ℕ) → ZeroIsAccepted oneValue (computeSizeOf t n s)
   pub locator : (t : List ℕ) (n : ℕ) (s : List ℕ) (i : ℕ) → ZeroIsAccepted partValues (locateArray t n s i)
+  pub signed : (t : List ℕ) (n : ℕ) (s : List ℕ) (i : ℕ) → ZeroIsAccepted signedValue (signedNumberOf t n s i)
   pub reading : (g d : List ℕ) (index capacity : ℕ) → ZeroIsAccepted countValues (map countsOf (parseValOf g d index capacity))
   pub wholeReading : (g d : List ℕ) (capacity : ℕ) → ZeroIsAccepted countValues (map countsOf (demarshallOf g d capacity))
   pub writing : (g t : List ℕ) (n : ℕ) (s : List ℕ) (len index : ℕ) → ZeroIsAccepted oneValue (map SizeOfV (marshallValOf g t n s len index))
   -- yes and no
   pub routes : (g first second : List ℕ) (o : Outcome NamedReason Bool) → Compares g first second o → (sameAnswerOf o .number ≡ 0) ↔ IsAccepted o
+
+-- the 64-bit pattern that C gets of a signed number is a pattern of that number, so the cast to int64_t gives the number
+abbrev pub WordIsNumber : Type 0
+WordIsNumber = (t s : List ℕ) (n i : ℕ) (z : ℤ) → Below (2 ^ 64) t → Bytes s → signedNumberOf t n s i ≡ accepted z → signedOf 8 (patternOf 8 z) ≡ z

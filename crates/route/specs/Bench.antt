@@ -1,14 +1,18 @@
--- Document 01's bench examples A to F, all their cases, as one list: a call with its inputs, and what the paper expects of it.
+-- Document 01's bench examples A to F, all their cases, and document 02's, as one list: a call with its inputs, and what the papers expect
+-- of it.
 use mathlib.Core.Path.{_≡_}
 use mathlib.Core.List.{List, [], _∷_, map}
 use Prim.Native.Nat.{ℕ, zero, suc}
-use Rattle.refusal.specs.Outcome.{Outcome, accepted, refused, Location, word, byte, Reason, reason}
+use lib.IntN.{ℤ, negsuc}
+use Rattle.refusal.specs.Outcome.{Outcome, accepted, refused, bind, Location, word, byte, Reason, reason}
 use Rattle.value.specs.Tree.{Val, VConstant, VArray, VTuple, VUint32, VByteArray, VUint32Array, vnil, vcons}
+use Rattle.value.specs.Signed.{VInt32}
 use Rattle.value.specs.Step.{Step}
 use Rattle.value.specs.Reading.{State}
 use Rattle.grammar.specs.Check.{checkGrammar}
 use Rattle.rows.specs.Layout.{rowsOf}
 use Rattle.reading.specs.Calls.{demarshallOf}
+use Rattle.signed.specs.Signed.{signedNumberOf}
 
 -- the calls of the examples
 pub data Call : Type 0 where
@@ -16,15 +20,18 @@ pub data Call : Type 0 where
   check : (grammar : List ℕ) → Call
   -- the whole reading; the capacity is 4,096 where the paper names none
   read : (grammar bytes : List ℕ) (capacity : ℕ) → Call
+  -- the same with capacity 4,096, then the signed number of a row of what it handed out, with the record as store
+  readSigned : (grammar bytes : List ℕ) (i : ℕ) → Call
 
 -- what they answer, in the paper's values
 pub data Result : Type 0 where
   passes : Result
   -- the row count, the words of the rows, four to a row, and the value that they stand for
   handsOut : (n : ℕ) (words : List ℕ) (value : Val) → Result
+  isNumber : (z : ℤ) → Result
   refuses : (number : ℕ) (place : Location) → Result
 
--- by the definitions that the contracts of `check_grammar` and `demarshall` cite
+-- by the definitions that the contracts of `check_grammar`, `demarshall` and `signed_number` cite
 abbrev pub checked : Outcome Reason (Unit {0}) → Result
 checked (accepted u) = passes
 checked (refused (reason number place)) = refuses number place
@@ -33,11 +40,16 @@ abbrev pub handed : Outcome Reason (Step State Val) → Result
 handed (accepted t) = handsOut (t .state .begun) (rowsOf (t .value) 0) (t .value)
 handed (refused (reason number place)) = refuses number place
 
+abbrev pub asked : Outcome Reason ℤ → Result
+asked (accepted z) = isNumber z
+asked (refused (reason number place)) = refuses number place
+
 abbrev pub resultOf : Call → Result
 resultOf (check grammar) = checked (checkGrammar grammar)
 resultOf (read grammar bytes capacity) = handed (demarshallOf grammar bytes capacity)
+resultOf (readSigned grammar bytes i) = asked (bind (demarshallOf grammar bytes 4096) (λ t. signedNumberOf (rowsOf (t .value) 0) (t .state .begun) bytes i))
 
--- the paper's letters
+-- document 01's letters, and document 02's requests
 pub data Letter : Type 0 where
   A : Letter
   B : Letter
@@ -45,6 +57,7 @@ pub data Letter : Type 0 where
   D : Letter
   E : Letter
   F : Letter
+  Req01 : Letter
 
 pub record Example : Type 0 where
   pub letter : Letter
@@ -92,6 +105,10 @@ constantNodes (suc n) = 0 ∷ 0 ∷ 0 ∷ constantNodes n
 abbrev pub grammarF : ℕ → List ℕ
 grammarF nodes = nodes ∷ constantNodes nodes
 
+-- one signed 32-bit number
+abbrev pub grammarInt32 : List ℕ
+grammarInt32 = 1 ∷ 9 ∷ 0 ∷ 0 ∷ 0 ∷ []
+
 -- The paper gives the places of A's refusal, B's, C's at capacity 3 and F's 5. The others follow from its table: a value's 8, 9 and 10 are
 -- placed where the value starts, at byte 0 for the root, and 1 at word 0
 abbrev pub bench : List Example
@@ -113,6 +130,11 @@ bench =
     ∷ record { letter = F; call = check (1 ∷ 4 ∷ 0 ∷ 1 ∷ 1 ∷ 0 ∷ []); expected = refuses 5 (word 5) }
     ∷ record { letter = F; call = check (grammarF 256); expected = passes }
     ∷ record { letter = F; call = check (grammarF 257); expected = refuses 1 (word 0) }
+    -- −1, and the least 32-bit number
+    ∷ record { letter = Req01; call = read grammarInt32 (0xff ∷ 0xff ∷ 0xff ∷ 0xff ∷ []) 4096; expected = handsOut 1 (9 ∷ 1 ∷ 4294967295 ∷ 0 ∷ []) (VInt32 (negsuc 0)) }
+    ∷ record { letter = Req01; call = readSigned grammarInt32 (0xff ∷ 0xff ∷ 0xff ∷ 0xff ∷ []) 0; expected = isNumber (negsuc 0) }
+    ∷ record { letter = Req01; call = read grammarInt32 (0 ∷ 0 ∷ 0 ∷ 0x80 ∷ []) 4096; expected = handsOut 1 (9 ∷ 1 ∷ 2147483648 ∷ 0 ∷ []) (VInt32 (negsuc 2147483647)) }
+    ∷ record { letter = Req01; call = readSigned grammarInt32 (0 ∷ 0 ∷ 0 ∷ 0x80 ∷ []) 0; expected = isNumber (negsuc 2147483647) }
     ∷ []
 
 -- every call of the list answers as expected

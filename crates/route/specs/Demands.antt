@@ -6,11 +6,13 @@ use mathlib.Core.Option.{none, some}
 use mathlib.Core.List.{List, [], _++_}
 use Prim.Native.Nat.{ℕ, _+_, _*_, _^_, _≤_, _<_}
 use lib.ListN.{length, getD, take, drop}
+use lib.IntN.{ℤ}
 use Rattle.refusal.specs.Outcome.{Outcome, accepted, refused, map, Fills, Location, byte, Reason, reason}
 use Rattle.refusal.specs.Meaning.{outcomeOf}
 use Rattle.packed.specs.Packed.{Bytes, Below, unpackLittleEndian, unpackLittleEndianSeq, packLittleEndian, packLittleEndianSeq, unpackAt, unpackSeqAt, room, put, putAt}
 use Rattle.packed.specs.Meaning.{unpackedU32, unpackedU64}
 use Rattle.value.specs.Tree.{G, Val, Vals, VConstant, VArray, VTuple, VCase, vnil, vcons, VUint32, VUint64, VByteArray, VUint32Array, VUint64Array, seqV, ValInGrammar, ValidGrammar, CountsBelow, TypedVal, ValueOf, SizeOfV, rowCount}
+use Rattle.value.specs.Signed.{patternOf, VInt32, VInt64}
 use Rattle.value.specs.Bytes.{bytesOf, bytesOfAll}
 use Rattle.value.specs.Step.{Step}
 use Rattle.value.specs.Reading.{State}
@@ -26,6 +28,10 @@ use Rattle.rows.specs.Size.{computeSizeOf}
 use Rattle.rows.specs.Locate.{locateArray}
 use Rattle.rows.specs.Meaning.{sizeOf, located}
 use Rattle.rows.specs.declared.SizeOf.{SizeOf}
+use Rattle.signed.specs.Signed.{signedNumberOf}
+use Rattle.signed.specs.Rule.{NumberOf}
+use Rattle.signed.specs.Meaning.{signedNumber}
+use Rattle.signed.specs.declared.SignedNumber.{SignedNumber}
 use Rattle.reading.specs.Meaning.{Counts, parsedOf}
 use Rattle.admission.specs.Admission.{capacityOf}
 use Rattle.reading.specs.Calls.{parseValOf, demarshallOf, countsOf, Parses}
@@ -34,7 +40,7 @@ use Rattle.sizing.specs.Writes.{marshallValOf, Writes}
 use Rattle.writing.specs.Marshall.{Marshalls}
 use Rattle.route.specs.Rewriting.{rewriteOf, Rewrites}
 use Rattle.comparing.specs.SameRoute.{NamedReason, sameRouteOf, readBoth, Compares}
-use Rattle.route.specs.Refusals.{Refuses, NoRoom, NotThere, RowsRefused, LocatorRefused, ReadingRefused, WholeRefused, WritingRefused, RewritingRefused, RouteRefused, Listed, Lists, unnamed}
+use Rattle.route.specs.Refusals.{Refuses, NoRoom, NotThere, RowsRefused, LocatorRefused, SignedRefused, ReadingRefused, WholeRefused, WritingRefused, RewritingRefused, RouteRefused, Listed, Lists, unnamed}
 use Rattle.comparing.specs.declared.SameRoute.{SameRoute}
 
 -- ==== Demand 1. "Every call is defined on every input: no grammar, record, row table or index is assumed sound, each call comes to an end"
@@ -55,6 +61,7 @@ pub record Demand1 : Type 0 where
   pub unpackedUint64 : AtMostOneAnswer unpackedU64
   pub size : AtMostOneAnswer sizeOf
   pub array : AtMostOneAnswer located
+  pub signedNumbers : AtMostOneAnswer signedNumber
   pub counts : AtMostOneAnswer parsedOf
   pub route : AtMostOneAnswer sameRouteOf
   -- `check_grammar`
@@ -72,6 +79,8 @@ pub record Demand1 : Type 0 where
   pub sizes : (t : List ℕ) (n : ℕ) (s : List ℕ) → Refuses (RowsRefused t n s) (computeSizeOf t n s)
   -- `locate_array`; `array_bytes` gives the empty part where it refuses
   pub locator : (t : List ℕ) (n : ℕ) (s : List ℕ) (i : ℕ) → Refuses (LocatorRefused t n s i) (locateArray t n s i)
+  -- `signed_number`
+  pub signed : (t : List ℕ) (n : ℕ) (s : List ℕ) (i : ℕ) → Refuses (SignedRefused t n s i) (signedNumberOf t n s i)
   -- `parse_val`, `check_val`
   pub reading : (g d : List ℕ) (index capacity : ℕ) → Refuses (ReadingRefused g d index capacity) (parseValOf g d index capacity)
   -- `demarshall`, `check_whole`
@@ -83,13 +92,14 @@ pub record Demand1 : Type 0 where
   -- `same_route`, whose contract allows one answer
   pub routes : (g first second : List ℕ) → Refuses (RouteRefused g first second) (readBoth g first second)
   pub oneRoute : (g first second : List ℕ) (r q : SameRoute) → Compares g first second (sameRouteOf r) → Compares g first second (sameRouteOf q) → r ≡ q
-  -- every refusal given is one of document 01's table, with its kind of place; which call gives which is said above. So none has number 0,
+  -- every refusal given is one of the papers' tables, with its kind of place; which call gives which is said above. So none has number 0,
   -- which at the C interface is an accepted call
   pub listedGrammar : (g : List ℕ) → Lists (FirstRefusal g)
   pub listedRoom : (len index size : ℕ) → Lists (NoRoom len index size)
   pub listedUnpackers : (len index size : ℕ) → Lists (NotThere len index size)
   pub listedRows : (t : List ℕ) (n : ℕ) (s : List ℕ) → Lists (RowsRefused t n s)
   pub listedLocator : (t : List ℕ) (n : ℕ) (s : List ℕ) (i : ℕ) → Lists (LocatorRefused t n s i)
+  pub listedSigned : (t : List ℕ) (n : ℕ) (s : List ℕ) (i : ℕ) → Lists (SignedRefused t n s i)
   pub listedReading : (g d : List ℕ) (index capacity : ℕ) → Lists (ReadingRefused g d index capacity)
   pub listedWhole : (g d : List ℕ) (capacity : ℕ) → Lists (WholeRefused g d capacity)
   pub listedWriting : (g t : List ℕ) (n : ℕ) (s : List ℕ) (len index : ℕ) → Lists (WritingRefused g t n s len index)
@@ -168,11 +178,20 @@ SizesAgree =
     (t s : List ℕ) (n : ℕ) (r : SizeOf) → Below (2 ^ 64) t → Bytes s → sizeOf r ≡ computeSizeOf t n s
     → (size : ℕ) → (sizeOf r ≡ accepted size) ↔ ((v : Val) × TableOf t n s v × (size ≡ SizeOfV v))
 
--- document 01's byte rule, kind by kind: numbers, counts and tags as PI's sum packs them, elements and fields one behind the other
+-- "A new call gives the signed number of a row" (document 02): `signed_number` answers z exactly where z is the number of row i. One that
+-- refuses all fails from right to left, a made-up number from left to right: the rows of the bench's examples (`bench`) have such numbers
+abbrev pub SignedAgrees : Type 0
+SignedAgrees =
+    (t s : List ℕ) (n i : ℕ) (r : SignedNumber) → Below (2 ^ 64) t → Bytes s → signedNumber r ≡ signedNumberOf t n s i
+    → (z : ℤ) → (signedNumber r ≡ accepted z) ↔ NumberOf t n s i z
+
+-- document 01's byte rule, kind by kind, with document 02's kinds 9 and 10, whose bytes are those of the number's pattern: numbers, counts and tags as PI's sum packs them, elements and fields one behind the other
 pub record ByteRule : Type 0 where
   pub constant : bytesOf VConstant ≡ []
   pub uint32 : (n : ℕ) → bytesOf (VUint32 n) ≡ packLittleEndian 4 n
   pub uint64 : (n : ℕ) → bytesOf (VUint64 n) ≡ packLittleEndian 8 n
+  pub int32 : (z : ℤ) → bytesOf (VInt32 z) ≡ packLittleEndian 4 (patternOf 4 z)
+  pub int64 : (z : ℤ) → bytesOf (VInt64 z) ≡ packLittleEndian 8 (patternOf 8 z)
   pub array : (vs : Vals) → bytesOf (VArray vs) ≡ packLittleEndian 8 (length (seqV vs)) ++ bytesOfAll vs
   pub tuple : (vs : Vals) → bytesOf (VTuple vs) ≡ bytesOfAll vs
   pub byteArray : (b : List ℕ) → Below 256 b → bytesOf (VByteArray b) ≡ packLittleEndian 8 (length b) ++ b
@@ -230,6 +249,7 @@ pub record Demand2 : Type 0 where
   pub checksAgree : ChecksAgree
   pub rowsAgree : RowsAgree
   pub sizesAgree : SizesAgree
+  pub signedAgrees : SignedAgrees
   pub ruleStands : RuleStands
   pub writesTheRule : WritesTheRule
   pub numbersAgree : (w : ℕ) → NumbersAgree w

@@ -1,14 +1,16 @@
--- When each definition refuses, by document 01's table: one relation for each definition. A constructor says of a number its place and what
+-- When each definition refuses, by the papers' tables: one relation for each definition. A constructor says of a number its place and what
 -- it is given for, where nothing before it is given, or takes over the refusals of a step. 1 to 5 are the grammar's `FirstRefusal`; 19 is
 -- given by the program only.
 use mathlib.Core.Path.{_≡_}
 use mathlib.Core.Logic.{_↔_}
+use mathlib.Core.Bool.{true}
 use mathlib.Core.Option.{none, some}
 use mathlib.Core.List.{List, []}
 use Prim.Native.Nat.{ℕ, _+_, _*_, _≤_, _<_}
 use lib.ListN.{length, drop}
 use Rattle.refusal.specs.Outcome.{Outcome, accepted, refused, word, byte, row, Reason, reason}
-use Rattle.value.specs.Kinds.{Elements, elementWidth, elementsKind}
+use Rattle.value.specs.Kinds.{Number, numberKind, Elements, elementWidth, elementsKind}
+use Rattle.value.specs.Signed.{isSigned}
 use Rattle.value.specs.Tree.{Val, ValInGrammar, SizeOfV, rowCount}
 use Rattle.value.specs.Step.{Step}
 use Rattle.value.specs.Reading.{State}
@@ -54,10 +56,26 @@ pub data RowsRefused (t : List ℕ) (n : ℕ) (s : List ℕ) : Reason → Type 0
   -- which row it is, is the walk's definition
   atRow : {e : Reason} → length s ≤ 1048576 → RowsThere t n → RowRefused t n s e → walk t n s ≡ refused e → RowsRefused t n s e
 
--- the locator, of row i: 18 where it is not below n or its kind is not 5, 6 or 7
-pub data LocatorRefused (t : List ℕ) (n : ℕ) (s : List ℕ) (i : ℕ) : Reason → Type 0 where
-  ofRows : {e : Reason} → RowsRefused t n s e → LocatorRefused t n s i e
-  notAnArray : (v : Val) → walk t n s ≡ accepted v → ((k : Elements) → i < n → rowAt t i .kind ≡ elementsKind k → ⊥) → LocatorRefused t n s i (reason 18 (row i))
+-- a call on row i: refusal m where it is not below n or its kind word is not one that the call takes
+pub data LookUpRefused (m : ℕ) (Takes : ℕ → Type 0) (t : List ℕ) (n : ℕ) (s : List ℕ) (i : ℕ) : Reason → Type 0 where
+  ofRows : {e : Reason} → RowsRefused t n s e → LookUpRefused m Takes t n s i e
+  notTaken : (v : Val) → walk t n s ≡ accepted v → (i < n → Takes (rowAt t i .kind) → ⊥) → LookUpRefused m Takes t n s i (reason m (row i))
+
+-- kinds 5, 6 and 7
+abbrev pub IsArray : ℕ → Type 0
+IsArray w = (k : Elements) × (w ≡ elementsKind k)
+
+-- kinds 9 and 10
+abbrev pub IsSigned : ℕ → Type 0
+IsSigned w = (k : Number) × (isSigned k ≡ true) × (w ≡ numberKind k)
+
+-- the locator
+abbrev pub LocatorRefused : List ℕ → ℕ → List ℕ → ℕ → Reason → Type 0
+LocatorRefused t n s i = LookUpRefused 18 IsArray t n s i
+
+-- the signed number
+abbrev pub SignedRefused : List ℕ → ℕ → List ℕ → ℕ → Reason → Type 0
+SignedRefused t n s i = LookUpRefused 20 IsSigned t n s i
 
 -- ---- reading
 
@@ -104,15 +122,17 @@ pub data RouteRefused (g first second : List ℕ) : NamedReason → Type 0 where
 
 -- ---- the table
 
--- numbers 1 to 18 of document 01's table, each with its kind of place; the relations above fix the place itself, and 19 is the program's
+-- numbers 1 to 18 of document 01's table and 20 of document 02, each with its kind of place; the relations above fix the place itself, and
+-- 19 is the program's
 pub data Listed : Reason → Type 0 where
   ofWord : (n w : ℕ) → 0 < n → n ≤ 5 → Listed (reason n (word w))
   ofByte : (n b : ℕ) → 5 < n → n ≤ 11 → Listed (reason n (byte b))
   ofOutput : (b : ℕ) → Listed (reason 17 (byte b))
   ofRow : (n r : ℕ) → 11 < n → n ≤ 16 → Listed (reason n (row r))
   ofLocator : (r : ℕ) → Listed (reason 18 (row r))
+  ofSigned : (r : ℕ) → Listed (reason 20 (row r))
 
--- every refusal with Q is one of the table
+-- every refusal with Q is one of these
 abbrev pub Lists : (Reason → Type 0) → Type 0
 Lists Q = (e : Reason) → Q e → Listed e
 

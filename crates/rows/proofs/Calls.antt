@@ -36,7 +36,7 @@ ends-accepted : {A : Type 0} (o : Outcome Reason A) → accepted tt ≡ ends o �
 ends-accepted (accepted a) h = (a, refl)
 ends-accepted (refused e) h = let z : _≡_ {A = ℕ} 0 1 = cc in absurd (omega arith)
 
-ends-bind : {A B : Type 0} (o : Outcome Reason A) (k : A → Outcome Reason B) (b : B) → accepted b ≡ bind o k → accepted tt ≡ ends o
+pub ends-bind : {A B : Type 0} (o : Outcome Reason A) (k : A → Outcome Reason B) (b : B) → accepted b ≡ bind o k → accepted tt ≡ ends o
 ends-bind (accepted a) k b h = refl
 ends-bind (refused e) k b h = let z : _≡_ {A = ℕ} 0 1 = cc in absurd (omega arith)
 

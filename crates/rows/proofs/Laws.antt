@@ -3,7 +3,7 @@ use mathlib.Core.Path.{_≡_, refl, ap, sym, _∙_}
 use mathlib.Core.Bool.{Bool, true, false, _&&_, _||_}
 use mathlib.Core.Logic.{_↔_}
 use mathlib.Core.List.{List}
-use Prim.Native.Nat.{ℕ, zero, suc, _+_, _-_, _*_, _≤_, _<_}
+use Prim.Native.Nat.{ℕ, zero, suc, _+_, _-_, _*_, _^_, _≤_, _<_}
 use native.Mathlib.Numerals.{add-one}
 use native.Mathlib.Omega.{arith}
 use lib.ListN.{length}
@@ -11,8 +11,8 @@ use lib.Dec.{leb, ltb, eqb}
 use borrow.Author.Tests.{lt-ltb, le-ltb, ltb-true, ltb-false, le-leb, lt-leb, eq-eqb, ne-eqb}
 use Rattle.refusal.specs.Outcome.{Outcome, accepted, refused, bind, test, map, Reason, reason, byte, row}
 use Rattle.refusal.proofs.Outcome.{Post, holds, fails, post-reflects, post-accepted, map-map, test-true, test-false}
-use Rattle.refusal.proofs.Tests.{and-true, NoneBelow, reflects-leb, reflects-ltb, reflects-and}
-use Rattle.value.specs.Kinds.{Kind, lastKind, kindOf, other}
+use Rattle.refusal.proofs.Tests.{and-true, NoneBelow, reflects-leb, reflects-ltb, reflects-eqb, reflects-and}
+use Rattle.value.specs.Kinds.{Number, width, Kind, lastKind, kindOf, number, other}
 use Rattle.value.proofs.KindLaws.{none-of}
 use Rattle.value.specs.Tree.{Val, Vals, vnil, vcons}
 use Rattle.tables.specs.Row.{rowWidth, Row, rowAt}
@@ -43,6 +43,10 @@ bind-same k l (fails e q) h = refl
 
 pub row-eq : (r : Row) {k n a b : ℕ} → r .kind ≡ k → r .span ≡ n → r .word2 ≡ a → r .word3 ≡ b → r ≡ record { kind = k; span = n; word2 = a; word3 = b }
 row-eq r p q x y = rw (← p, ← q, ← x, ← y)
+
+-- the number of a row that keeps its rule
+pub number-below : (k : Number) (r : Row) → keepsRule (number k) r ≡ true → r .word2 < 256 ^ width k
+number-below k r h = reflects-and (reflects-eqb (r .span) 1) (reflects-and (reflects-ltb (r .word2) (256 ^ width k)) (reflects-eqb (r .word3) 0)) .1 h .1 .0
 
 -- what a row that passes says: a span that ends within its parent's, its kind's rule, its array in the store
 pub record Passed (r : Row) (len i end count : ℕ) : Type 0 where

@@ -113,7 +113,7 @@ word-in [] b w h m = absurd (omega arith)
 word-in (k ∷ l) b zero h m = eqb-true (wordOf k) b (and-true (eqb (wordOf k) b) (numbered l (suc b)) h .0) ∙ omega arith
 word-in (k ∷ l) b (suc w) h m = word-in l (suc b) w (and-true (eqb (wordOf k) b) (numbered l (suc b)) h .1) (omega arith) ∙ omega arith
 
--- a kind word that document 01 names is its class's
+-- a kind word that the papers name is its class's
 pub kind-word : (w : ℕ) → (kindOf w ≡ other → ⊥) → w ≡ wordOf (kindOf w)
 unfolding kindOf kinds
 kind-word w h = go (decLt w (length kinds))

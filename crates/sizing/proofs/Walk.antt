@@ -17,37 +17,40 @@ use Rattle.refusal.specs.declared.Answer.the-variants.{Accepted, Refused}
 use Rattle.refusal.proofs.Outcome.{test-true}
 use Rattle.refusal.proofs.Tests.{NoneBelow, none-below, reflects-eqb, reflects-ltb, reflects-and}
 use Rattle.refusal.proofs.Meaning.{done, stopped}
-use Rattle.value.specs.Kinds.{numberKind, elementsKind, Number, uint32, uint64, int32, int64, Elements, bytes, uint32s, uint64s, kinds, lastKind, kindOf}
+use Rattle.value.specs.Kinds.{numberKind, elementsKind, Number, uint32, uint64, int32, int64, Elements, bytes, uint32s, uint64s, Kind, constant, number, array, tuple, elements, union, other, kinds, lastKind, kindOf}
 use Rattle.value.proofs.KindLaws.{isParent}
 use Rattle.value.specs.Tree.{G, Gs, Val, Vals, VConstant, VNumber, VArray, VTuple, VNumberArray, VCase, vnil, vcons, seqG, seqV, caseAt, rowCount, rowCounts}
 use Rattle.tables.specs.Grammar.{nodeCount, kindWord, firstWord, countWord, childWord}
 use Rattle.grammar.specs.Rule.{Passes}
 use Rattle.grammar.specs.Tree.{nodeTree, childTrees, treeOf}
+use Rattle.grammar.specs.Check.{isNamed}
+use Rattle.grammar.proofs.Laws.{reflects-kind}
 use Rattle.grammar.proofs.Rule.{node-inside, child-inside}
 use Rattle.grammar.proofs.Tree.{tree-node, trees-length, trees-at}
 use Rattle.tables.specs.Row.{rowWidth, Row, rowAt}
 use Rattle.rows.specs.Layout.{ownRow}
 use Rattle.rows.specs.Rule.{StandFor, StandForAll}
-use Rattle.rows.proofs.Rule.{own-row, row-span}
+use Rattle.rows.proofs.Rule.{wordOf, kind-word, own-row, row-span}
 use Rattle.sizing.specs.InGrammar.{kindNumber, elementGrammar, partGrammars, at15, checkInGrammar, checkAllInGrammar, checkEachInGrammar}
 use Rattle.sizing.specs.Checks.{Standing, StandingAll, Checks, ChecksAll}
 
 -- ---- the tree of a node by its words
 
+class-kind : (c : Kind) (gs : Gs) → (c ≡ other → ⊥) → kindNumber (nodeTree c gs) ≡ wordOf c
+unfolding nodeTree
+class-kind constant gs h = refl
+class-kind (number k) gs h = refl
+class-kind array gs h = refl
+class-kind tuple gs h = refl
+class-kind (elements k) gs h = refl
+class-kind union gs h = refl
+class-kind other gs h = absurd (h refl)
+
 node-kind : (w : ℕ) (gs : Gs) → w ≤ lastKind → kindNumber (nodeTree (kindOf w) gs) ≡ w
-unfolding nodeTree kindOf kinds
-node-kind zero gs h = refl
-node-kind (suc zero) gs h = refl
-node-kind (suc (suc zero)) gs h = refl
-node-kind (suc (suc (suc zero))) gs h = refl
-node-kind (suc (suc (suc (suc zero)))) gs h = refl
-node-kind (suc (suc (suc (suc (suc zero))))) gs h = refl
-node-kind (suc (suc (suc (suc (suc (suc zero)))))) gs h = refl
-node-kind (suc (suc (suc (suc (suc (suc (suc zero))))))) gs h = refl
-node-kind (suc (suc (suc (suc (suc (suc (suc (suc zero)))))))) gs h = refl
-node-kind (suc (suc (suc (suc (suc (suc (suc (suc (suc zero))))))))) gs h = refl
-node-kind (suc (suc (suc (suc (suc (suc (suc (suc (suc (suc zero)))))))))) gs h = refl
-node-kind (suc (suc (suc (suc (suc (suc (suc (suc (suc (suc (suc w))))))))))) gs h = absurd (omega arith)
+node-kind w gs h = class-kind (kindOf w) gs named ∙ sym (kind-word w named)
+  where
+    named : kindOf w ≡ other → ⊥
+    named e = let t : isNamed other ≡ true = sym (ap isNamed e) ∙ reflects-kind w .0 h in let z : _≡_ {A = ℕ} 0 1 = cc in omega arith
 
 -- a kind word whose children are fields or cases
 abbrev pub Parted : ℕ → Type 0

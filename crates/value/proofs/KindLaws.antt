@@ -6,7 +6,7 @@ use native.Mathlib.Omega.{arith}
 use lib.ListN.{length, List·getD-eq-default}
 use lib.Dec.{eqb, lit<}
 use Rattle.refusal.proofs.Tests.{NoneBelow, none-below}
-use Rattle.value.specs.Kinds.{Number, uint32, uint64, int32, int64, numberKind, Elements, bytes, uint32s, uint64s, elementWidth, elementsKind, kinds, lastKind, kindOf, constant, number, array, tuple, elements, union, other}
+use Rattle.value.specs.Kinds.{Number, uint32, uint64, int32, int64, width, numberKind, Elements, bytes, uint32s, uint64s, elementWidth, elementsKind, kinds, lastKind, kindOf, constant, number, array, tuple, elements, union, other}
 
 pub number-kind : (k : Number) → kindOf (numberKind k) ≡ number k
 unfolding kindOf kinds
@@ -24,6 +24,12 @@ elements-kind uint64s = refl
 pub other-kinds : (kindOf 0 ≡ constant) × (kindOf 3 ≡ array) × (kindOf 4 ≡ tuple) × (kindOf 8 ≡ union)
 unfolding kindOf kinds
 other-kinds = (refl, refl, refl, refl)
+
+pub width-positive : (k : Number) → 0 < width k
+width-positive uint32 = lit< tt
+width-positive uint64 = lit< tt
+width-positive int32 = lit< tt
+width-positive int64 = lit< tt
 
 pub elementWidth-positive : (k : Elements) → 0 < elementWidth k
 elementWidth-positive bytes = lit< tt

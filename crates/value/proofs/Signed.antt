@@ -8,7 +8,7 @@ use native.Mathlib.Omega.{arith}
 use lib.IntN.{ℤ, pos, negsuc, subℕ}
 use borrow.Author.Tests.{lt-ltb, le-ltb}
 use Rattle.packed.specs.Packed.{packLittleEndian}
-use Rattle.value.specs.Kinds.{width, int32, int64}
+use Rattle.value.specs.Tree.{VUint32}
 use Rattle.value.specs.Bytes.{bytesOf}
 use Rattle.value.specs.Signed.{half, signedOf, patternOf, InRange, TwosComplement, VInt32, VInt64}
 
@@ -34,7 +34,16 @@ twos-complement w p h l = go (decLe (half w) p)
     go (yes a) = rw (signed-high w p a l) (record { range = omega (arith, halves w h); pattern = omega arith; low = λ b. absurd (omega arith); high = λ b. rw (lt-ltb p (256 ^ w) l) })
     go (no a) = rw (signed-low w p (omega arith)) (record { range = omega arith; pattern = refl; low = λ b. refl; high = λ b. absurd (omega arith) })
 
--- and every number in range has such a pattern
+-- and it is the only such number
+pub twos-complement-only : (w p : ℕ) (z : ℤ) → TwosComplement w p z → z ≡ signedOf w p
+unfolding signedOf
+twos-complement-only w p z h = go (decLe (half w) p)
+  where
+    go : Dec (half w ≤ p) → z ≡ signedOf w p
+    go (yes a) = h .high a ∙ rw (le-ltb p (half w) a)
+    go (no a) = h .low (omega arith) ∙ sym (signed-low w p (omega arith))
+
+-- every number in range has such a pattern
 pub pattern-signed : (w : ℕ) (z : ℤ) → 0 < w → InRange w z → (patternOf w z < 256 ^ w) × (signedOf w (patternOf w z) ≡ z)
 unfolding patternOf
 pattern-signed w (pos n) h r = (omega (arith, halves w h), signed-low w n r)
@@ -56,3 +65,8 @@ ends-int64 = (refl, refl, refl, refl)
 pub bytes-of-minus-3 : (bytesOf (VInt32 (negsuc 2)) ≡ 253 ∷ 255 ∷ 255 ∷ 255 ∷ []) × (bytesOf (VInt64 (negsuc 2)) ≡ 253 ∷ 255 ∷ 255 ∷ 255 ∷ 255 ∷ 255 ∷ 255 ∷ 255 ∷ [])
 unfolding bytesOf patternOf packLittleEndian
 bytes-of-minus-3 = (refl, refl)
+
+-- numbers of kinds 1 and 9 may have the same bytes, and are two values
+pub kinds-apart : (bytesOf (VUint32 5) ≡ bytesOf (VInt32 (pos 5))) × (VUint32 5 ≡ VInt32 (pos 5) → ⊥)
+unfolding bytesOf patternOf
+kinds-apart = (refl, λ e. let z : _≡_ {A = ℕ} 0 1 = cc in omega arith)

@@ -7,12 +7,11 @@ use lib.IntN.{ℤ}
 use mir.Syntax.{w64}
 use mir.ValLaws.{toZ-ofZ}
 use Rattle.refusal.specs.Outcome.{Outcome, accepted, Reason, reason, row}
-use Rattle.refusal.proofs.Tests.{reflects-eqb, reflects-ltb, reflects-and}
 use Rattle.value.specs.Kinds.{Kind, kinds, kindOf, number, int32}
 use Rattle.value.specs.Signed.{signedOf}
 use Rattle.tables.specs.Row.{Row, rowAt}
 use Rattle.rows.specs.Walk.{keepsRule}
-use Rattle.rows.proofs.Laws.{by-kind, by-other}
+use Rattle.rows.proofs.Laws.{number-below, by-kind, by-other}
 use Rattle.signed.specs.Signed.{signedOfRow}
 use Rattle.signed.proofs.Laws.{wider-fits, wider}
 use borrow.Author.Needs.{needs}
@@ -35,7 +34,7 @@ unfolding kindOf kinds
 pattern-fits c e =
     let r = this c in
     let h : keepsRule (number int32) r ≡ true = by-kind (λ (k : Kind). keepsRule k r) {k = 9} (sym (c .kind-at .ensures) ∙ e) refl ∙ c .before .before .before .pre in
-    omega (arith, c .before .word2-at .ensures, reflects-and (reflects-eqb (r .span) 1) (reflects-and (reflects-ltb (r .word2) (256 ^ 4)) (reflects-eqb (r .word3) 0)) .1 h .1 .0)
+    omega (arith, c .before .word2-at .ensures, number-below int32 r h)
 
 -- the number of the pattern as read
 as-read : (c : tie.After-kind-at) (w : ℕ) → _≡_ {A = Outcome Reason ℤ} (accepted (signedOf w (c .before .word2-at .result))) (accepted (signedOf w (this c .word2)))

@@ -7,7 +7,6 @@ use native.Mathlib.Nat.{add-zero}
 use native.Mathlib.Omega.{arith}
 use lib.ListN.{length}
 use borrow.Author.Tests.{leb-true}
-use Rattle.refusal.proofs.Tests.{reflects-eqb, reflects-ltb, reflects-and}
 use Rattle.packed.specs.Packed.{put}
 use Rattle.packed.proofs.Put.{put-nothing}
 use Rattle.value.specs.Kinds.{Number, uint32, int32, width, Elements, bytes, uint32s, uint64s, elementWidth, Kind, kinds, kindOf, number, elements}
@@ -15,7 +14,7 @@ use Rattle.tables.specs.Row.{Row, rowAt}
 use Rattle.rows.specs.Walk.{keepsRule, withinStore}
 use Rattle.rows.specs.Size.{ownBytes, ownSize}
 use Rattle.value.proofs.KindLaws.{none-of}
-use Rattle.rows.proofs.Laws.{row-eq}
+use Rattle.rows.proofs.Laws.{row-eq, number-below}
 use borrow.Author.Needs.{needs}
 use Rattle.writing.proofs.marshall_row.Statement.{statement}
 use Rattle.writing.proofs.marshall_row.Tie as tie
@@ -54,7 +53,7 @@ number-fits : (c : tie.After-word3-at) (k : Number) → kindOf (this c .kind) �
 number-fits c k e =
     let r = this c in
     let h : keepsRule (number k) r ≡ true = sym (ap (λ (x : Kind). keepsRule x r) e) ∙ ap (λ (x : Row). keepsRule (kindOf (x .kind)) x) (read c) ∙ c .before .before .before .before .before .before .pre .0 .rule in
-    reflects-and (reflects-eqb (r .span) 1) (reflects-and (reflects-ltb (r .word2) (256 ^ width k)) (reflects-eqb (r .word3) 0)) .1 h .1 .0
+    number-below k r h
 
 elements-fit : (c : tie.After-word3-at) (k : Elements) → kindOf (this c .kind) ≡ elements k → (this c .word3 + elementWidth k * this c .word2 ≤ length (c .before .before .before .before .before .before .args .store .now)) × (c .before .before .before .before .before .before .args .index + (8 + elementWidth k * this c .word2) ≤ length (c .before .before .before .before .before .before .args .out .now))
 elements-fit c k e =
