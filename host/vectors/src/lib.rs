@@ -30,7 +30,7 @@ pub struct File {
 }
 
 /// All files.
-pub const FILES: [File; 7] = [
+pub const FILES: [File; 8] = [
     File {
         name: "packed.jsonl",
         vectors: || of_cases(cases::packed(), vec![]),
@@ -46,6 +46,10 @@ pub const FILES: [File; 7] = [
     File {
         name: "rows.jsonl",
         vectors: || of_cases(cases::rows(), cases::borders::rows()),
+    },
+    File {
+        name: "signed.jsonl",
+        vectors: || of_cases(cases::signed(), cases::borders::signed()),
     },
     File {
         name: "writing.jsonl",

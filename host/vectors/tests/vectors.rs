@@ -116,13 +116,13 @@ fn each_call_gives_each_of_its_answers() {
 /// Refusals with their borders: the number, the call, what the line shows that just passes its test,
 /// and what the one that just does not.
 #[rustfmt::skip]
-const BORDERS: [(u64, &str, &str, &str); 60] = [
+const BORDERS: [(u64, &str, &str, &str); 78] = [
     (1, "check_grammar", "example F, N 256", "example F, N 257"),
     (1, "check_grammar", "example B, constant", "N 0"),
     (2, "check_grammar", "M 1,024", "M 1,025"),
     (2, "check_grammar", "1,794 words", "1,793 words, one missing"),
     (2, "check_grammar", "1,794 words", "1,795 words, one too many"),
-    (3, "check_grammar", "example D, union without cases", "kind 9"),
+    (3, "check_grammar", "int64", "kind 11"),
     (4, "check_grammar", "example C, array of constants", "array with count 0"),
     (4, "check_grammar", "example C, array of constants", "array with count 2"),
     (4, "check_grammar", "array with the last child word", "array with its child at M"),
@@ -130,6 +130,8 @@ const BORDERS: [(u64, &str, &str, &str); 60] = [
     (4, "check_grammar", "count 0 and first at M", "tuple with count 0 and first above M"),
     (4, "check_grammar", "union with first+count at M", "union with first+count above M"),
     (4, "check_grammar", "a tuple of 1,024 fields", "first+count 1,025"),
+    (4, "check_grammar", "int32", "int32 with first 1"),
+    (4, "check_grammar", "int64", "int64 with count 1"),
     (5, "check_grammar", "child that is the next node", "child that is its node"),
     (5, "check_grammar", "child that is the next node", "child number N"),
     (5, "check_grammar", "node 255 as the last child word", "child number 256 of N 256"),
@@ -139,6 +141,7 @@ const BORDERS: [(u64, &str, &str, &str); 60] = [
     (6, "check_val", "the end of 1,048,576 bytes", "the end of 1,048,577 bytes"),
     (6, "compute_size_of", "a store of 1,048,576 bytes", "a store of 1,048,577 bytes"),
     (6, "locate_array", "a store of 1,048,576 bytes", "a store of 1,048,577 bytes"),
+    (6, "signed_number", "a store of 1,048,576 bytes", "a store of 1,048,577 bytes"),
     (6, "marshall", "a store of 1,048,576 bytes", "a store of 1,048,577 bytes"),
     (6, "same_route", "records of 1,048,576 bytes", "6 of both records"),
     (7, "unpack_u32", "index at the length", "index above the length, 7 before 9"),
@@ -150,11 +153,14 @@ const BORDERS: [(u64, &str, &str, &str); 60] = [
     (8, "demarshall", "4 words for 1 row", "3 words for 1 row"),
     (8, "demarshall", "count at the rows left", "count above the rows left"),
     (8, "demarshall", "as many rows as needed", "no row left at the last field"),
+    (8, "demarshall", "tuple of numbers of four kinds", "no row for an int64 behind three numbers"),
     (8, "demarshall", "4,096 rows", "more rows than 4,096 lent are none"),
     (8, "check_whole", "4,096 rows", "4,097 rows"),
     (8, "check_val", "4,096 rows", "4,097 rows"),
     (9, "demarshall", "uint32", "uint32, 3 bytes"),
     (9, "demarshall", "uint64", "uint64, 7 bytes"),
+    (9, "demarshall", "example I, int32 -1", "example I, int32, 3 bytes"),
+    (9, "demarshall", "example I, int64 -1", "example I, int64, 7 bytes"),
     (9, "demarshall", "byte array", "an element of a byte array is missing"),
     (9, "demarshall", "uint32 array of two", "a byte of the last uint32 is missing"),
     (9, "demarshall", "uint64 array", "a byte of the last uint64 is missing"),
@@ -163,20 +169,32 @@ const BORDERS: [(u64, &str, &str, &str); 60] = [
     (9, "unpack_u32_seq", "two numbers up to the end", "a byte of the second is missing"),
     (10, "demarshall", "tag below the case count", "tag at the case count"),
     (11, "demarshall", "uint32", "uint32, a byte left over"),
+    (11, "demarshall", "int32", "int32, a byte left over"),
+    (11, "demarshall", "int64", "int64, a byte left over"),
     (11, "demarshall", "example B, constant", "example B, one byte"),
     (12, "compute_size_of", "n 4,096", "n 4,097"),
     (12, "compute_size_of", "constant", "n 0"),
     (12, "compute_size_of", "constant", "a word missing for n"),
+    (12, "signed_number", "row 4,095 of 4,096", "n 4,097"),
+    (13, "compute_size_of", "int64 pattern 2^64-1", "kind 11"),
     (13, "compute_size_of", "example H, number 4,294,967,295", "example H, number 4,294,967,296"),
+    (13, "compute_size_of", "int32 pattern 4,294,967,295", "example I, int32 pattern 4,294,967,296"),
+    (13, "signed_number", "example I, -1 of an int32", "example I, 2^32 is no pattern of an int32"),
     (14, "compute_size_of", "byte array up to the store's end", "byte array a byte beyond the store"),
     (14, "compute_size_of", "uint32 array up to the store's end", "uint32 array a byte beyond the store"),
     (14, "compute_size_of", "uint64 array up to the store's end", "uint64 array a byte beyond the store"),
+    (14, "signed_number", "the int32 -3 in a tuple", "14 of another row"),
     (15, "marshall", "case 1, a uint32", "tag at the case count"),
+    (15, "marshall", "int32", "a uint32 where an int32 is wanted"),
+    (15, "marshall", "int64", "a uint64 where an int64 is wanted"),
     (16, "marshall", "size 1,048,576", "size 1,048,577"),
     (17, "marshall", "example G, 14 bytes", "example G, 13 bytes"),
     (17, "pack_u32", "the last 4 bytes", "3 bytes of room"),
     (18, "locate_array", "example A, the byte array", "row number n"),
     (18, "locate_array", "example A, the byte array", "example A, the uint32"),
+    (20, "signed_number", "the int32 -3 in a tuple", "row number n"),
+    (20, "signed_number", "the int32 -3 in a tuple", "the byte array in a tuple"),
+    (20, "signed_number", "row 4,095 of 4,096", "row 4,096 of 4,096"),
 ];
 
 /// The line that passes a border and is refused by what is behind it: no byte is left at the length.
@@ -201,7 +219,7 @@ fn both_sides_of_each_border() {
         assert_eq!(number_of(&is_refused), number, "{is_refused}");
     }
     let numbers: BTreeSet<u64> = BORDERS.iter().map(|border| border.0).collect();
-    assert!(numbers.into_iter().eq(1..=18));
+    assert!(numbers.into_iter().eq((1..=18).chain([20])));
 }
 
 /// The borders of refusal 19, which the show program alone gives.

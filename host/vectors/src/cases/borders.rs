@@ -1,9 +1,12 @@
 //! Borders by loops: what holds of each kind, of each count or at each index near a limit is shown
 //! of each of them.
 
+use std::collections::BTreeSet;
+
 use compare::{leaf, show_input, Case, Value};
 
-use super::{counted, table, Cases, List, MAX_BYTES};
+use super::signed::signed_number;
+use super::{counted, numbers, table, Cases, List, MAX_BYTES};
 
 const CONSTANT: [u64; 4] = [0, 1, 0, 0];
 
@@ -28,7 +31,7 @@ pub fn grammar() -> Cases {
             }
         }
     }
-    for kind in [0, 1, 2, 5, 6, 7] {
+    for kind in [0, 1, 2, 5, 6, 7, 9, 10] {
         for (first, count) in [(1, 0), (0, 1)] {
             let name = format!("kind {kind}, first {first}, count {count}, M 3");
             check(name, &[[kind, first, count], constant], &[1; 3]);
@@ -38,7 +41,7 @@ pub fn grammar() -> Cases {
         let name = format!("a union, first {first}, count {count}, M 1,024");
         check(name, &[[8, first, count], constant], &[1; 1_024]);
     }
-    for kind in [9, 10, 256, 65_536, u32::MAX] {
+    for kind in [11, 12, 256, 65_536, u32::MAX] {
         for node in [1, 2] {
             let mut nodes = [constant; 3];
             nodes[node][0] = kind;
@@ -69,7 +72,7 @@ fn size_in_case(list: &mut List, row: [u64; 4]) {
 /// Sizes and the array locator.
 pub fn rows() -> Cases {
     let mut list = List::default();
-    for kind in 0..=8 {
+    for kind in 0..=10 {
         for span in [0, 2, 3] {
             size_in_case(&mut list, [kind, span, 0, 0]);
         }
@@ -133,6 +136,37 @@ fn words_and_rows(list: &mut List) {
     }
 }
 
+/// Patterns of so many bytes whose numbers are near the ends, near zero and where numbers of fewer
+/// bits end, above and below zero; and numbers that are above all patterns of 4 bytes.
+fn patterns(width: u32) -> BTreeSet<u64> {
+    let greatest = u64::MAX >> (64 - 8 * width);
+    let powers = [0, 7, 8, 15, 16, 31, 32, 63].map(|bits| 1u64 << bits);
+    let near = powers.map(|power| [power - 1, power, power + 1]).concat();
+    let negated = near.iter().map(|number| number.wrapping_neg() & greatest);
+    let negated: Vec<u64> = negated.collect();
+    near.into_iter().chain(negated).chain([u64::MAX]).collect()
+}
+
+/// The signed numbers of patterns, and of each row of a value of all kinds.
+pub fn signed() -> Cases {
+    let mut list = List::default();
+    for (kind, what, width) in [(9, "int32", 4), (10, "int64", 8)] {
+        for pattern in patterns(width) {
+            let name = format!("{what}, pattern {pattern}");
+            list.add(&name, signed_number(&[kind, 1, pattern, 0], 1, 0, 0));
+        }
+    }
+    let rows = numbers::<u64>(
+        "4 15 11 0, 0 1 0 0, 1 1 1 0, 2 1 2 0, 3 2 1 0, 0 1 0 0, 4 2 1 0, 0 1 0 0, 5 1 0 0, \
+        6 1 0 0, 7 1 0 0, 8 2 0 0, 0 1 0 0, 9 1 4294967287 0, 10 1 18446744073709551606 0",
+    );
+    for row in 0..=16 {
+        let name = format!("row {row} of 15, of all kinds");
+        list.add(&name, signed_number(&rows, 15, 0, row));
+    }
+    list.0
+}
+
 /// A value of these rows.
 fn value(grammar: Vec<u32>, rows: &[[u64; 4]], store: &[u8]) -> Value {
     Value {
@@ -149,8 +183,8 @@ pub fn writing() -> Cases {
     let mut write = |name: String, value: Value, length: usize, index: usize| {
         list.add(&name, value.marshall_val_case(vec![0xee; length], index));
     };
-    for node in 0..=8 {
-        for kind in 0..=8 {
+    for node in 0..=10 {
+        for kind in 0..=10 {
             let count = u32::from(matches!(node, 3 | 8));
             let first = if matches!(node, 3 | 4 | 8) { 2 } else { 0 };
             let nodes = [[4, 0, 2], [node, first, count], [0, 0, 0]];

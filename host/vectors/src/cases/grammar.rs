@@ -4,7 +4,7 @@ use compare::Case;
 
 use super::magnitudes;
 use super::{doubling, numbers, table, Cases, List};
-use super::{A, ARR, B, BYT, C, D, E, KIND_9, MIX, PAIR, TUP0, U32, U64, UNI};
+use super::{A, ARR, B, BYT, C, D, E, I32, I64, KIND_11, MIX, PAIR, TUP0, U32, U64, UNI};
 
 /// Adds the check of a table.
 fn check(list: &mut List, name: &str, words: &[u32]) {
@@ -21,7 +21,7 @@ fn check_all(list: &mut List, listed: &[(&str, &str)]) {
 
 const CONSTANT: [u32; 3] = [0, 0, 0];
 
-const ACCEPTED: [(&str, &str); 18] = [
+const ACCEPTED: [(&str, &str); 21] = [
     ("example A, tuple", A),
     ("example B, constant", B),
     ("example C, array of constants", C),
@@ -46,6 +46,12 @@ const ACCEPTED: [(&str, &str); 18] = [
         "3, 4 1 1, 3 3 1, 2 0 0, 5, 0 1 4294967295 2 3",
     ),
     ("a node that the root does not reach", "2, 0 0 0, 8 0 0, 0"),
+    ("int32", I32),
+    ("int64", I64),
+    (
+        "tuple of both signed kinds",
+        "3, 4 0 2, 9 0 0, 10 0 0, 2, 1 2",
+    ),
 ];
 
 const REFUSED_COUNTS: [(&str, &str); 13] = [
@@ -64,14 +70,14 @@ const REFUSED_COUNTS: [(&str, &str); 13] = [
     ("M larger than the child words", "2, 4 0 1, 0 0 0, 2, 1"),
 ];
 
-const REFUSED_NODES: [(&str, &str); 26] = [
-    ("kind 9", KIND_9),
-    ("kind 10", "1, 10 0 0, 0"),
+const REFUSED_NODES: [(&str, &str); 30] = [
+    ("kind 11", KIND_11),
+    ("kind 12", "1, 12 0 0, 0"),
     ("kind 256", "1, 256 0 0, 0"),
     ("kind 2^32-1", "1, 4294967295 0 0, 0"),
     (
-        "kind 9 at a node that the root does not reach",
-        "2, 0 0 0, 9 0 0, 0",
+        "kind 11 at a node that the root does not reach",
+        "2, 0 0 0, 11 0 0, 0",
     ),
     ("array with count 0", "2, 3 0 0, 0 0 0, 1, 1"),
     ("array with count 2", "2, 3 0 2, 0 0 0, 2, 1 1"),
@@ -97,6 +103,10 @@ const REFUSED_NODES: [(&str, &str); 26] = [
     ("first at fault in node 1", "3, 4 0 2, 3 2 1, 0 0 0, 2, 1 2"),
     ("count at fault in node 1", "3, 4 0 2, 7 0 1, 0 0 0, 2, 1 2"),
     ("first 2^32-1 with count 0", "1, 8 4294967295 0, 0"),
+    ("int32 with count 1", "1, 9 0 1, 1, 1"),
+    ("int32 with first 1", "1, 9 1 0, 1, 5"),
+    ("int64 with count 1", "2, 10 0 1, 0 0 0, 1, 1"),
+    ("int64 with first 1", "1, 10 1 0, 1, 5"),
 ];
 
 const CHILDREN: [(&str, &str); 11] = [
@@ -130,23 +140,23 @@ const CHILDREN: [(&str, &str); 11] = [
 
 const ORDER: [(&str, &str); 20] = [
     ("1 before 2", "257, 0 0 0"),
-    ("1 before 3", "0, 9 0 0, 0"),
-    ("1 before 2 and 3", "257, 9 0 0"),
+    ("1 before 3", "0, 11 0 0, 0"),
+    ("1 before 2 and 3", "257, 11 0 0"),
     ("1 before 4", "0, 3 0 0, 0"),
     ("1 before 5", "0, 4 0 1, 1, 0"),
-    ("2 before 3", "1, 9 0 0, 5"),
+    ("2 before 3", "1, 11 0 0, 5"),
     ("2 before 4", "1, 3 0 0, 0, 0"),
     ("2 before 5", "1, 4 0 1, 1"),
-    ("3 before 4 at one node", "1, 9 7 7, 0"),
-    ("3 before 5 at one node", "1, 9 0 1, 1, 0"),
+    ("3 before 4 at one node", "1, 11 7 7, 0"),
+    ("3 before 5 at one node", "1, 11 0 1, 1, 0"),
     ("4 before 5 at one node", "2, 4 0 3, 0 0 0, 2, 0 0"),
     ("4 of a kind's rule before 5", "1, 3 0 2, 2, 0 0"),
-    ("3 of node 0 before 3 of node 1", "2, 9 0 0, 10 0 0, 0"),
-    ("3 of node 0 before 4 of node 1", "2, 9 0 0, 1 1 0, 1, 0"),
-    ("3 of node 0 before 5 of node 1", "2, 9 0 0, 4 0 1, 1, 0"),
-    ("4 of node 0 before 3 of node 1", "2, 3 0 0, 9 0 0, 0"),
+    ("3 of node 0 before 3 of node 1", "2, 11 0 0, 12 0 0, 0"),
+    ("3 of node 0 before 4 of node 1", "2, 11 0 0, 1 1 0, 1, 0"),
+    ("3 of node 0 before 5 of node 1", "2, 11 0 0, 4 0 1, 1, 0"),
+    ("4 of node 0 before 3 of node 1", "2, 3 0 0, 11 0 0, 0"),
     ("4 of node 0 before 5 of node 1", "2, 3 0 0, 4 0 1, 1, 0"),
-    ("5 of node 0 before 3 of node 1", "2, 4 0 1, 9 0 0, 1, 0"),
+    ("5 of node 0 before 3 of node 1", "2, 4 0 1, 11 0 0, 1, 0"),
     ("5 of node 0 before 4 of node 1", "2, 4 0 1, 1 1 0, 1, 0"),
     ("5 of node 0 before 5 of node 1", "2, 4 0 1, 4 0 1, 1, 0"),
 ];
@@ -192,8 +202,8 @@ fn limits(list: &mut List) {
 /// Faults at the end of the largest tables.
 fn last_words(list: &mut List) {
     let mut nodes = [CONSTANT; 256];
-    nodes[255][0] = 9;
-    check(list, "kind 9 at node 255", &table(&nodes, &[]));
+    nodes[255][0] = 11;
+    check(list, "kind 11 at node 255", &table(&nodes, &[]));
     let mut nodes = [CONSTANT; 256];
     nodes[254] = [3, 1_023, 1];
     let mut children = [0; 1_024];

@@ -4,8 +4,9 @@
 use compare::{Case, Value};
 
 use super::packed::{pack_u32, pack_u64};
+use super::signed::signed_number;
 use super::{counted, numbers, table, Cases, List, ROW_WORDS};
-use super::{A64, ARR, B, BYT, C, E, U32, U64, UNI};
+use super::{A64, ARR, B, BYT, C, E, I32, I64, U32, U64, UNI};
 
 /// What is added to a number so that its lowest 8, 16 or 32 bits stay, or its sign changes.
 const STEPS: [(&str, u64); 5] = [
@@ -30,11 +31,11 @@ fn check(list: &mut List, name: &str, nodes: &[[u32; 3]], children: &[u32]) {
 fn grammar_words(list: &mut List) {
     for (step, add) in &STEPS[..3] {
         let add = *add as u32;
-        for kind in [1, 5, 8] {
+        for kind in [1, 5, 8, 10] {
             let name = format!("kind {step} + {kind}");
             check(list, &name, &[[kind + add, 0, 0]], &[]);
         }
-        for kind in [0, 1, 2, 5, 6, 7] {
+        for kind in [0, 1, 2, 5, 6, 7, 9, 10] {
             let name = format!("kind {kind} with first {step}");
             check(list, &name, &[[kind, add, 0]], &[0; 512]);
             let name = format!("kind {kind} with count {step}");
@@ -96,8 +97,8 @@ fn grammar_places(list: &mut List) {
         check(list, &name("child 256"), &nodes, &children);
         nodes[200] = [kind, 700, 1];
         check(list, &name("first 700 of M 700"), &nodes, &children);
-        nodes[200] = [9, 0, 0];
-        let what = format!("kind 9 at node 200 behind a node of kind {kind}");
+        nodes[200] = [11, 0, 0];
+        let what = format!("kind 11 at node 200 behind a node of kind {kind}");
         nodes[0] = [kind, 0, 1];
         check(list, &what, &nodes, &children);
     }
@@ -203,7 +204,7 @@ fn behind_bytes(kind: u32, bytes: usize, value: &[u8]) -> (Vec<u32>, Vec<u8>) {
 fn far_values(list: &mut List) {
     let one = counted(1, &[]);
     let zero = counted(0, &[7, 0, 0, 0]);
-    let values: [(u32, Vec<u8>, usize); 9] = [
+    let values: [(u32, Vec<u8>, usize); 11] = [
         (0, vec![], 3),
         (1, vec![7, 0, 0, 0], 3),
         (2, vec![7; 8], 3),
@@ -213,6 +214,8 @@ fn far_values(list: &mut List) {
         (6, [&one[..], &[7; 4]].concat(), 3),
         (7, [&one[..], &[7; 8]].concat(), 3),
         (8, zero, 4),
+        (9, vec![7, 0, 0, 0], 3),
+        (10, vec![7; 8], 3),
     ];
     for at in [200, MANY] {
         for (kind, value, rows) in &values {
@@ -372,7 +375,7 @@ fn locate(rows: &[u64], n: usize, store: usize, row: usize) -> Case {
 }
 
 /// A row of a kind that has one child, or none, with this span, word 2 and word 3.
-fn sound_row(kind: u64) -> Vec<u64> {
+pub(super) fn sound_row(kind: u64) -> Vec<u64> {
     match kind {
         3 | 4 => vec![kind, 2, 1, 0, 0, 1, 0, 0],
         8 => vec![8, 2, 0, 0, 0, 1, 0, 0],
@@ -383,7 +386,7 @@ fn sound_row(kind: u64) -> Vec<u64> {
 /// Each word of a row of each kind, with the low bits of a sound one.
 fn row_words(list: &mut List) {
     for (step, add) in STEPS {
-        for kind in 0..=8 {
+        for kind in 0..=10 {
             let row = sound_row(kind);
             let n = row.len() / ROW_WORDS;
             for (word, what) in [(0, "kind"), (1, "span"), (2, "word 2"), (3, "word 3")] {
@@ -432,7 +435,7 @@ fn after_rows(row: &[u64]) -> (Vec<u64>, usize) {
 
 /// Rows from 256 on: sound, refused with 13 and with 14, and located.
 fn far_rows(list: &mut List) {
-    for kind in 0..=8 {
+    for kind in 0..=10 {
         let sound = sound_row(kind);
         let (rows, n) = after_rows(&sound);
         let name = |what: &str| format!("kind {kind} at row 301{what}");
@@ -452,8 +455,8 @@ fn far_rows(list: &mut List) {
         list.add(&name(", a child missing of 301"), size(&tuple, 303, 0));
     }
     let chain: Vec<u64> = (2..=300).rev().flat_map(|span| [8, span, 300, 0]).collect();
-    let chain = [&chain[..], &[9, 1, 0, 0]].concat();
-    list.add("kind 9 below 299 cases", size(&chain, 300, 0));
+    let chain = [&chain[..], &[11, 1, 0, 0]].concat();
+    list.add("kind 11 below 299 cases", size(&chain, 300, 0));
     for kind in [3, 4] {
         let rows = [&[kind, 301, 300, 0], &[1, 1, 7, 0].repeat(300)[..]].concat();
         let name = format!("300 values of kind {kind}");
@@ -481,7 +484,7 @@ fn children(list: &mut List) {
             list.add(&name, size(&rows, n as usize, 0));
         }
     }
-    for kind in 1..=8 {
+    for kind in 1..=10 {
         let mut child = sound_row(kind);
         child[1] = 0;
         let n = 1 + child.len() / ROW_WORDS;
@@ -491,7 +494,7 @@ fn children(list: &mut List) {
     }
     for kind in [3, 4] {
         for (step, add) in STEPS {
-            let rows = [[kind, 3, add + 1, 0], [0, 1, 0, 0], [9, 1, 0, 0]].concat();
+            let rows = [[kind, 3, add + 1, 0], [0, 1, 0, 0], [11, 1, 0, 0]].concat();
             let name = format!("kind {kind}, count {step} + 1, the second child is bad");
             list.add(&name, size(&rows, 3, 0));
         }
@@ -499,7 +502,7 @@ fn children(list: &mut List) {
         let name = format!("kind {kind}, a row left over behind 300 children");
         list.add(&name, size(&rows, 302, 0));
     }
-    for (number, child) in [(13, [9, 1, 0, 0]), (14, [5, 1, 9, 0])] {
+    for (number, child) in [(13, [11, 1, 0, 0]), (14, [5, 1, 9, 0])] {
         let rows = [[4, 2, 1, 0], child, [0, 1, 0, 0]].concat();
         let name = format!("the root's span below n before a child's {number}");
         list.add(&name, size(&rows, 3, 0));
@@ -536,6 +539,30 @@ pub fn rows() -> Cases {
     far_rows(&mut list);
     children(&mut list);
     far_arrays(&mut list);
+    list.0
+}
+
+/// The cases of the signed number: row counts, row numbers and rows of great number.
+pub fn signed() -> Cases {
+    let mut list = List::default();
+    let int32 = [9, 1, 7, 0];
+    for (step, add) in STEPS {
+        let add = add as usize;
+        let name = format!("n {step} + 1");
+        list.add(&name, signed_number(&int32, add + 1, 0, 0));
+        let name = format!("row number {step}");
+        list.add(&name, signed_number(&int32, 1, 0, add));
+    }
+    for kind in [9, 10] {
+        let (rows, n) = after_rows(&[kind, 1, (1 << 32) - 7, 0]);
+        for row in [301, 45, 300, n] {
+            let name = format!("kind {kind} at row 301, row number {row}");
+            list.add(&name, signed_number(&rows, n, 0, row));
+        }
+        let (rows, n) = after_rows(&[kind, 2, 7, 0]);
+        let name = format!("kind {kind} at row 301, span");
+        list.add(&name, signed_number(&rows, n, 0, 45));
+    }
     list.0
 }
 
@@ -590,7 +617,7 @@ fn written(list: &mut List) {
         let name = format!("kind {kind} of node 200");
         list.add(&name, marshall(table(&nodes, &[200]), &rows, vec![], 12));
     }
-    for kind in 0..=8 {
+    for kind in 0..=10 {
         let (rows, _) = after_rows(&sound_row(kind));
         let nodes = [[4, 0, 301], CONSTANT, [if kind == 1 { 2 } else { 1 }, 0, 0]];
         let children = [vec![1; 300], vec![2]].concat();
@@ -622,7 +649,7 @@ fn written(list: &mut List) {
 /// A value of each kind, and behind it a uint32 where a constant is wanted.
 fn behind_kinds(list: &mut List) {
     for before in [0, 300] {
-        for kind in 0..=8 {
+        for kind in 0..=10 {
             let row = sound_row(kind.into());
             let count = u32::from(matches!(kind, 3 | 4 | 8));
             let fields = before as u32 + 2;
@@ -825,12 +852,16 @@ pub fn same_route() -> Cases {
         for (order, first, second) in [("", &one, &other), (", exchanged", &other, &one)] {
             let name = format!("uint64 1 and {step} + 1{order}");
             add(name, numbers(U64), first.clone(), second.clone());
+            let name = format!("int64 1 and {step} + 1{order}");
+            add(name, numbers(I64), first.clone(), second.clone());
             let name = format!("arrays of uint64 1 and {step} + 1{order}");
             add(name, numbers(A64), array(first), array(second));
             if more < 1 << 32 {
                 let (first, second) = (&first[..4], &second[..4]);
                 let name = format!("uint32 1 and {step} + 1{order}");
                 add(name, numbers(U32), first.to_vec(), second.to_vec());
+                let name = format!("int32 1 and {step} + 1{order}");
+                add(name, numbers(I32), first.to_vec(), second.to_vec());
                 let name = format!("arrays of uint32 1 and {step} + 1{order}");
                 add(name, numbers(E), array(first), array(second));
             }
@@ -911,6 +942,8 @@ pub fn show() -> Vec<(String, Vec<u8>)> {
             (1, vec![7, 0, 0, 0]),
             (5, counted(1, &[7])),
             (8, counted(0, &[7; 4])),
+            (9, vec![0xf9, 0xff, 0xff, 0xff]),
+            (10, vec![0xf9; 8]),
         ] {
             let (grammar, record) = behind_bytes(kind, at, &value);
             let name = |what: &str| format!("kind {kind} at byte {at}{what}");
@@ -925,9 +958,9 @@ pub fn show() -> Vec<(String, Vec<u8>)> {
         }
     }
     let mut nodes = [CONSTANT; 256];
-    nodes[200] = [9, 0, 0];
+    nodes[200] = [11, 0, 0];
     add(
-        "kind 9 at node 200".to_string(),
+        "kind 11 at node 200".to_string(),
         compare::show_input(&table(&nodes, &[]), &[]),
     );
     for word in [1 << 8, 1 << 16, 1 << 31] {

@@ -9,6 +9,7 @@ mod reading;
 mod rows;
 mod same_route;
 mod show;
+mod signed;
 mod writing;
 
 pub use grammar::grammar;
@@ -17,6 +18,7 @@ pub use reading::reading;
 pub use rows::rows;
 pub use same_route::same_route;
 pub use show::show;
+pub use signed::signed;
 pub use writing::writing;
 
 use std::str::FromStr;
@@ -53,6 +55,10 @@ const E: &str = "1, 6 0 0, 0";
 const U32: &str = "1, 1 0 0, 0";
 /// A uint64.
 const U64: &str = "1, 2 0 0, 0";
+/// An int32.
+const I32: &str = "1, 9 0 0, 0";
+/// An int64.
+const I64: &str = "1, 10 0 0, 0";
 /// A byte array.
 const BYT: &str = "1, 5 0 0, 0";
 /// An array of uint64.
@@ -63,6 +69,8 @@ const ARR: &str = "2, 3 0 1, 1 0 0, 1, 1";
 const TUP0: &str = "1, 4 0 0, 0";
 /// A tuple of two uint32, one node used twice.
 const PAIR: &str = "2, 4 0 2, 1 0 0, 2, 1 1";
+/// A tuple of a uint32, a uint64, an int32 and an int64.
+const NUMBERS: &str = "5, 4 0 4, 1 0 0, 2 0 0, 9 0 0, 10 0 0, 4, 1 2 3 4";
 /// A union of a constant and a uint32.
 const UNI: &str = "3, 8 0 2, 0 0 0, 1 0 0, 2, 1 2";
 /// A tuple of an array of unions of a constant and a uint64, and a byte array; and a record.
@@ -71,13 +79,13 @@ const MIX_RECORD: &str = "0200000000000000 0000000000000000 0100000000000000 020
     0100000000000000 5A";
 const MIX_ROWS: &str = "4 7 2 0, 3 5 2 0, 8 2 0 0, 0 1 0 0, 8 2 1 0, 2 1 258 0, 5 1 1 40";
 /// A grammar that is refused with 3 at word 1.
-const KIND_9: &str = "1, 9 0 0, 0";
+const KIND_11: &str = "1, 11 0 0, 0";
 /// For each refusal of a grammar its number and a grammar that is refused with it; that of 5 is
 /// example F.
 const REFUSED_GRAMMARS: [(u32, &str); 5] = [
     (1, ""),
     (2, "1"),
-    (3, KIND_9),
+    (3, KIND_11),
     (4, "1, 1 1 0, 1, 0"),
     (5, "1, 4 0 1, 1, 0"),
 ];

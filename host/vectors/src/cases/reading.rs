@@ -4,8 +4,8 @@ use compare::Case;
 
 use super::magnitudes;
 use super::{counted, doubling, hex, numbers, table, Cases, List, MAX_BYTES, ROW_WORDS};
-use super::{A, A64, ARR, A_RECORD, B, BYT, C, D, E, KIND_9, MIX, MIX_RECORD, PAIR, TUP0};
-use super::{REFUSED_GRAMMARS, U32, U64, UNI};
+use super::{A, A64, ARR, A_RECORD, B, BYT, C, D, E, I32, I64, KIND_11, MIX, MIX_RECORD, NUMBERS};
+use super::{PAIR, REFUSED_GRAMMARS, TUP0, U32, U64, UNI};
 
 /// A whole reading with so many words lent.
 fn demarshall(grammar: &[u32], record: &[u8], words: usize) -> Case {
@@ -42,7 +42,7 @@ fn check_val(grammar: &[u32], record: &[u8], index: usize) -> Case {
 }
 
 /// Name, grammar, record and its number of rows.
-const ACCEPTED: [(&str, &str, &str, usize); 22] = [
+const ACCEPTED: [(&str, &str, &str, usize); 30] = [
     ("example A", A, A_RECORD, 3),
     ("example B, constant", B, "", 1),
     ("example C, array of 3 constants", C, "0300000000000000", 4),
@@ -85,6 +85,29 @@ const ACCEPTED: [(&str, &str, &str, usize); 22] = [
         "0200000000000000 0200000000000000 0000000000000000",
         5,
     ),
+    ("example I, int32 -1", I32, "FFFFFFFF", 1),
+    ("example I, the least int32", I32, "00000080", 1),
+    ("example I, int64 -1", I64, "FFFFFFFFFFFFFFFF", 1),
+    ("int32", I32, "01020304", 1),
+    ("int64", I64, "0102030405060708", 1),
+    (
+        "array of two int32",
+        "2, 3 0 1, 9 0 0, 1, 1",
+        "0200000000000000 FEFFFFFF 06000000",
+        3,
+    ),
+    (
+        "tuple of numbers of four kinds",
+        NUMBERS,
+        "07000000 0800000000000000 09000000 0A00000000000000",
+        5,
+    ),
+    (
+        "case 1, an int64",
+        "3, 8 0 2, 9 0 0, 10 0 0, 2, 1 2",
+        "0100000000000000 0000000000000080",
+        2,
+    ),
 ];
 
 /// Adds each accepted record to all four calls: whole with more words lent than needed, and between
@@ -101,7 +124,7 @@ fn accepted(list: &mut List) {
 }
 
 /// Name, grammar, record and capacity of whole readings.
-const WHOLE: [(&str, &str, &str, usize); 46] = [
+const WHOLE: [(&str, &str, &str, usize); 54] = [
     (
         "example A without its last byte",
         A,
@@ -228,11 +251,31 @@ const WHOLE: [(&str, &str, &str, usize); 46] = [
     ),
     ("4,096 rows", C, "FF0F000000000000", 4_096),
     ("4,095 rows for 4,096", C, "FF0F000000000000", 4_095),
+    ("example I, int32, 3 bytes", I32, "FFFFFF", 1),
+    ("example I, int64, 7 bytes", I64, "FFFFFFFFFFFFFF", 1),
+    ("int32, no bytes", I32, "", 1),
+    ("int64, no bytes", I64, "", 1),
+    ("int32, a byte left over", I32, "01000000 FF", 1),
+    ("int64, a byte left over", I64, "0100000000000000 FF", 1),
+    (
+        "a byte of an int32 is missing behind two numbers",
+        NUMBERS,
+        "07000000 0800000000000000 090000",
+        5,
+    ),
+    (
+        "no row for an int64 behind three numbers",
+        NUMBERS,
+        "07000000 0800000000000000 09000000 0A00000000000000",
+        4,
+    ),
 ];
 
 /// Two faults in one whole reading: name, grammar, record and capacity.
-const ORDER: [(&str, &str, &str, usize); 22] = [
+const ORDER: [(&str, &str, &str, usize); 24] = [
     ("no row before 9", U32, "", 0),
+    ("no row before 9 of an int32", I32, "", 0),
+    ("no row before 9 of an int64", I64, "", 0),
     ("no row before 9, inside a tuple", PAIR, "01000000", 2),
     (
         "no row before 9, at the value of a case",
@@ -395,7 +438,7 @@ fn indices(list: &mut List) {
 /// The refusals of the grammar, of the record's length and of the index meet each other and those
 /// of the values.
 fn before_the_values(list: &mut List) {
-    let (b, bad) = (numbers::<u32>(B), numbers::<u32>(KIND_9));
+    let (b, bad) = (numbers::<u32>(B), numbers::<u32>(KIND_11));
     let long = vec![0; MAX_BYTES + 1];
     for (number, grammar) in REFUSED_GRAMMARS {
         let grammar = numbers::<u32>(grammar);

@@ -27,7 +27,7 @@ fn locate(rows: &[u64], n: usize, store: &[u8], row: usize) -> Case {
 /// Name, rows, n and the length of a store of bytes 5A.
 type Listed = (&'static str, &'static str, usize, usize);
 
-const ACCEPTED: [Listed; 17] = [
+const ACCEPTED: [Listed; 22] = [
     ("example A", "4 3 2 0, 1 1 7 0, 5 1 2 12", 3, 14),
     ("example H, number 4,294,967,295", "1 1 4294967295 0", 1, 0),
     ("constant", "0 1 0 0", 1, 0),
@@ -75,16 +75,31 @@ const ACCEPTED: [Listed; 17] = [
         0,
     ),
     ("a case in a case", "8 3 7 0, 8 2 0 0, 0 1 0 0", 3, 0),
+    ("int32 pattern 4,294,967,295", "9 1 4294967295 0", 1, 0),
+    ("int64 pattern 2^64-1", "10 1 18446744073709551615 0", 1, 0),
+    (
+        "example I, int64 pattern 4,294,967,296",
+        "10 1 4294967296 0",
+        1,
+        0,
+    ),
+    (
+        "tuple of numbers of four kinds",
+        "4 5 4 0, 1 1 7 0, 2 1 7 0, 9 1 7 0, 10 1 7 0",
+        5,
+        0,
+    ),
+    ("a case of an int64", "8 2 1 0, 10 1 7 0", 2, 0),
 ];
 
-const REFUSED: [Listed; 43] = [
+const REFUSED: [Listed; 52] = [
     ("n 0", "0 1 0 0", 0, 0),
     ("n above the rows", "0 1 0 0", 2, 0),
     ("a word missing for n", "0 1 0", 1, 0),
     ("no words", "", 1, 0),
     ("n 2^64-1", "0 1 0 0", usize::MAX, 0),
     ("n 2^62, of which 4n wraps to 0", "0 1 0 0", 1 << 62, 0),
-    ("kind 9", "9 1 0 0", 1, 0),
+    ("kind 11", "11 1 0 0", 1, 0),
     ("kind 2^64-1", "18446744073709551615 1 0 0", 1, 0),
     ("kind 2^32, whose low half is 0", "4294967296 1 0 0", 1, 0),
     ("example H, number 4,294,967,296", "1 1 4294967296 0", 1, 0),
@@ -166,25 +181,39 @@ const REFUSED: [Listed; 43] = [
         16,
     ),
     ("count 2^64-1", "5 1 18446744073709551615 0", 1, 16),
+    ("kind 12", "12 1 0 0", 1, 0),
+    (
+        "example I, int32 pattern 4,294,967,296",
+        "9 1 4294967296 0",
+        1,
+        0,
+    ),
+    ("int32 pattern 2^64-1", "9 1 18446744073709551615 0", 1, 0),
+    ("an int32 of span 2", "9 2 7 0, 0 1 0 0", 2, 0),
+    ("an int64 of span 2", "10 2 7 0, 0 1 0 0", 2, 0),
+    ("an int32 of span 0", "4 2 1 0, 9 0 7 0", 2, 0),
+    ("an int64 of span 0", "4 2 1 0, 10 0 7 0", 2, 0),
+    ("word 3 of an int32", "9 1 7 1", 1, 0),
+    ("word 3 of an int64", "10 1 7 1", 1, 0),
 ];
 
 const ORDER: [Listed; 14] = [
-    ("12 before 13", "9 1 0 0", 2, 0),
+    ("12 before 13", "11 1 0 0", 2, 0),
     ("12 before 14", "5 1 1 0", 0, 0),
     ("13 before 14 of one row", "5 2 9 0, 0 1 0 0", 2, 0),
     (
         "the first row's 14 before a later row's 13",
-        "4 3 2 0, 5 1 1 0, 9 1 0 0",
+        "4 3 2 0, 5 1 1 0, 11 1 0 0",
         3,
         0,
     ),
     (
         "the first row's 13 before a later row's 14",
-        "4 3 2 0, 9 1 0 0, 5 1 1 0",
+        "4 3 2 0, 11 1 0 0, 5 1 1 0",
         3,
         0,
     ),
-    ("the root's 13 before a child's", "4 3 1 0, 9 1 0 0", 2, 0),
+    ("the root's 13 before a child's", "4 3 1 0, 11 1 0 0", 2, 0),
     (
         "the root's 13 before a child's 14",
         "0 2 0 0, 5 1 1 0",
@@ -199,7 +228,7 @@ const ORDER: [Listed; 14] = [
     ),
     (
         "a child's 13 before the missing child",
-        "4 2 2 0, 9 1 0 0",
+        "4 2 2 0, 11 1 0 0",
         2,
         0,
     ),
@@ -211,19 +240,19 @@ const ORDER: [Listed; 14] = [
     ),
     (
         "a child's 13 before the row left over",
-        "4 3 1 0, 9 1 0 0, 0 1 0 0",
+        "4 3 1 0, 11 1 0 0, 0 1 0 0",
         3,
         0,
     ),
     (
         "a child's missing child before the next child",
-        "4 4 2 0, 4 2 2 0, 0 1 0 0, 9 1 0 0",
+        "4 4 2 0, 4 2 2 0, 0 1 0 0, 11 1 0 0",
         4,
         0,
     ),
     (
         "the inner missing child before the outer",
-        "4 3 2 0, 8 2 0 0, 9 1 0 0",
+        "4 3 2 0, 8 2 0 0, 11 1 0 0",
         3,
         0,
     ),
@@ -278,7 +307,7 @@ fn refused_located(list: &mut List) {
     list.add("an array row behind n", locate(&behind, 1, &[], 1));
     list.add(
         "13 before 18",
-        locate(&numbers::<u64>("9 1 0 0"), 1, &[], 0),
+        locate(&numbers::<u64>("11 1 0 0"), 1, &[], 0),
     );
     list.add(
         "14 before 18",
@@ -325,7 +354,7 @@ fn limits(list: &mut List) {
         size(&bytes, 1, &most),
     );
     list.add("6 before 12", size(&one, 0, &more));
-    list.add("6 before 13", size(&[9, 1, 0, 0], 1, &more));
+    list.add("6 before 13", size(&[11, 1, 0, 0], 1, &more));
     list.add("6 before 14", size(&[5, 1, 1 << 21, 0], 1, &more));
     list.add("n 4,096", size(&constants(4_096), 4_096, &[]));
     list.add("n 4,097", size(&constants(4_097), 4_097, &[]));

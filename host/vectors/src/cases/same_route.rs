@@ -4,7 +4,8 @@ use compare::Case;
 
 use super::magnitudes;
 use super::{counted, hex, numbers, Cases, List, MAX_BYTES, REFUSED_GRAMMARS};
-use super::{A, A_RECORD, B, BYT, C, D, E, KIND_9, MIX, MIX_RECORD, PAIR, TUP0, U32, U64, UNI};
+use super::{A, A_RECORD, B, BYT, C, D, E, I32, I64, KIND_11, MIX, MIX_RECORD, NUMBERS, PAIR};
+use super::{TUP0, U32, U64, UNI};
 
 /// Adds the comparison of two records.
 fn add(list: &mut List, name: &str, grammar: &str, first: &[u8], second: &[u8]) {
@@ -25,7 +26,7 @@ const A_CUT: &str = "07000000 0200000000000000 41";
 const A_MORE: &str = "07000000 0200000000000000 4142 00";
 
 /// Name, grammar, first and second record.
-const LISTED: [(&str, &str, &str, &str); 31] = [
+const LISTED: [(&str, &str, &str, &str); 40] = [
     ("example A twice", A, A_RECORD, A_RECORD),
     ("the number differs", A, A_RECORD, A_NUMBER),
     ("the last element differs", A, A_RECORD, A_ELEMENT),
@@ -134,9 +135,48 @@ const LISTED: [(&str, &str, &str, &str); 31] = [
     ),
     ("1 before both records", "0, 0", A_CUT, A_MORE),
     ("2 before both records", "1, 1 0 0", A_CUT, A_MORE),
-    ("3 before both records", KIND_9, A_CUT, A_MORE),
+    ("3 before both records", KIND_11, A_CUT, A_MORE),
     ("4 before both records", "1, 1 1 0, 1, 0", A_CUT, A_MORE),
     ("5 before both records", "1, 4 0 1, 1, 0", A_CUT, A_MORE),
+    ("equal int32", I32, "FFFFFFFF", "FFFFFFFF"),
+    ("int32 1 and -1", I32, "01000000", "FFFFFFFF"),
+    (
+        "int32 that differ in the sign alone",
+        I32,
+        "05000000",
+        "05000080",
+    ),
+    ("equal int64", I64, "FFFFFFFFFFFFFFFF", "FFFFFFFFFFFFFFFF"),
+    (
+        "int64 1 and -1",
+        I64,
+        "0100000000000000",
+        "FFFFFFFFFFFFFFFF",
+    ),
+    (
+        "int64 that differ in the sign alone",
+        I64,
+        "0500000000000000",
+        "0500000000000080",
+    ),
+    (
+        "5 as a uint32 and as an int32",
+        "3, 8 0 2, 1 0 0, 9 0 0, 2, 1 2",
+        "0000000000000000 05000000",
+        "0100000000000000 05000000",
+    ),
+    (
+        "numbers of four kinds, the last differs",
+        NUMBERS,
+        "07000000 0800000000000000 09000000 0A00000000000000",
+        "07000000 0800000000000000 09000000 0B00000000000000",
+    ),
+    (
+        "the second record's int32 is cut",
+        I32,
+        "05000000",
+        "050000",
+    ),
 ];
 
 /// The longest records, and those a byte longer.

@@ -4,10 +4,10 @@ use compare::show_input;
 
 use super::magnitudes;
 use super::{counted, hex, numbers};
-use super::{A, A_RECORD, B, BYT, C, D, E, KIND_9, MIX, MIX_RECORD, U64};
+use super::{A, A_RECORD, B, BYT, C, D, E, I32, I64, KIND_11, MIX, MIX_RECORD, U64};
 
 /// Name, grammar and record of inputs that are laid out as wanted.
-const LAID_OUT: [(&str, &str, &str); 20] = [
+const LAID_OUT: [(&str, &str, &str); 25] = [
     ("example A", A, A_RECORD),
     (
         "example A without its last byte",
@@ -30,8 +30,13 @@ const LAID_OUT: [(&str, &str, &str); 20] = [
     ("nested", MIX, MIX_RECORD),
     ("no words", "", ""),
     ("the word of M is missing", "1", ""),
-    ("kind 9", KIND_9, ""),
+    ("kind 11", KIND_11, ""),
     ("first of a uint32", "1, 1 1 0, 1, 0", ""),
+    ("example I, int32 -1", I32, "FFFFFFFF"),
+    ("example I, the least int32", I32, "00000080"),
+    ("example I, int32, 3 bytes", I32, "FFFFFF"),
+    ("example I, int64 -1", I64, "FFFFFFFFFFFFFFFF"),
+    ("first of an int32", "1, 9 1 0, 1, 5", ""),
 ];
 
 /// Inputs in hexadecimal.
@@ -61,7 +66,7 @@ pub fn show() -> Vec<(String, Vec<u8>)> {
     add("example A and a byte more", [&a[..], &[0]].concat());
     add("example A, the input cut by a byte", a[..73].to_vec());
     let more = |grammar, record| [input(grammar, record), vec![0]].concat();
-    add("19 before 3", more(KIND_9, &[]));
+    add("19 before 3", more(KIND_11, &[]));
     add("19 before 5", more("1, 4 0 1, 1, 0", &[]));
     add("19 before 10", more(D, &[0; 8]));
     add("19 before 11", more(B, &[0]));

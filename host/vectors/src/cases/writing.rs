@@ -5,7 +5,7 @@ use compare::{Case, Value};
 use super::magnitudes;
 use super::{hex, numbers, table, Cases, List, MAX_BYTES, ROW_WORDS};
 use super::{A, A64, ARR, A_RECORD, B, BYT, C, D, E, MIX, MIX_RECORD, MIX_ROWS, PAIR};
-use super::{REFUSED_GRAMMARS, TUP0, U32, U64, UNI};
+use super::{I32, I64, NUMBERS, REFUSED_GRAMMARS, TUP0, U32, U64, UNI};
 
 /// A value of as many rows as are given.
 fn value(grammar: &str, rows: &str, store: &[u8]) -> Value {
@@ -30,7 +30,7 @@ fn marshall_val(value: &Value, length: usize, index: usize) -> Case {
 }
 
 /// Name, grammar, rows, store in hexadecimal, size.
-const ACCEPTED: [(&str, &str, &str, &str, usize); 20] = [
+const ACCEPTED: [(&str, &str, &str, &str, usize); 26] = [
     ("example G, 14 bytes", A, A_ROWS, A_RECORD, 14),
     (
         "example H, number 4,294,967,295",
@@ -111,6 +111,24 @@ const ACCEPTED: [(&str, &str, &str, &str, usize); 20] = [
         "",
         24,
     ),
+    ("int32", I32, "9 1 67305985 0", "", 4),
+    ("int32 -1", I32, "9 1 4294967295 0", "", 4),
+    ("int64", I64, "10 1 578437695752307201 0", "", 8),
+    ("int64 -1", I64, "10 1 18446744073709551615 0", "", 8),
+    (
+        "array of int32 values",
+        "2, 3 0 1, 9 0 0, 1, 1",
+        "3 3 2 0, 9 1 4294967294 0, 9 1 6 0",
+        "",
+        16,
+    ),
+    (
+        "tuple of numbers of four kinds",
+        NUMBERS,
+        "4 5 4 0, 1 1 7 0, 2 1 8 0, 9 1 9 0, 10 1 10 0",
+        "",
+        24,
+    ),
 ];
 
 /// The rows of example A.
@@ -127,7 +145,7 @@ fn accepted(list: &mut List) {
 }
 
 /// Refused with 15, with room enough: name, grammar, rows.
-const NOT_IN_GRAMMAR: [(&str, &str, &str); 14] = [
+const NOT_IN_GRAMMAR: [(&str, &str, &str); 21] = [
     ("a uint32 where a constant is wanted", B, "1 1 0 0"),
     ("a uint64 where a uint32 is wanted", U32, "2 1 7 0"),
     ("a byte array where a uint32 array is wanted", E, "5 1 0 0"),
@@ -158,25 +176,36 @@ const NOT_IN_GRAMMAR: [(&str, &str, &str); 14] = [
         PAIR,
         "3 3 2 0, 1 1 5 0, 2 1 6 0",
     ),
+    ("an int32 where a uint32 is wanted", U32, "9 1 5 0"),
+    ("a uint32 where an int32 is wanted", I32, "1 1 5 0"),
+    ("an int64 where a uint64 is wanted", U64, "10 1 5 0"),
+    ("a uint64 where an int64 is wanted", I64, "2 1 5 0"),
+    ("an int64 where an int32 is wanted", I32, "10 1 5 0"),
+    ("an int32 where an int64 is wanted", I64, "9 1 5 0"),
+    (
+        "an int32 as the second of two uint32",
+        PAIR,
+        "4 3 2 0, 1 1 5 0, 9 1 5 0",
+    ),
 ];
 
 /// Two faults in one writing, to an output without room: name, grammar, rows, n.
-const ORDER: [(&str, &str, &str, usize); 14] = [
+const ORDER: [(&str, &str, &str, usize); 16] = [
     ("5 before 15, example F", "1, 4 0 1, 1, 0", "1 1 7 0", 1),
-    ("12 before 13", U32, "9 1 0 0", 2),
+    ("12 before 13", U32, "11 1 0 0", 2),
     ("12 before 15 and 17", U32, "2 1 7 0", 0),
     ("13 before 14 of one row", U32, "5 2 9 0, 0 1 0 0", 2),
     (
         "the first row's 14 before a later row's 13",
         U32,
-        "4 3 2 0, 5 1 1 0, 9 1 0 0",
+        "4 3 2 0, 5 1 1 0, 11 1 0 0",
         3,
     ),
     ("13 before 15 of one row", B, "1 1 4294967296 0", 1),
     (
         "a later row's 13 before row 0's 15",
         B,
-        "4 2 1 0, 9 1 0 0",
+        "4 2 1 0, 11 1 0 0",
         2,
     ),
     (
@@ -196,6 +225,8 @@ const ORDER: [(&str, &str, &str, usize); 14] = [
     ("14 before 17", BYT, "5 1 1 0", 1),
     ("15 before 17", ARR, "3 3 2 0, 1 1 5 0, 2 1 6 0", 3),
     ("15 before 17, tag", UNI, "8 2 2 0, 0 1 0 0", 2),
+    ("13 before 15 of an int32", U32, "9 1 4294967296 0", 1),
+    ("15 before 17, an int32", U32, "9 1 5 0", 1),
 ];
 
 fn refused(list: &mut List) {
@@ -260,7 +291,11 @@ fn sizes(list: &mut List) {
     list.add("15 before 16", marshall(&other, 0));
     let two_arrays = "2, 4 0 2, 5 0 0, 2, 1 1";
     for (name, rows, store) in [
-        ("13 before 16", "4 3 2 0, 5 1 1048576 0, 9 1 0 0", MAX_BYTES),
+        (
+            "13 before 16",
+            "4 3 2 0, 5 1 1048576 0, 11 1 0 0",
+            MAX_BYTES,
+        ),
         (
             "14 before 16",
             "4 3 2 0, 5 1 1048576 0, 6 1 0 1048577",
@@ -285,7 +320,7 @@ fn stores(list: &mut List) {
     list.add("a store of 1,048,577 bytes", marshall(&long, 0));
     list.add("6 before 17", marshall_val(&long, 0, 1));
     for (name, rows) in [
-        ("6 before 13", "9 1 0 0"),
+        ("6 before 13", "11 1 0 0"),
         ("6 before 14", "5 1 0 1048578"),
         ("6 before 15", "2 1 7 0"),
     ] {
@@ -306,7 +341,7 @@ fn grammars(list: &mut List) {
     let faults: [(u32, &str, usize, &[u8]); 6] = [
         (6, constant, 1, &long),
         (12, constant, 0, &[]),
-        (13, "9 1 0 0", 1, &[]),
+        (13, "11 1 0 0", 1, &[]),
         (14, "5 1 1 0", 1, &[]),
         (16, "5 1 1048576 0", 1, &most),
         (17, constant, 1, &[]),

@@ -126,6 +126,10 @@ pub fn of_model(call: &Call) -> Outcome {
             let numbers = |(start, length)| vec![start as u64, length as u64];
             outcome(located.map(|located| (numbers(located), None)))
         }
+        ("signed_number", [rows, n, store, row]) => {
+            let number = model::signed_number(words(rows), size(n), bytes(store), size(row));
+            outcome(number.map(|number| (vec![number as u64], None)))
+        }
         ("parse_val", [grammar, record, index, lent]) => {
             let (grammar, capacity) = (short_words(grammar), model::capacity(words(lent).len()));
             let reading = model::parse_val(&grammar, bytes(record), size(index), capacity);
