@@ -12,6 +12,15 @@ use Rattle.value.specs.Tree.{VUint32}
 use Rattle.value.specs.Bytes.{bytesOf}
 use Rattle.value.specs.Signed.{half, signedOf, patternOf, InRange, TwosComplement, VInt32, VInt64}
 
+-- the ends of both widths, and zero
+pub ends-int32 : (signedOf 4 0 ≡ pos 0) × (signedOf 4 2147483647 ≡ pos 2147483647) × (signedOf 4 2147483648 ≡ negsuc 2147483647) × (signedOf 4 4294967295 ≡ negsuc 0)
+unfolding signedOf
+ends-int32 = (refl, refl, refl, refl)
+
+pub ends-int64 : (signedOf 8 0 ≡ pos 0) × (signedOf 8 9223372036854775807 ≡ pos 9223372036854775807) × (signedOf 8 9223372036854775808 ≡ negsuc 9223372036854775807) × (signedOf 8 18446744073709551615 ≡ negsuc 0)
+unfolding signedOf
+ends-int64 = (refl, refl, refl, refl)
+
 -- two halves are all patterns
 pub halves : (w : ℕ) → 0 < w → 256 ^ w ≡ half w + half w
 halves zero h = absurd (omega arith)
@@ -51,15 +60,6 @@ pattern-signed w (negsuc n) h r =
     let k = halves w h in
     let e : 256 ^ w - suc (256 ^ w - suc n) ≡ n = omega arith in
     (omega arith, signed-high w (256 ^ w - suc n) (omega arith) (omega arith) ∙ ap negsuc e)
-
--- the ends of both widths, and zero
-pub ends-int32 : (signedOf 4 0 ≡ pos 0) × (signedOf 4 2147483647 ≡ pos 2147483647) × (signedOf 4 2147483648 ≡ negsuc 2147483647) × (signedOf 4 4294967295 ≡ negsuc 0)
-unfolding signedOf
-ends-int32 = (refl, refl, refl, refl)
-
-pub ends-int64 : (signedOf 8 0 ≡ pos 0) × (signedOf 8 9223372036854775807 ≡ pos 9223372036854775807) × (signedOf 8 9223372036854775808 ≡ negsuc 9223372036854775807) × (signedOf 8 18446744073709551615 ≡ negsuc 0)
-unfolding signedOf
-ends-int64 = (refl, refl, refl, refl)
 
 -- −3 at both widths
 pub bytes-of-minus-3 : (bytesOf (VInt32 (negsuc 2)) ≡ 253 ∷ 255 ∷ 255 ∷ 255 ∷ []) × (bytesOf (VInt64 (negsuc 2)) ≡ 253 ∷ 255 ∷ 255 ∷ 255 ∷ 255 ∷ 255 ∷ 255 ∷ 255 ∷ [])
