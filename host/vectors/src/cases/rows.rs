@@ -264,7 +264,7 @@ const ORDER: [Listed; 14] = [
     ),
 ];
 
-/// Adds listed tables to the size call. The locator gives the same refusals.
+/// Adds listed tables to the size call. The locator and the signed number give the same refusals.
 fn sizes(list: &mut List, listed: &[Listed]) {
     for &(name, rows, n, length) in listed {
         list.add(name, size(&numbers::<u64>(rows), n, &vec![0x5a; length]));

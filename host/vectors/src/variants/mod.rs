@@ -269,7 +269,7 @@ fn is_alone(place: &Place, guard: u64) -> bool {
     let is_of_rule = matches!(place.thing, Thing::Comparison | Thing::Test);
     match place.guard {
         _ if guard == NO_GUARD => true,
-        Some("kind") => is_of_rule && guard <= 8 && !place.site.text.contains("kind"),
+        Some("kind") => is_of_rule && guard <= 10 && !place.site.text.contains("kind"),
         _ => true,
     }
 }

@@ -258,7 +258,7 @@ macro_rules! numbers {
     )*};
 }
 
-numbers!(u8 u32 u64 u128 usize);
+numbers!(u8 u32 u64 u128 i128 usize);
 
 /// The lowest bits of a number.
 fn cut<N: Number>(number: N, bits: u32) -> N {
