@@ -185,7 +185,8 @@ SignedAgrees =
     (t s : List ℕ) (n i : ℕ) (r : SignedNumber) → Below (2 ^ 64) t → Bytes s → signedNumber r ≡ signedNumberOf t n s i
     → (z : ℤ) → (signedNumber r ≡ accepted z) ↔ NumberOf t n s i z
 
--- document 01's byte rule, kind by kind, with document 02's kinds 9 and 10, whose bytes are those of the number's pattern: numbers, counts and tags as PI's sum packs them, elements and fields one behind the other
+-- document 01's byte rule, kind by kind, with document 02's kinds 9 and 10, whose bytes are those of the number's pattern: numbers, counts and
+-- tags as PI's sum packs them, elements and fields one behind the other
 pub record ByteRule : Type 0 where
   pub constant : bytesOf VConstant ≡ []
   pub uint32 : (n : ℕ) → bytesOf (VUint32 n) ≡ packLittleEndian 4 n
