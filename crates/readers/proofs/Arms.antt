@@ -278,6 +278,6 @@ counted-value {d} {entry} {mid} {row} u g (Next v) ready l h =
     let f = agrees-accepted (agrees (u .capacity) d g (stateOf u) (ready .inside)) (record { value = w .0; state = stateOf v }) (w .1) in
     (omega (arith, f .1), omega (arith, f .1, f .2, ready .few, ready .most))
 
--- the other kinds have no children
+-- a kind word other than 3, 4 and 8
 pub leaf : {w k : ℕ} → w ≡ k → isParent k ≡ false → Leaf w
 leaf e n = record { noArray = not-parent e n refl; noTuple = not-parent e n refl; noCase = not-parent e n refl }

@@ -1,4 +1,4 @@
--- What the code's types mean: which number and place of document 01 a `Refusal`, which outcome an `Answer`.
+-- What the code's types mean: which number and place of the papers a `Refusal`, which outcome an `Answer`.
 use Rattle.refusal.specs.declared.Place.{Place}
 use Rattle.refusal.specs.declared.Place.the-variants.{Word, Byte, Row}
 use Rattle.refusal.specs.declared.Refusal.{Refusal}

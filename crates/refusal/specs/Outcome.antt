@@ -10,7 +10,7 @@ pub data Location : Type 0 where
   byte : ℕ → Location
   row : ℕ → Location
 
--- document 01's refusal: its number in the table, and its place
+-- document 01's refusal: its number in the papers' tables, and its place
 pub data Reason : Type 0 where
   reason : ℕ → Location → Reason
 

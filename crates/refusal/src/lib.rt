@@ -1,4 +1,4 @@
-// A refusal, document 01's: its number in the table and its place. Every answer of the library holds this struct.
+// A refusal, as document 01 has it: its number in the papers' tables and its place. Every answer of the library holds this struct.
 ghost use mathlib.Core.Path.{_≡_};
 ghost use Rattle.refusal.specs.Meaning.{reasonOf, outcomeOf};
 ghost use Rattle.refusal.specs.Outcome.{accepted, test, reason, word, byte, row};

@@ -68,13 +68,13 @@ number-zero = record {
 }
 
 -- the numbers of each kind's width are numbers of 8 bytes
-wider : (k : Number) (z : ℤ) → InRange (width k) z → InRange 8 z
-wider uint32 z h = omega arith
-wider uint64 z h = h
-wider int32 z h = omega arith
-wider int64 z h = h
+range-of-8 : (k : Number) (z : ℤ) → InRange (width k) z → InRange 8 z
+range-of-8 uint32 z h = omega arith
+range-of-8 uint64 z h = h
+range-of-8 int32 z h = omega arith
+range-of-8 int64 z h = h
 
 pub word-is-number : WordIsNumber
 word-is-number t s n i z words bytes e =
     let h = signed-exactly t n s i z words bytes .0 e in
-    pattern-signed 8 z (omega arith) (wider (h .kind) z (h .number .range)) .1
+    rw e (pattern-signed 8 z (omega arith) (range-of-8 (h .kind) z (h .number .range)) .1)

@@ -26,7 +26,7 @@ use Rattle.comparing.proofs.Meaning.{sameRoute-injective}
 use Rattle.comparing.proofs.Comparing.{compares-one}
 use Rattle.route.proofs.Listed.{grammar-listed, room-listed, unpackers-listed, rows-listed, locator-listed, signed-listed, reading-listed, whole-listed, writing-listed, rewriting-listed, routes-listed}
 use Rattle.route.proofs.Reading.{rows-kept}
-use Rattle.route.proofs.Refusals.{map-refuses, room-refuses, present-refuses, walk-refuses, locate-refuses, signed-refuses, parse-refuses, demarshall-refuses, marshall-refuses, rewrite-refuses, both-refuses}
+use Rattle.route.proofs.Refusals.{map-refuses, room-refuses, present-refuses, walk-refuses, find-refuses, locate-refuses, signed-refuses, parse-refuses, demarshall-refuses, marshall-refuses, rewrite-refuses, both-refuses}
 
 pub demand1 : Demand1
 demand1 = record {
@@ -44,6 +44,7 @@ demand1 = record {
   unpackers = λ w s index. map-refuses _ (map-refuses _ (present-refuses (length s) index w));
   unpackersSeq = λ w s index len. map-refuses _ (map-refuses _ (present-refuses (length s) index (w * len)));
   rows = walk-refuses;
+  rowFound = find-refuses;
   sizes = λ t n s. map-refuses SizeOfV (walk-refuses t n s);
   locator = locate-refuses;
   signed = signed-refuses;

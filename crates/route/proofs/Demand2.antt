@@ -21,6 +21,7 @@ use Rattle.value.specs.Reading.{start, readVal, readTo}
 use Rattle.value.specs.Parse.{parseVal}
 use Rattle.value.proofs.Laws.{packSeq-bytes, length-bytesOf, bytesOf-byteArray, parseVal-bytesOf, parseVal-value}
 use Rattle.value.proofs.Reading.{read-fits}
+use Rattle.value.proofs.Signed.{twos-complement, signed-one-to-one, pattern-signed, value-int32, value-int64}
 use Rattle.grammar.specs.Tree.{treeOf}
 use Rattle.grammar.proofs.Rule.{accepted-exactly}
 use Rattle.grammar.proofs.Tree.{tree-valid}
@@ -124,7 +125,7 @@ byte-rule = record {
 }
 
 rule-stands : RuleStands
-rule-stands = record { rule = byte-rule; parses = λ g v o rest. parseVal-bytesOf o rest; parsed = parseVal-value; size = length-bytesOf }
+rule-stands = record { rule = byte-rule; parses = λ g v o rest. parseVal-bytesOf o rest; parsed = parseVal-value; size = length-bytesOf; int32 = value-int32; int64 = value-int64 }
 
 writes-the-rule : WritesTheRule
 writes-the-rule g t s out exit n index w m = (
@@ -208,6 +209,7 @@ demand2 = record {
   rowsAgree = λ t s n v. rows-exactly t n s v;
   sizesAgree = sizes-agree;
   signedAgrees = signed-agrees;
+  signedRule = λ w h. record { number = λ p l. twos-complement w p h l; oneToOne = λ p q l m e. signed-one-to-one w p q h l m e; pattern = λ z r. pattern-signed w z h r };
   ruleStands = rule-stands;
   writesTheRule = writes-the-rule;
   numbersAgree = numbers-agree;

@@ -1,6 +1,6 @@
 -- When each definition refuses (specs/Refusals.antt), proved in both directions.
 use mathlib.Core.Path.{_≡_, refl, sym, ap, subst, _∙_}
-use mathlib.Core.Logic.{_↔_}
+use mathlib.Core.Logic.{_↔_, inl, inr, ⊎-elim}
 use mathlib.Core.Bool.{Bool, true, false}
 use mathlib.Core.Option.{none, some}
 use mathlib.Core.List.{List}
@@ -11,16 +11,16 @@ use lib.ListN.{length}
 use lib.Dec.{ltb, eqb}
 use borrow.Author.Tests.{le-leb, lt-leb, ltb-true}
 use Rattle.refusal.specs.Outcome.{Outcome, accepted, refused, bind, test, map, byte, row, Reason, reason}
-use Rattle.refusal.proofs.Outcome.{Post, holds, fails, post-bind, post-test, post-reflects, post-weaken, post-accepted, post-refused, bind-assoc, bind-test, test-true, test-false, map-refused}
+use Rattle.refusal.proofs.Outcome.{Post, holds, fails, post-bind, post-test, post-reflects, post-weaken, post-accepted, post-refused, bind-accepted, bind-assoc, bind-test, test-true, test-false, map-refused}
 use Rattle.refusal.proofs.Tests.{refuted, reflects-leb, reflects-ltb, reflects-eqb, reflects-and}
 use Rattle.packed.specs.Packed.{present, room}
 use Rattle.packed.proofs.Calls.{present-index, present-inside, room-fits}
-use Rattle.value.specs.Kinds.{Number, width, Elements, elementWidth, elementsKind, Kind, kindOf, constant, number, array, tuple, elements, union, other}
+use Rattle.value.specs.Kinds.{Number, uint32, uint64, int32, int64, width, numberKind, Elements, elementWidth, elementsKind, Kind, kindOf, constant, number, array, tuple, elements, union, other}
 use Rattle.value.specs.Tree.{G, Gs, GConstant, GNumber, GArray, GTuple, GNumberArray, GTaggedUnion, gnil, gcons, Val, VNumber, VArray, VTuple, VNumberArray, VCase, vcons, ValInGrammar, SizeOfV, rowCount}
 use Rattle.value.specs.Step.{Step, next, give, elements as elementsOf}
 use Rattle.value.specs.Parse.{Parse, pair}
 use Rattle.value.specs.Reading.{State, Stop, Reading, stop, start, begin, claim, claimed, free, takeNumber, takeNumbers, readBody, readFields, readCaseAt, readVal}
-use Rattle.value.specs.Signed.{isSigned, signedOf}
+use Rattle.value.specs.Signed.{signedOf}
 use Rattle.value.proofs.KindLaws.{number-kind, elements-kind, elementWidth-positive}
 use Rattle.value.proofs.Laws.{count-fits, pair-parsed}
 use Rattle.value.proofs.Agreement.{Agrees, same, neither, short, agrees}
@@ -32,7 +32,7 @@ use Rattle.tables.specs.Row.{Row, rowAt}
 use Rattle.rows.specs.Walk.{withinStore, checkRow, walkChildren, walkTo, walk}
 use Rattle.rows.specs.Locate.{lookUp, elementsPart, locateArray}
 use Rattle.rows.proofs.Laws.{reflects-rows}
-use Rattle.rows.proofs.Rule.{wordOf, kind-word}
+use Rattle.rows.proofs.Rule.{class-word}
 use Rattle.signed.specs.Signed.{signedOfRow, signedNumberOf}
 use Rattle.admission.specs.Admission.{admitOf}
 use Rattle.reading.specs.Calls.{withoutState, parseValOf, demarshallOf}
@@ -113,10 +113,7 @@ module _ (len index size : ℕ) where
 
 -- ---- rows
 
--- the kind word of a row whose class the papers name
-class-word : (w : ℕ) {c : Kind} → (c ≡ other → ⊥) → kindOf w ≡ c → w ≡ wordOf c
-class-word w n h = kind-word w (λ o. n (sym h ∙ o)) ∙ ap wordOf h
-
+-- the kind word of a row whose class is that of arrays of numbers
 elements-word : (w : ℕ) {k : Elements} → kindOf w ≡ elements k → w ≡ elementsKind k
 elements-word w h = class-word w (λ o. let z : _≡_ {A = ℕ} 0 1 = cc in omega arith) h
 
@@ -237,21 +234,27 @@ signed-decides : (w : ℕ) → Decides signedOfRow IsSigned w
 unfolding signedOfRow
 signed-decides w = go (kindOf w) refl
   where
-    no : {c : Kind} → kindOf w ≡ c → ((k : Number) → isSigned k ≡ true → c ≡ number k → ⊥) → IsSigned w → ⊥
-    no e f x = f (x .0) (x .1) (sym e ∙ ap kindOf (x .2) ∙ number-kind (x .0))
+    no : {c : Kind} → kindOf w ≡ c → (c ≡ number int32 → ⊥) → (c ≡ number int64 → ⊥) → IsSigned w → ⊥
+    no e f g x = ⊎-elim (λ (h : w ≡ 9). f (sym e ∙ ap kindOf h ∙ number-kind int32)) (λ (h : w ≡ 10). g (sym e ∙ ap kindOf h ∙ number-kind int64)) x
 
-    of-number : (k : Number) (b : Bool) → isSigned k ≡ b → kindOf w ≡ number k → Decides signedOfRow IsSigned w
-    of-number k true h e = takes (λ r f. (signedOf (width k) (r .word2), rw (e, h))) (k, h, class-word w (λ o. let z : _≡_ {A = ℕ} 0 1 = cc in omega arith) e)
-    of-number k false h e = leaves (λ r f. rw (e, h)) (no e (λ j g q. let p : k ≡ j = cc in let z : false ≡ true = sym h ∙ ap isSigned p ∙ g in let y : _≡_ {A = ℕ} 0 1 = cc in omega arith))
+    word : {k : Number} → kindOf w ≡ number k → w ≡ numberKind k
+    word e = class-word w (λ o. let z : _≡_ {A = ℕ} 0 1 = cc in omega arith) e
 
     go : (c : Kind) → kindOf w ≡ c → Decides signedOfRow IsSigned w
-    go constant e = leaves (λ r f. rw e) (no e (λ k g h. let z : _≡_ {A = ℕ} 0 1 = cc in omega arith))
-    go (number k) e = of-number k (isSigned k) refl e
-    go array e = leaves (λ r f. rw e) (no e (λ k g h. let z : _≡_ {A = ℕ} 0 1 = cc in omega arith))
-    go tuple e = leaves (λ r f. rw e) (no e (λ k g h. let z : _≡_ {A = ℕ} 0 1 = cc in omega arith))
-    go (elements j) e = leaves (λ r f. rw e) (no e (λ k g h. let z : _≡_ {A = ℕ} 0 1 = cc in omega arith))
-    go union e = leaves (λ r f. rw e) (no e (λ k g h. let z : _≡_ {A = ℕ} 0 1 = cc in omega arith))
-    go other e = leaves (λ r f. rw e) (no e (λ k g h. let z : _≡_ {A = ℕ} 0 1 = cc in omega arith))
+    go constant e = leaves (λ r f. rw e) (no e (λ h. let z : _≡_ {A = ℕ} 0 1 = cc in omega arith) (λ h. let z : _≡_ {A = ℕ} 0 1 = cc in omega arith))
+    go (number uint32) e = leaves (λ r f. rw e) (no e (λ h. let z : _≡_ {A = ℕ} 0 1 = cc in omega arith) (λ h. let z : _≡_ {A = ℕ} 0 1 = cc in omega arith))
+    go (number uint64) e = leaves (λ r f. rw e) (no e (λ h. let z : _≡_ {A = ℕ} 0 1 = cc in omega arith) (λ h. let z : _≡_ {A = ℕ} 0 1 = cc in omega arith))
+    go (number int32) e = takes (λ r f. (signedOf 4 (r .word2), rw e)) (inl (word e))
+    go (number int64) e = takes (λ r f. (signedOf 8 (r .word2), rw e)) (inr (word e))
+    go array e = leaves (λ r f. rw e) (no e (λ h. let z : _≡_ {A = ℕ} 0 1 = cc in omega arith) (λ h. let z : _≡_ {A = ℕ} 0 1 = cc in omega arith))
+    go tuple e = leaves (λ r f. rw e) (no e (λ h. let z : _≡_ {A = ℕ} 0 1 = cc in omega arith) (λ h. let z : _≡_ {A = ℕ} 0 1 = cc in omega arith))
+    go (elements j) e = leaves (λ r f. rw e) (no e (λ h. let z : _≡_ {A = ℕ} 0 1 = cc in omega arith) (λ h. let z : _≡_ {A = ℕ} 0 1 = cc in omega arith))
+    go union e = leaves (λ r f. rw e) (no e (λ h. let z : _≡_ {A = ℕ} 0 1 = cc in omega arith) (λ h. let z : _≡_ {A = ℕ} 0 1 = cc in omega arith))
+    go other e = leaves (λ r f. rw e) (no e (λ h. let z : _≡_ {A = ℕ} 0 1 = cc in omega arith) (λ h. let z : _≡_ {A = ℕ} 0 1 = cc in omega arith))
+
+-- a row that is looked up and taken whatever its kind
+pub find-refuses : (m : ℕ) (t : List ℕ) (n : ℕ) (s : List ℕ) (i : ℕ) → Refuses (LookUpRefused m (λ _. Unit {0}) t n s i) (lookUp m t n s i)
+find-refuses m t n s i = subst (Refuses (LookUpRefused m (λ _. Unit {0}) t n s i)) (bind-accepted (lookUp m t n s i)) (look-up-refuses m (λ _ r _. accepted r) (λ _. Unit {0}) (λ w. takes (λ r e. (r, refl)) tt) t n s i)
 
 pub locate-refuses : (t : List ℕ) (n : ℕ) (s : List ℕ) (i : ℕ) → Refuses (LocatorRefused t n s i) (locateArray t n s i)
 unfolding locateArray

@@ -9,7 +9,7 @@ use lib.IntN.{ℤ}
 use Rattle.refusal.specs.Outcome.{Outcome, accepted, map, Reason}
 use Rattle.packed.specs.Packed.{Bytes, Below, unpackAt, unpackSeqAt, putAt}
 use Rattle.value.specs.Tree.{SizeOfV}
-use Rattle.value.specs.Signed.{signedOf, patternOf}
+use Rattle.value.specs.Signed.{signedOf}
 use Rattle.grammar.specs.Check.{checkGrammar}
 use Rattle.rows.specs.Size.{computeSizeOf}
 use Rattle.rows.specs.Locate.{locateArray}
@@ -40,6 +40,6 @@ pub record NumberZero : Type 0 where
   -- yes and no
   pub routes : (g first second : List ℕ) (o : Outcome NamedReason Bool) → Compares g first second o → (sameAnswerOf o .number ≡ 0) ↔ IsAccepted o
 
--- the 64-bit pattern that C gets of a signed number is a pattern of that number, so the cast to int64_t gives the number
+-- of a signed number C gets a 64-bit pattern of that number as its first word, so the cast to int64_t gives the number
 abbrev pub WordIsNumber : Type 0
-WordIsNumber = (t s : List ℕ) (n i : ℕ) (z : ℤ) → Below (2 ^ 64) t → Bytes s → signedNumberOf t n s i ≡ accepted z → signedOf 8 (patternOf 8 z) ≡ z
+WordIsNumber = (t s : List ℕ) (n i : ℕ) (z : ℤ) → Below (2 ^ 64) t → Bytes s → signedNumberOf t n s i ≡ accepted z → signedOf 8 (answerOf (map signedValue (signedNumberOf t n s i)) .first) ≡ z

@@ -4,9 +4,9 @@ use mathlib.Core.Path.{_≡_}
 use mathlib.Core.List.{List, [], _∷_, map}
 use Prim.Native.Nat.{ℕ, zero, suc}
 use lib.IntN.{ℤ, negsuc}
-use Rattle.refusal.specs.Outcome.{Outcome, accepted, refused, bind, Location, word, byte, Reason, reason}
+use Rattle.refusal.specs.Outcome.{Outcome, accepted, refused, bind, Location, word, byte, row, Reason, reason}
 use Rattle.value.specs.Tree.{Val, VConstant, VArray, VTuple, VUint32, VByteArray, VUint32Array, vnil, vcons}
-use Rattle.value.specs.Signed.{VInt32}
+use Rattle.value.specs.Signed.{VInt32, VInt64}
 use Rattle.value.specs.Step.{Step}
 use Rattle.value.specs.Reading.{State}
 use Rattle.grammar.specs.Check.{checkGrammar}
@@ -23,7 +23,7 @@ pub data Call : Type 0 where
   -- the same with capacity 4,096, then the signed number of a row of what it handed out, with the record as store
   readSigned : (grammar bytes : List ℕ) (i : ℕ) → Call
 
--- what they answer, in the paper's values
+-- what they answer, in the papers' values
 pub data Result : Type 0 where
   passes : Result
   -- the row count, the words of the rows, four to a row, and the value that they stand for
@@ -49,18 +49,18 @@ resultOf (check grammar) = checked (checkGrammar grammar)
 resultOf (read grammar bytes capacity) = handed (demarshallOf grammar bytes capacity)
 resultOf (readSigned grammar bytes i) = asked (bind (demarshallOf grammar bytes 4096) (λ t. signedNumberOf (rowsOf (t .value) 0) (t .state .begun) bytes i))
 
--- document 01's letters, and document 02's requests
-pub data Letter : Type 0 where
-  A : Letter
-  B : Letter
-  C : Letter
-  D : Letter
-  E : Letter
-  F : Letter
-  Req01 : Letter
+-- where an example stands: document 01's letters, and document 02's requests
+pub data Source : Type 0 where
+  A : Source
+  B : Source
+  C : Source
+  D : Source
+  E : Source
+  F : Source
+  Req01 : Source
 
 pub record Example : Type 0 where
-  pub letter : Letter
+  pub source : Source
   pub call : Call
   pub expected : Result
 
@@ -105,36 +105,49 @@ constantNodes (suc n) = 0 ∷ 0 ∷ 0 ∷ constantNodes n
 abbrev pub grammarF : ℕ → List ℕ
 grammarF nodes = nodes ∷ constantNodes nodes
 
--- one signed 32-bit number
-abbrev pub grammarInt32 : List ℕ
-grammarInt32 = 1 ∷ 9 ∷ 0 ∷ 0 ∷ 0 ∷ []
+-- one node of a kind without children
+abbrev pub grammarOf : ℕ → List ℕ
+grammarOf kind = 1 ∷ kind ∷ 0 ∷ 0 ∷ 0 ∷ []
 
--- The paper gives the places of A's refusal, B's, C's at capacity 3 and F's 5. The others follow from its table: a value's 8, 9 and 10 are
+abbrev pub minusOne32 : List ℕ
+minusOne32 = 0xff ∷ 0xff ∷ 0xff ∷ 0xff ∷ []
+
+abbrev pub minusOne64 : List ℕ
+minusOne64 = 0xff ∷ 0xff ∷ 0xff ∷ 0xff ∷ 0xff ∷ 0xff ∷ 0xff ∷ 0xff ∷ []
+
+-- Document 01 gives the places of A's refusal, B's, C's at capacity 3 and F's 5. The others follow from its table: a value's 8, 9 and 10 are
 -- placed where the value starts, at byte 0 for the root, and 1 at word 0
 abbrev pub bench : List Example
 bench =
-    record { letter = A; call = read grammarA recordA 4096; expected = handsOut 3 (4 ∷ 3 ∷ 2 ∷ 0 ∷ 1 ∷ 1 ∷ 7 ∷ 0 ∷ 5 ∷ 1 ∷ 2 ∷ 12 ∷ []) valueA }
-    ∷ record { letter = A; call = read grammarA recordA-cut 4096; expected = refuses 9 (byte 4) }
-    ∷ record { letter = B; call = read grammarB [] 4096; expected = handsOut 1 (0 ∷ 1 ∷ 0 ∷ 0 ∷ []) VConstant }
-    ∷ record { letter = B; call = read grammarB (0 ∷ []) 4096; expected = refuses 11 (byte 0) }
-    ∷ record { letter = C; call = read grammarC recordC 4096; expected = handsOut 4 (3 ∷ 4 ∷ 3 ∷ 0 ∷ 0 ∷ 1 ∷ 0 ∷ 0 ∷ 0 ∷ 1 ∷ 0 ∷ 0 ∷ 0 ∷ 1 ∷ 0 ∷ 0 ∷ []) (VArray (vcons VConstant (vcons VConstant (vcons VConstant vnil)))) }
-    ∷ record { letter = C; call = read grammarC recordC 3; expected = refuses 8 (byte 0) }
+    record { source = A; call = read grammarA recordA 4096; expected = handsOut 3 (4 ∷ 3 ∷ 2 ∷ 0 ∷ 1 ∷ 1 ∷ 7 ∷ 0 ∷ 5 ∷ 1 ∷ 2 ∷ 12 ∷ []) valueA }
+    ∷ record { source = A; call = read grammarA recordA-cut 4096; expected = refuses 9 (byte 4) }
+    ∷ record { source = B; call = read grammarB [] 4096; expected = handsOut 1 (0 ∷ 1 ∷ 0 ∷ 0 ∷ []) VConstant }
+    ∷ record { source = B; call = read grammarB (0 ∷ []) 4096; expected = refuses 11 (byte 0) }
+    ∷ record { source = C; call = read grammarC recordC 4096; expected = handsOut 4 (3 ∷ 4 ∷ 3 ∷ 0 ∷ 0 ∷ 1 ∷ 0 ∷ 0 ∷ 0 ∷ 1 ∷ 0 ∷ 0 ∷ 0 ∷ 1 ∷ 0 ∷ 0 ∷ []) (VArray (vcons VConstant (vcons VConstant (vcons VConstant vnil)))) }
+    ∷ record { source = C; call = read grammarC recordC 3; expected = refuses 8 (byte 0) }
     -- a count of 2^64 − 1
-    ∷ record { letter = C; call = read grammarC (0xff ∷ 0xff ∷ 0xff ∷ 0xff ∷ 0xff ∷ 0xff ∷ 0xff ∷ 0xff ∷ []) 4096; expected = refuses 8 (byte 0) }
-    ∷ record { letter = C; call = read grammarC (3 ∷ 0 ∷ 0 ∷ 0 ∷ 0 ∷ 0 ∷ 0 ∷ []) 4096; expected = refuses 9 (byte 0) }
-    ∷ record { letter = D; call = read grammarD (0 ∷ 0 ∷ 0 ∷ 0 ∷ 0 ∷ 0 ∷ 0 ∷ 0 ∷ []) 4096; expected = refuses 10 (byte 0) }
-    ∷ record { letter = D; call = read grammarD [] 4096; expected = refuses 9 (byte 0) }
-    ∷ record { letter = E; call = read grammarE (1 ∷ 0 ∷ 0 ∷ 0 ∷ 0 ∷ 0 ∷ 0 ∷ 0 ∷ 0x78 ∷ 0x56 ∷ 0x34 ∷ 0x12 ∷ []) 4096; expected = handsOut 1 (6 ∷ 1 ∷ 1 ∷ 8 ∷ []) (VUint32Array (305419896 ∷ [])) }
+    ∷ record { source = C; call = read grammarC (0xff ∷ 0xff ∷ 0xff ∷ 0xff ∷ 0xff ∷ 0xff ∷ 0xff ∷ 0xff ∷ []) 4096; expected = refuses 8 (byte 0) }
+    ∷ record { source = C; call = read grammarC (3 ∷ 0 ∷ 0 ∷ 0 ∷ 0 ∷ 0 ∷ 0 ∷ []) 4096; expected = refuses 9 (byte 0) }
+    ∷ record { source = D; call = read grammarD (0 ∷ 0 ∷ 0 ∷ 0 ∷ 0 ∷ 0 ∷ 0 ∷ 0 ∷ []) 4096; expected = refuses 10 (byte 0) }
+    ∷ record { source = D; call = read grammarD [] 4096; expected = refuses 9 (byte 0) }
+    ∷ record { source = E; call = read grammarE (1 ∷ 0 ∷ 0 ∷ 0 ∷ 0 ∷ 0 ∷ 0 ∷ 0 ∷ 0x78 ∷ 0x56 ∷ 0x34 ∷ 0x12 ∷ []) 4096; expected = handsOut 1 (6 ∷ 1 ∷ 1 ∷ 8 ∷ []) (VUint32Array (305419896 ∷ [])) }
     -- a count of 2^62
-    ∷ record { letter = E; call = read grammarE (0 ∷ 0 ∷ 0 ∷ 0 ∷ 0 ∷ 0 ∷ 0 ∷ 0x40 ∷ 0x78 ∷ 0x56 ∷ 0x34 ∷ 0x12 ∷ []) 4096; expected = refuses 9 (byte 0) }
-    ∷ record { letter = F; call = check (1 ∷ 4 ∷ 0 ∷ 1 ∷ 1 ∷ 0 ∷ []); expected = refuses 5 (word 5) }
-    ∷ record { letter = F; call = check (grammarF 256); expected = passes }
-    ∷ record { letter = F; call = check (grammarF 257); expected = refuses 1 (word 0) }
-    -- −1, and the least 32-bit number
-    ∷ record { letter = Req01; call = read grammarInt32 (0xff ∷ 0xff ∷ 0xff ∷ 0xff ∷ []) 4096; expected = handsOut 1 (9 ∷ 1 ∷ 4294967295 ∷ 0 ∷ []) (VInt32 (negsuc 0)) }
-    ∷ record { letter = Req01; call = readSigned grammarInt32 (0xff ∷ 0xff ∷ 0xff ∷ 0xff ∷ []) 0; expected = isNumber (negsuc 0) }
-    ∷ record { letter = Req01; call = read grammarInt32 (0 ∷ 0 ∷ 0 ∷ 0x80 ∷ []) 4096; expected = handsOut 1 (9 ∷ 1 ∷ 2147483648 ∷ 0 ∷ []) (VInt32 (negsuc 2147483647)) }
-    ∷ record { letter = Req01; call = readSigned grammarInt32 (0 ∷ 0 ∷ 0 ∷ 0x80 ∷ []) 0; expected = isNumber (negsuc 2147483647) }
+    ∷ record { source = E; call = read grammarE (0 ∷ 0 ∷ 0 ∷ 0 ∷ 0 ∷ 0 ∷ 0 ∷ 0x40 ∷ 0x78 ∷ 0x56 ∷ 0x34 ∷ 0x12 ∷ []) 4096; expected = refuses 9 (byte 0) }
+    ∷ record { source = F; call = check (1 ∷ 4 ∷ 0 ∷ 1 ∷ 1 ∷ 0 ∷ []); expected = refuses 5 (word 5) }
+    ∷ record { source = F; call = check (grammarF 256); expected = passes }
+    ∷ record { source = F; call = check (grammarF 257); expected = refuses 1 (word 0) }
+    -- −1, the least 32-bit number, and −1 in 64 bits
+    ∷ record { source = Req01; call = read (grammarOf 9) minusOne32 4096; expected = handsOut 1 (9 ∷ 1 ∷ 4294967295 ∷ 0 ∷ []) (VInt32 (negsuc 0)) }
+    ∷ record { source = Req01; call = readSigned (grammarOf 9) minusOne32 0; expected = isNumber (negsuc 0) }
+    ∷ record { source = Req01; call = read (grammarOf 9) (0 ∷ 0 ∷ 0 ∷ 0x80 ∷ []) 4096; expected = handsOut 1 (9 ∷ 1 ∷ 2147483648 ∷ 0 ∷ []) (VInt32 (negsuc 2147483647)) }
+    ∷ record { source = Req01; call = readSigned (grammarOf 9) (0 ∷ 0 ∷ 0 ∷ 0x80 ∷ []) 0; expected = isNumber (negsuc 2147483647) }
+    ∷ record { source = Req01; call = read (grammarOf 10) minusOne64 4096; expected = handsOut 1 (10 ∷ 1 ∷ 18446744073709551615 ∷ 0 ∷ []) (VInt64 (negsuc 0)) }
+    ∷ record { source = Req01; call = readSigned (grammarOf 10) minusOne64 0; expected = isNumber (negsuc 0) }
+    -- kinds 1 and 2 have the same bytes and no signed number, and there is no row 1
+    ∷ record { source = Req01; call = readSigned (grammarOf 1) minusOne32 0; expected = refuses 20 (row 0) }
+    ∷ record { source = Req01; call = readSigned (grammarOf 2) minusOne64 0; expected = refuses 20 (row 0) }
+    ∷ record { source = Req01; call = readSigned (grammarOf 9) minusOne32 1; expected = refuses 20 (row 1) }
+    ∷ record { source = Req01; call = check (grammarOf 11); expected = refuses 3 (word 1) }
     ∷ []
 
 -- every call of the list answers as expected

@@ -12,7 +12,7 @@ use Rattle.refusal.specs.Meaning.{outcomeOf}
 use Rattle.packed.specs.Packed.{Bytes, Below, unpackLittleEndian, unpackLittleEndianSeq, packLittleEndian, packLittleEndianSeq, unpackAt, unpackSeqAt, room, put, putAt}
 use Rattle.packed.specs.Meaning.{unpackedU32, unpackedU64}
 use Rattle.value.specs.Tree.{G, Val, Vals, VConstant, VArray, VTuple, VCase, vnil, vcons, VUint32, VUint64, VByteArray, VUint32Array, VUint64Array, seqV, ValInGrammar, ValidGrammar, CountsBelow, TypedVal, ValueOf, SizeOfV, rowCount}
-use Rattle.value.specs.Signed.{patternOf, VInt32, VInt64}
+use Rattle.value.specs.Signed.{signedOf, patternOf, InRange, TwosComplement, GInt32, GInt64, VInt32, VInt64}
 use Rattle.value.specs.Bytes.{bytesOf, bytesOfAll}
 use Rattle.value.specs.Step.{Step}
 use Rattle.value.specs.Reading.{State}
@@ -25,7 +25,7 @@ use Rattle.rows.specs.Layout.{rowsOf}
 use Rattle.rows.specs.Walk.{walk}
 use Rattle.rows.specs.Rule.{TableOf}
 use Rattle.rows.specs.Size.{computeSizeOf}
-use Rattle.rows.specs.Locate.{locateArray}
+use Rattle.rows.specs.Locate.{lookUp, locateArray}
 use Rattle.rows.specs.Meaning.{sizeOf, located}
 use Rattle.rows.specs.declared.SizeOf.{SizeOf}
 use Rattle.signed.specs.Signed.{signedNumberOf}
@@ -40,7 +40,7 @@ use Rattle.sizing.specs.Writes.{marshallValOf, Writes}
 use Rattle.writing.specs.Marshall.{Marshalls}
 use Rattle.route.specs.Rewriting.{rewriteOf, Rewrites}
 use Rattle.comparing.specs.SameRoute.{NamedReason, sameRouteOf, readBoth, Compares}
-use Rattle.route.specs.Refusals.{Refuses, NoRoom, NotThere, RowsRefused, LocatorRefused, SignedRefused, ReadingRefused, WholeRefused, WritingRefused, RewritingRefused, RouteRefused, Listed, Lists, unnamed}
+use Rattle.route.specs.Refusals.{Refuses, NoRoom, NotThere, RowsRefused, LookUpRefused, LocatorRefused, SignedRefused, ReadingRefused, WholeRefused, WritingRefused, RewritingRefused, RouteRefused, Listed, Lists, unnamed}
 use Rattle.comparing.specs.declared.SameRoute.{SameRoute}
 
 -- ==== Demand 1. "Every call is defined on every input: no grammar, record, row table or index is assumed sound, each call comes to an end"
@@ -75,6 +75,8 @@ pub record Demand1 : Type 0 where
   pub unpackersSeq : (w : ℕ) (s : List ℕ) (index len : ℕ) → Refuses (NotThere (length s) index (w * len)) (unpackSeqAt w s index len)
   -- `check_rows`
   pub rows : (t : List ℕ) (n : ℕ) (s : List ℕ) → Refuses (RowsRefused t n s) (walk t n s)
+  -- `find_row`, whose refusal's number is the caller's
+  pub rowFound : (m : ℕ) (t : List ℕ) (n : ℕ) (s : List ℕ) (i : ℕ) → Refuses (LookUpRefused m (λ _. Unit {0}) t n s i) (lookUp m t n s i)
   -- `compute_size_of`
   pub sizes : (t : List ℕ) (n : ℕ) (s : List ℕ) → Refuses (RowsRefused t n s) (computeSizeOf t n s)
   -- `locate_array`; `array_bytes` gives the empty part where it refuses
@@ -185,6 +187,13 @@ SignedAgrees =
     (t s : List ℕ) (n i : ℕ) (r : SignedNumber) → Below (2 ^ 64) t → Bytes s → signedNumber r ≡ signedNumberOf t n s i
     → (z : ℤ) → (signedNumber r ≡ accepted z) ↔ NumberOf t n s i z
 
+-- "in two's complement ... with one fact over the width" (document 02), at w bytes: each pattern is that of its number, which is in range, no
+-- two have the same number, and each number in range has one. No call is in it
+pub record SignedRule (w : ℕ) : Type 0 where
+  pub number : (p : ℕ) → p < 256 ^ w → TwosComplement w p (signedOf w p)
+  pub oneToOne : (p q : ℕ) → p < 256 ^ w → q < 256 ^ w → signedOf w p ≡ signedOf w q → p ≡ q
+  pub pattern : (z : ℤ) → InRange w z → (patternOf w z < 256 ^ w) × (signedOf w (patternOf w z) ≡ z)
+
 -- document 01's byte rule, kind by kind, with document 02's kinds 9 and 10, whose bytes are those of the number's pattern: numbers, counts and
 -- tags as PI's sum packs them, elements and fields one behind the other
 pub record ByteRule : Type 0 where
@@ -209,6 +218,9 @@ pub record RuleStands : Type 0 where
   pub parses : (g : G) (v : Val) → ValueOf g v → (rest : List ℕ) → parseVal (bytesOf v ++ rest) g ≡ (some v, rest)
   pub parsed : (g : G) → ValidGrammar g → (d : List ℕ) → Bytes d → (v : Val) (rest : List ℕ) → parseVal d g ≡ (some v, rest) → (d ≡ bytesOf v ++ rest) × ValueOf g v
   pub size : (v : Val) → length (bytesOf v) ≡ SizeOfV v
+  -- the numbers of kinds 9 and 10 are values of these kinds, all that are in range
+  pub int32 : (z : ℤ) → InRange 4 z → ValueOf GInt32 (VInt32 z)
+  pub int64 : (z : ℤ) → InRange 8 z → ValueOf GInt64 (VInt64 z)
 
 -- "writing" and "the bytes written are those of its byte rule": `marshall_val` is accepted exactly where the rows stand for a value
 -- (`RowsAgree`) and none of 1 to 6 and 12 to 17 is to be given, and puts that value's bytes. `marshall` is the same at index 0. A writer that
@@ -251,6 +263,7 @@ pub record Demand2 : Type 0 where
   pub rowsAgree : RowsAgree
   pub sizesAgree : SizesAgree
   pub signedAgrees : SignedAgrees
+  pub signedRule : (w : ℕ) → 0 < w → SignedRule w
   pub ruleStands : RuleStands
   pub writesTheRule : WritesTheRule
   pub numbersAgree : (w : ℕ) → NumbersAgree w

@@ -2,15 +2,13 @@
 -- it is given for, where nothing before it is given, or takes over the refusals of a step. 1 to 5 are the grammar's `FirstRefusal`; 19 is
 -- given by the program only.
 use mathlib.Core.Path.{_≡_}
-use mathlib.Core.Logic.{_↔_}
-use mathlib.Core.Bool.{true}
+use mathlib.Core.Logic.{_↔_, _⊎_}
 use mathlib.Core.Option.{none, some}
 use mathlib.Core.List.{List, []}
 use Prim.Native.Nat.{ℕ, _+_, _*_, _≤_, _<_}
 use lib.ListN.{length, drop}
 use Rattle.refusal.specs.Outcome.{Outcome, accepted, refused, word, byte, row, Reason, reason}
-use Rattle.value.specs.Kinds.{Number, numberKind, Elements, elementWidth, elementsKind}
-use Rattle.value.specs.Signed.{isSigned}
+use Rattle.value.specs.Kinds.{Elements, elementWidth, elementsKind}
 use Rattle.value.specs.Tree.{Val, ValInGrammar, SizeOfV, rowCount}
 use Rattle.value.specs.Step.{Step}
 use Rattle.value.specs.Reading.{State}
@@ -67,7 +65,7 @@ IsArray w = (k : Elements) × (w ≡ elementsKind k)
 
 -- kinds 9 and 10
 abbrev pub IsSigned : ℕ → Type 0
-IsSigned w = (k : Number) × (isSigned k ≡ true) × (w ≡ numberKind k)
+IsSigned w = (w ≡ 9) ⊎ (w ≡ 10)
 
 -- the locator
 abbrev pub LocatorRefused : List ℕ → ℕ → List ℕ → ℕ → Reason → Type 0

@@ -122,9 +122,12 @@ kind-word w h = go (decLt w (length kinds))
     go (yes l) = sym (word-in kinds 0 w refl l ∙ omega arith)
     go (no l) = absurd (h (kind-other w (omega arith)))
 
+pub class-word : (w : ℕ) {c : Kind} → (c ≡ other → ⊥) → kindOf w ≡ c → w ≡ wordOf c
+class-word w n e = kind-word w (λ o. n (sym e ∙ o)) ∙ ap wordOf e
+
 -- so the kind word of a row that keeps its rule is its class's
 kind-is : (r : Row) {c : Kind} → kindOf (r .kind) ≡ c → keepsRule c r ≡ true → r .kind ≡ wordOf c
-kind-is r e h = kind-word (r .kind) (λ o. let z : false ≡ true = ap (λ (k : Kind). keepsRule k r) (sym o ∙ e) ∙ h in let y : _≡_ {A = ℕ} 0 1 = cc in omega arith) ∙ ap wordOf e
+kind-is r {c} e h = class-word (r .kind) (λ o. let z : false ≡ true = ap (λ (k : Kind). keepsRule k r) (sym o) ∙ h in let y : _≡_ {A = ℕ} 0 1 = cc in omega arith) e
 
 -- past the end of a table of words stands 0
 word-below : (t : List ℕ) → Below (2 ^ 64) t → (j : ℕ) → getD t j 0 < 2 ^ 64

@@ -6,8 +6,8 @@ use Rattle.value.specs.Kinds.{numberKind, elementsKind}
 use Rattle.value.specs.Tree.{Val, Vals, VConstant, VNumber, VArray, VTuple, VNumberArray, VCase, vnil, vcons, seqV, SizeOfV, rowCount}
 use Rattle.tables.specs.Row.{Row, rowWords}
 
--- the row of v itself. Word 2 is 0 for a constant, the number, the element count, or the tag; word 3 is the place of the first
--- element for kinds 5 to 7, else 0
+-- the row of v itself. Word 2 is 0 for a constant, the number, of kinds 9 and 10 its pattern, the element count, or the tag; word 3 is the
+-- place of the first element for kinds 5 to 7, else 0
 unfoldable pub ownRow : Val → ℕ → Row
 ownRow VConstant place = record { kind = 0; span = rowCount VConstant; word2 = 0; word3 = 0 }
 ownRow (VNumber k n) place = record { kind = numberKind k; span = rowCount (VNumber k n); word2 = n; word3 = 0 }

@@ -39,8 +39,8 @@ module _ (m : Width) (w : ℕ) (positive : 0 < w) (same : 2 ^ hbits m ≡ half w
 
 -- a 32-bit number kept in 64 bits
 module _ (z : ℤ) (f : SFits w32 z) where
-  pub wider-fits : SFits w64 (toZ w32 (ofZ w32 z))
-  wider-fits = rw (toZ-ofZ w32 z f) (sfits-widen {w = w32} {w′ = w64} tt f)
+  pub widened-fits : SFits w64 (toZ w32 (ofZ w32 z))
+  widened-fits = rw (toZ-ofZ w32 z f) (sfits-widen {w = w32} {w′ = w64} tt f)
 
-  pub wider : toZ w64 (ofZ w64 (toZ w32 (ofZ w32 z))) ≡ z
-  wider = toZ-ofZ w64 (toZ w32 (ofZ w32 z)) wider-fits ∙ toZ-ofZ w32 z f
+  pub widened : toZ w64 (ofZ w64 (toZ w32 (ofZ w32 z))) ≡ z
+  widened = toZ-ofZ w64 (toZ w32 (ofZ w32 z)) widened-fits ∙ toZ-ofZ w32 z f

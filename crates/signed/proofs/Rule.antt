@@ -17,7 +17,7 @@ use Rattle.tables.specs.Row.{Row, rowAt}
 use Rattle.rows.specs.Walk.{keepsRule, walk}
 use Rattle.rows.specs.Locate.{lookUp}
 use Rattle.rows.proofs.Laws.{number-below}
-use Rattle.rows.proofs.Rule.{wordOf, kind-word, accepted-exactly}
+use Rattle.rows.proofs.Rule.{class-word, accepted-exactly}
 use Rattle.rows.proofs.Size.{table-rule}
 use Rattle.rows.proofs.Calls.{ends-bind, Found, found}
 use Rattle.signed.specs.Signed.{signedOfRow, signedNumberOf}
@@ -51,7 +51,7 @@ module _ (t : List ℕ) (n : ℕ) (s : List ℕ) (i : ℕ) (z : ℤ) (words : Be
         below = f .below;
         kind = x .0;
         signed = x .1;
-        word = kind-word (rowAt t i .kind) (λ o. let c : number (x .0) ≡ other = sym (x .2) ∙ o in let y : _≡_ {A = ℕ} 0 1 = cc in omega arith) ∙ ap wordOf (x .2);
+        word = class-word (rowAt t i .kind) (λ o. let y : _≡_ {A = ℕ} 0 1 = cc in omega arith) (x .2);
         number = subst (TwosComplement (width (x .0)) (rowAt t i .word2)) (sym (x .3)) (twos-complement (width (x .0)) (rowAt t i .word2) (width-positive (x .0)) l);
       }
 

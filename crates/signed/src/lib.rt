@@ -16,7 +16,8 @@ pub enum SignedNumber {
     Refused(Refusal),
 }
 
-// The number of a pattern of 4 bytes. From half on it is −1 less what is missing to the largest pattern, which no cast loses.
+// The number of a pattern of 4 bytes. A pattern from half on does not fit the cast: its number is −1 less what it lacks to the
+// largest.
 fn signed32(pattern: u32) -> i32
     ensures { λ r. ⌜ r ≡ signedOf 4 pattern ⌝ }
 {

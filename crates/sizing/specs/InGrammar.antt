@@ -7,7 +7,7 @@ use Rattle.refusal.specs.Outcome.{Outcome, accepted, bind, test, Reason, reason
 use Rattle.value.specs.Kinds.{numberKind, elementsKind}
 use Rattle.value.specs.Tree.{G, Gs, GConstant, GNumber, GArray, GTuple, GNumberArray, GTaggedUnion, gnil, gcons, Val, Vals, VConstant, VNumber, VArray, VTuple, VNumberArray, VCase, vnil, vcons, seqG, seqV, caseAt, rowCount}
 
--- document 01's number of a grammar's kind
+-- the papers' number of a grammar's kind
 abbrev pub kindNumber : G → ℕ
 kindNumber GConstant = 0
 kindNumber (GNumber k) = numberKind k

@@ -1,16 +1,16 @@
 -- Two's complement over the width: each pattern has one number in range, and each number in range one pattern.
 use mathlib.Core.Path.{_≡_, refl, sym, ap, _∙_}
 use mathlib.Core.List.{[], _∷_}
-use Prim.Native.Nat.{ℕ, zero, suc, _+_, _-_, _*_, _/_, _^_, _≤_, _<_}
+use Prim.Native.Nat.{ℕ, zero, suc, _+_, _-_, _^_, _≤_, _<_}
 use native.Mathlib.Nat.{pow-suc}
 use native.Mathlib.Decide.{decLe}
 use native.Mathlib.Omega.{arith}
-use lib.IntN.{ℤ, pos, negsuc, subℕ}
+use lib.IntN.{ℤ, pos, negsuc}
 use borrow.Author.Tests.{lt-ltb, le-ltb}
 use Rattle.packed.specs.Packed.{packLittleEndian}
-use Rattle.value.specs.Tree.{VUint32}
+use Rattle.value.specs.Tree.{VUint32, VUint64, inNumber, ValidVal, TypedVal, ValueOf}
 use Rattle.value.specs.Bytes.{bytesOf}
-use Rattle.value.specs.Signed.{half, signedOf, patternOf, InRange, TwosComplement, VInt32, VInt64}
+use Rattle.value.specs.Signed.{half, signedOf, patternOf, InRange, TwosComplement, GInt32, GInt64, VInt32, VInt64}
 
 -- the ends of both widths, and zero
 pub ends-int32 : (signedOf 4 0 ≡ pos 0) × (signedOf 4 2147483647 ≡ pos 2147483647) × (signedOf 4 2147483648 ≡ negsuc 2147483647) × (signedOf 4 4294967295 ≡ negsuc 0)
@@ -52,6 +52,10 @@ twos-complement-only w p z h = go (decLe (half w) p)
     go (yes a) = h .high a ∙ rw (le-ltb p (half w) a)
     go (no a) = h .low (omega arith) ∙ sym (signed-low w p (omega arith))
 
+-- so no two patterns have the same number
+pub signed-one-to-one : (w p q : ℕ) → 0 < w → p < 256 ^ w → q < 256 ^ w → signedOf w p ≡ signedOf w q → p ≡ q
+signed-one-to-one w p q h l m e = sym (twos-complement w p h l .pattern) ∙ ap (patternOf w) e ∙ twos-complement w q h m .pattern
+
 -- every number in range has such a pattern
 pub pattern-signed : (w : ℕ) (z : ℤ) → 0 < w → InRange w z → (patternOf w z < 256 ^ w) × (signedOf w (patternOf w z) ≡ z)
 unfolding patternOf
@@ -66,7 +70,20 @@ pub bytes-of-minus-3 : (bytesOf (VInt32 (negsuc 2)) ≡ 253 ∷ 255 ∷ 255 ∷ 
 unfolding bytesOf patternOf packLittleEndian
 bytes-of-minus-3 = (refl, refl)
 
--- numbers of kinds 1 and 9 may have the same bytes, and are two values
-pub kinds-apart : (bytesOf (VUint32 5) ≡ bytesOf (VInt32 (pos 5))) × (VUint32 5 ≡ VInt32 (pos 5) → ⊥)
+-- every number in range is a value of its kind
+pub value-int32 : (z : ℤ) → InRange 4 z → ValueOf GInt32 (VInt32 z)
+unfolding ValidVal TypedVal
+value-int32 z r = record { inGrammar = inNumber; valid = tt; typed = pattern-signed 4 z (omega arith) r .0 }
+
+pub value-int64 : (z : ℤ) → InRange 8 z → ValueOf GInt64 (VInt64 z)
+unfolding ValidVal TypedVal
+value-int64 z r = record { inGrammar = inNumber; valid = tt; typed = pattern-signed 8 z (omega arith) r .0 }
+
+-- numbers of kinds 1 and 9, and of 2 and 10, may have the same bytes, and are two values
+pub kinds-apart-32 : (bytesOf (VUint32 5) ≡ bytesOf (VInt32 (pos 5))) × (VUint32 5 ≡ VInt32 (pos 5) → ⊥)
 unfolding bytesOf patternOf
-kinds-apart = (refl, λ e. let z : _≡_ {A = ℕ} 0 1 = cc in omega arith)
+kinds-apart-32 = (refl, λ e. let z : _≡_ {A = ℕ} 0 1 = cc in omega arith)
+
+pub kinds-apart-64 : (bytesOf (VUint64 5) ≡ bytesOf (VInt64 (pos 5))) × (VUint64 5 ≡ VInt64 (pos 5) → ⊥)
+unfolding bytesOf patternOf
+kinds-apart-64 = (refl, λ e. let z : _≡_ {A = ℕ} 0 1 = cc in omega arith)

@@ -1,4 +1,4 @@
--- The byte rule of document 01.
+-- The byte rule of document 01; a signed number of document 02 has the bytes of its pattern.
 use mathlib.Core.Path.{_≡_}
 use mathlib.Core.List.{List, [], _++_}
 use Prim.Native.Nat.{ℕ}

@@ -5,7 +5,7 @@ use lib.ListN.{length, getD}
 use Rattle.packed.specs.Packed.{Below}
 use Rattle.value.specs.Kinds.{Number, uint32, uint64, width, Elements, bytes, uint32s, uint64s, elementWidth}
 
--- GM's datatype G; Gs is seq<G>
+-- GM's datatype G, by classes, with document 02's numbers of kinds 9 and 10; Gs is seq<G>
 mutual
   pub data G : Type 0 where
     GConstant : G
@@ -19,7 +19,7 @@ mutual
     gnil : Gs
     gcons : G → Gs → Gs
 
--- GM's datatype V (`V` is a reserved word here); Vals is seq<V>
+-- GM's datatype V likewise (`V` is a reserved word here); Vals is seq<V>
 mutual
   pub data Val : Type 0 where
     VConstant : Val
@@ -125,7 +125,7 @@ unfoldable mutual
   ValidVals vnil = Unit {0}
   ValidVals (vcons v vs) = ValidVal v × ValidVals vs
 
--- what Dafny's types uint32, uint64 and byte say of a V: each number is below 256 to the power of its width, a tag below 2^64
+-- what Dafny's types uint32, uint64 and byte say of a V, and the same of a signed number's pattern: each number is below 256 to the power of its width, a tag below 2^64
 unfoldable mutual
   pub TypedVal : Val → Type 0
   TypedVal VConstant = Unit {0}

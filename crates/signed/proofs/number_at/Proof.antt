@@ -13,7 +13,7 @@ use Rattle.tables.specs.Row.{Row, rowAt}
 use Rattle.rows.specs.Walk.{keepsRule}
 use Rattle.rows.proofs.Laws.{number-below, by-kind, by-other}
 use Rattle.signed.specs.Signed.{signedOfRow}
-use Rattle.signed.proofs.Laws.{wider-fits, wider}
+use Rattle.signed.proofs.Laws.{widened-fits, widened}
 use borrow.Author.Needs.{needs}
 use Rattle.signed.proofs.number_at.Statement.{statement}
 use Rattle.signed.proofs.number_at.Tie as tie
@@ -80,7 +80,7 @@ signed32-requires : tie.Need-signed32-requires
 signed32-requires c κs = search needs
 
 cast-t8 : tie.Need-cast-t8
-cast-t8 c = wider-fits (c .signed32 .result) (record { sfits = c .signed32 .ok })
+cast-t8 c = widened-fits (c .signed32 .result) (record { sfits = c .signed32 .ok })
 
 signed64-requires : tie.Need-signed64-requires
 signed64-requires c κs = search needs
@@ -126,7 +126,7 @@ returns-9 c = c .not-signed9 .ensures ∙ arm (c .before .before) (c .before .ma
 
 returns-10 : tie.Need-returns-10
 unfolding kindOf kinds signedOfRow
-returns-10 c = ap accepted (wider (c .signed32 .result) (record { sfits = c .signed32 .ok }) ∙ c .signed32 .ensures) ∙ as-read (c .before .before) 4 ∙ arm (c .before .before) (c .before .match .keys10) refl
+returns-10 c = ap accepted (widened (c .signed32 .result) (record { sfits = c .signed32 .ok }) ∙ c .signed32 .ensures) ∙ as-read (c .before .before) 4 ∙ arm (c .before .before) (c .before .match .keys10) refl
 
 returns-11 : tie.Need-returns-11
 unfolding kindOf kinds signedOfRow
