@@ -50,7 +50,7 @@ oneValue n = values n 0
 
 -- a signed number as its 64-bit pattern, which C casts to int64_t
 abbrev pub signedValue : ℤ → Values
-signedValue z = values (patternOf 8 z) 0
+signedValue z = oneValue (patternOf 8 z)
 
 -- a part of the store: its first byte, and how many
 abbrev pub partValues : Part → Values

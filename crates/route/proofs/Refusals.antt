@@ -1,6 +1,6 @@
 -- When each definition refuses (specs/Refusals.antt), proved in both directions.
 use mathlib.Core.Path.{_≡_, refl, sym, ap, subst, _∙_}
-use mathlib.Core.Logic.{_↔_, inl, inr, ⊎-elim}
+use mathlib.Core.Logic.{_↔_, _⊎_, inl, inr, ⊎-elim}
 use mathlib.Core.Bool.{Bool, true, false}
 use mathlib.Core.Option.{none, some}
 use mathlib.Core.List.{List}
@@ -15,7 +15,7 @@ use Rattle.refusal.proofs.Outcome.{Post, holds, fails, post-bind, post-test, po
 use Rattle.refusal.proofs.Tests.{refuted, reflects-leb, reflects-ltb, reflects-eqb, reflects-and}
 use Rattle.packed.specs.Packed.{present, room}
 use Rattle.packed.proofs.Calls.{present-index, present-inside, room-fits}
-use Rattle.value.specs.Kinds.{Number, uint32, uint64, int32, int64, width, numberKind, Elements, elementWidth, elementsKind, Kind, kindOf, constant, number, array, tuple, elements, union, other}
+use Rattle.value.specs.Kinds.{Number, uint32, uint64, int32, int64, width, numberKind, Elements, bytes, uint32s, uint64s, elementWidth, elementsKind, Kind, kindOf, constant, number, array, tuple, elements, union, other}
 use Rattle.value.specs.Tree.{G, Gs, GConstant, GNumber, GArray, GTuple, GNumberArray, GTaggedUnion, gnil, gcons, Val, VNumber, VArray, VTuple, VNumberArray, VCase, vcons, ValInGrammar, SizeOfV, rowCount}
 use Rattle.value.specs.Step.{Step, next, give, elements as elementsOf}
 use Rattle.value.specs.Parse.{Parse, pair}
@@ -219,14 +219,22 @@ unfolding elementsPart
 array-decides w = go (kindOf w) refl
   where
     no : {c : Kind} → kindOf w ≡ c → ((k : Elements) → c ≡ elements k → ⊥) → IsArray w → ⊥
-    no e f x = f (x .0) (sym e ∙ ap kindOf (x .1) ∙ elements-kind (x .0))
+    no {c} e f x = ⊎-elim (of bytes) (λ (y : (w ≡ 6) ⊎ (w ≡ 7)). ⊎-elim (of uint32s) (of uint64s) y) x
+      where
+        of : (k : Elements) → w ≡ elementsKind k → ⊥
+        of k h = f k (sym e ∙ ap kindOf h ∙ elements-kind k)
+
+    word : (k : Elements) → w ≡ elementsKind k → IsArray w
+    word bytes h = inl h
+    word uint32s h = inr (inl h)
+    word uint64s h = inr (inr h)
 
     go : (c : Kind) → kindOf w ≡ c → Decides elementsPart IsArray w
     go constant e = leaves (λ r f. rw e) (no e (λ k h. let z : _≡_ {A = ℕ} 0 1 = cc in omega arith))
     go (number j) e = leaves (λ r f. rw e) (no e (λ k h. let z : _≡_ {A = ℕ} 0 1 = cc in omega arith))
     go array e = leaves (λ r f. rw e) (no e (λ k h. let z : _≡_ {A = ℕ} 0 1 = cc in omega arith))
     go tuple e = leaves (λ r f. rw e) (no e (λ k h. let z : _≡_ {A = ℕ} 0 1 = cc in omega arith))
-    go (elements k) e = takes (λ r f. (record { start = r .word3; size = elementWidth k * r .word2 }, rw e)) (k, elements-word w e)
+    go (elements k) e = takes (λ r f. (record { start = r .word3; size = elementWidth k * r .word2 }, rw e)) (word k (elements-word w e))
     go union e = leaves (λ r f. rw e) (no e (λ k h. let z : _≡_ {A = ℕ} 0 1 = cc in omega arith))
     go other e = leaves (λ r f. rw e) (no e (λ k h. let z : _≡_ {A = ℕ} 0 1 = cc in omega arith))
 

@@ -40,6 +40,6 @@ pub record NumberZero : Type 0 where
   -- yes and no
   pub routes : (g first second : List ℕ) (o : Outcome NamedReason Bool) → Compares g first second o → (sameAnswerOf o .number ≡ 0) ↔ IsAccepted o
 
--- of a signed number C gets a 64-bit pattern of that number as its first word, so the cast to int64_t gives the number
+-- of a signed number C gets the 64-bit pattern of that number as its first word, so the cast to int64_t gives the number
 abbrev pub WordIsNumber : Type 0
 WordIsNumber = (t s : List ℕ) (n i : ℕ) (z : ℤ) → Below (2 ^ 64) t → Bytes s → signedNumberOf t n s i ≡ accepted z → signedOf 8 (answerOf (map signedValue (signedNumberOf t n s i)) .first) ≡ z

@@ -3,7 +3,7 @@
 use mathlib.Core.Path.{_≡_}
 use mathlib.Core.List.{List, [], _∷_, map}
 use Prim.Native.Nat.{ℕ, zero, suc}
-use lib.IntN.{ℤ, negsuc}
+use lib.IntN.{ℤ, pos, negsuc}
 use Rattle.refusal.specs.Outcome.{Outcome, accepted, refused, bind, Location, word, byte, row, Reason, reason}
 use Rattle.value.specs.Tree.{Val, VConstant, VArray, VTuple, VUint32, VByteArray, VUint32Array, vnil, vcons}
 use Rattle.value.specs.Signed.{VInt32, VInt64}
@@ -136,17 +136,23 @@ bench =
     ∷ record { source = F; call = check (1 ∷ 4 ∷ 0 ∷ 1 ∷ 1 ∷ 0 ∷ []); expected = refuses 5 (word 5) }
     ∷ record { source = F; call = check (grammarF 256); expected = passes }
     ∷ record { source = F; call = check (grammarF 257); expected = refuses 1 (word 0) }
-    -- −1, the least 32-bit number, and −1 in 64 bits
+    -- the two that document 02 prints, −1 and the least 32-bit number; what follows them is by its rule: −1 in 64 bits, zero and the other ends
     ∷ record { source = Req01; call = read (grammarOf 9) minusOne32 4096; expected = handsOut 1 (9 ∷ 1 ∷ 4294967295 ∷ 0 ∷ []) (VInt32 (negsuc 0)) }
     ∷ record { source = Req01; call = readSigned (grammarOf 9) minusOne32 0; expected = isNumber (negsuc 0) }
     ∷ record { source = Req01; call = read (grammarOf 9) (0 ∷ 0 ∷ 0 ∷ 0x80 ∷ []) 4096; expected = handsOut 1 (9 ∷ 1 ∷ 2147483648 ∷ 0 ∷ []) (VInt32 (negsuc 2147483647)) }
     ∷ record { source = Req01; call = readSigned (grammarOf 9) (0 ∷ 0 ∷ 0 ∷ 0x80 ∷ []) 0; expected = isNumber (negsuc 2147483647) }
     ∷ record { source = Req01; call = read (grammarOf 10) minusOne64 4096; expected = handsOut 1 (10 ∷ 1 ∷ 18446744073709551615 ∷ 0 ∷ []) (VInt64 (negsuc 0)) }
     ∷ record { source = Req01; call = readSigned (grammarOf 10) minusOne64 0; expected = isNumber (negsuc 0) }
+    ∷ record { source = Req01; call = readSigned (grammarOf 9) (0 ∷ 0 ∷ 0 ∷ 0 ∷ []) 0; expected = isNumber (pos 0) }
+    ∷ record { source = Req01; call = readSigned (grammarOf 9) (0xff ∷ 0xff ∷ 0xff ∷ 0x7f ∷ []) 0; expected = isNumber (pos 2147483647) }
+    ∷ record { source = Req01; call = readSigned (grammarOf 10) (0 ∷ 0 ∷ 0 ∷ 0 ∷ 0 ∷ 0 ∷ 0 ∷ 0 ∷ []) 0; expected = isNumber (pos 0) }
+    ∷ record { source = Req01; call = readSigned (grammarOf 10) (0xff ∷ 0xff ∷ 0xff ∷ 0xff ∷ 0xff ∷ 0xff ∷ 0xff ∷ 0x7f ∷ []) 0; expected = isNumber (pos 9223372036854775807) }
+    ∷ record { source = Req01; call = readSigned (grammarOf 10) (0 ∷ 0 ∷ 0 ∷ 0 ∷ 0 ∷ 0 ∷ 0 ∷ 0x80 ∷ []) 0; expected = isNumber (negsuc 9223372036854775807) }
     -- kinds 1 and 2 have the same bytes and no signed number, and there is no row 1
     ∷ record { source = Req01; call = readSigned (grammarOf 1) minusOne32 0; expected = refuses 20 (row 0) }
     ∷ record { source = Req01; call = readSigned (grammarOf 2) minusOne64 0; expected = refuses 20 (row 0) }
     ∷ record { source = Req01; call = readSigned (grammarOf 9) minusOne32 1; expected = refuses 20 (row 1) }
+    -- the first kind above 10
     ∷ record { source = Req01; call = check (grammarOf 11); expected = refuses 3 (word 1) }
     ∷ []
 

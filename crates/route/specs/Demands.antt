@@ -1,4 +1,5 @@
--- The three demands of 00-demands.md, as statements over the definitions that the contracts of the public calls cite. Above each part
+-- The three demands of 00-demands.md, with document 02's signed numbers, as statements over the definitions that the contracts of the public
+-- calls cite. Above each part
 -- stand the words that it says, and what would leave it empty; proofs/Demand1.antt to Demand3.antt prove them.
 use mathlib.Core.Path.{_≡_}
 use mathlib.Core.Logic.{_↔_}
@@ -94,7 +95,8 @@ pub record Demand1 : Type 0 where
   -- `same_route`, whose contract allows one answer
   pub routes : (g first second : List ℕ) → Refuses (RouteRefused g first second) (readBoth g first second)
   pub oneRoute : (g first second : List ℕ) (r q : SameRoute) → Compares g first second (sameRouteOf r) → Compares g first second (sameRouteOf q) → r ≡ q
-  -- every refusal given is one of the papers' tables, with its kind of place; which call gives which is said above. So none has number 0,
+  -- every refusal given, but for those of `find_row`, whose number is the caller's, is one of the papers' tables, with its kind of place;
+  -- which call gives which is said above. So none has number 0,
   -- which at the C interface is an accepted call
   pub listedGrammar : (g : List ℕ) → Lists (FirstRefusal g)
   pub listedRoom : (len index size : ℕ) → Lists (NoRoom len index size)
@@ -218,7 +220,7 @@ pub record RuleStands : Type 0 where
   pub parses : (g : G) (v : Val) → ValueOf g v → (rest : List ℕ) → parseVal (bytesOf v ++ rest) g ≡ (some v, rest)
   pub parsed : (g : G) → ValidGrammar g → (d : List ℕ) → Bytes d → (v : Val) (rest : List ℕ) → parseVal d g ≡ (some v, rest) → (d ≡ bytesOf v ++ rest) × ValueOf g v
   pub size : (v : Val) → length (bytesOf v) ≡ SizeOfV v
-  -- the numbers of kinds 9 and 10 are values of these kinds, all that are in range
+  -- every number in range is a value of its kind, 9 or 10
   pub int32 : (z : ℤ) → InRange 4 z → ValueOf GInt32 (VInt32 z)
   pub int64 : (z : ℤ) → InRange 8 z → ValueOf GInt64 (VInt64 z)
 

@@ -61,7 +61,7 @@ pub data LookUpRefused (m : ℕ) (Takes : ℕ → Type 0) (t : List ℕ) (n : �
 
 -- kinds 5, 6 and 7
 abbrev pub IsArray : ℕ → Type 0
-IsArray w = (k : Elements) × (w ≡ elementsKind k)
+IsArray w = (w ≡ 5) ⊎ ((w ≡ 6) ⊎ (w ≡ 7))
 
 -- kinds 9 and 10
 abbrev pub IsSigned : ℕ → Type 0

@@ -17,11 +17,11 @@ minus-one zero = refl
 minus-one (suc n) = ap (λ (x : ℕ). negsuc (suc x)) (zero-add n)
 
 module _ (m : Width) (w : ℕ) (positive : 0 < w) (same : 2 ^ hbits m ≡ half w) (p : ℕ) where
-  -- a pattern below half is the number's own
+  -- of a pattern below half the number is the pattern
   pub low : p < half w → toZ m p ≡ signedOf w p
   low h = toZ-pos m p (rw same h) ∙ sym (signed-low w p h)
 
-  -- another one is −1 less what is missing to the largest
+  -- of another one it is −1 − (largest pattern − pattern)
   module _ (largest : ℕ) (all : 256 ^ w ≡ suc largest) (h : half w ≤ p) (l : p < 256 ^ w) where
     small : largest - p < 2 ^ hbits m
     small = rw same (omega (arith, halves w positive))

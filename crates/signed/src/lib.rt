@@ -16,8 +16,7 @@ pub enum SignedNumber {
     Refused(Refusal),
 }
 
-// The number of a pattern of 4 bytes. A pattern from half on does not fit the cast: its number is −1 less what it lacks to the
-// largest.
+// The number of a pattern of 4 bytes. A pattern from half on does not fit the cast: its number is −1 − (largest pattern − pattern).
 fn signed32(pattern: u32) -> i32
     ensures { λ r. ⌜ r ≡ signedOf 4 pattern ⌝ }
 {

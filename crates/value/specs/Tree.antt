@@ -125,7 +125,8 @@ unfoldable mutual
   ValidVals vnil = Unit {0}
   ValidVals (vcons v vs) = ValidVal v × ValidVals vs
 
--- what Dafny's types uint32, uint64 and byte say of a V, and the same of a signed number's pattern: each number is below 256 to the power of its width, a tag below 2^64
+-- what Dafny's types uint32, uint64 and byte say of a V, and the same of a signed number's pattern: each number is below 256 to the power
+-- of its width, a tag below 2^64
 unfoldable mutual
   pub TypedVal : Val → Type 0
   TypedVal VConstant = Unit {0}
