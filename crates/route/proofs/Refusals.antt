@@ -1,6 +1,6 @@
 -- When each definition refuses (specs/Refusals.antt), proved in both directions.
 use mathlib.Core.Path.{_≡_, refl, sym, ap, subst, _∙_}
-use mathlib.Core.Logic.{_↔_, _⊎_, inl, inr, ⊎-elim}
+use mathlib.Core.Logic.{_↔_, inl, inr, ⊎-elim}
 use mathlib.Core.Bool.{Bool, true, false}
 use mathlib.Core.Option.{none, some}
 use mathlib.Core.List.{List}
@@ -20,7 +20,7 @@ use Rattle.value.specs.Tree.{G, Gs, GConstant, GNumber, GArray, GTuple, GNumber
 use Rattle.value.specs.Step.{Step, next, give, elements as elementsOf}
 use Rattle.value.specs.Parse.{Parse, pair}
 use Rattle.value.specs.Reading.{State, Stop, Reading, stop, start, begin, claim, claimed, free, takeNumber, takeNumbers, readBody, readFields, readCaseAt, readVal}
-use Rattle.value.specs.Signed.{signedOf}
+use Rattle.value.specs.Signed.{isSigned, signedOf}
 use Rattle.value.proofs.KindLaws.{number-kind, elements-kind, elementWidth-positive}
 use Rattle.value.proofs.Laws.{count-fits, pair-parsed}
 use Rattle.value.proofs.Agreement.{Agrees, same, neither, short, agrees}
@@ -214,15 +214,29 @@ module _ {A : Type 0} (m : ℕ) (part : Kind → Row → Reason → Outcome Reas
       back (ofRows {e = e} q) = rw (walk-refuses t n s e .1 q)
       back (notTaken v h k) = rw h (at (ltb i n) (ltb-true i n) k)
 
+-- a kind word whose class is not taken is not taken
+not-taken : (taken : Kind → Bool) (w : ℕ) {c : Kind} {P : Type 0} → (P → taken (kindOf w) ≡ true) → kindOf w ≡ c → taken c ≡ false → P → ⊥
+not-taken taken w f e n x = let t = sym (f x) ∙ ap taken e ∙ n in let z : _≡_ {A = ℕ} 0 1 = cc in omega arith
+
+-- the class that the locator takes
+abbrev hasElements : Kind → Bool
+hasElements constant = false
+hasElements (number k) = false
+hasElements array = false
+hasElements tuple = false
+hasElements (elements k) = true
+hasElements union = false
+hasElements other = false
+
 array-decides : (w : ℕ) → Decides elementsPart IsArray w
 unfolding elementsPart
 array-decides w = go (kindOf w) refl
   where
-    no : {c : Kind} → kindOf w ≡ c → ((k : Elements) → c ≡ elements k → ⊥) → IsArray w → ⊥
-    no {c} e f x = ⊎-elim (of bytes) (λ (y : (w ≡ 6) ⊎ (w ≡ 7)). ⊎-elim (of uint32s) (of uint64s) y) x
-      where
-        of : (k : Elements) → w ≡ elementsKind k → ⊥
-        of k h = f k (sym e ∙ ap kindOf h ∙ elements-kind k)
+    class : (k : Elements) → w ≡ elementsKind k → hasElements (kindOf w) ≡ true
+    class k h = ap hasElements (ap kindOf h ∙ elements-kind k)
+
+    no : {c : Kind} → kindOf w ≡ c → hasElements c ≡ false → IsArray w → ⊥
+    no e n = not-taken hasElements w (⊎-elim (class bytes) (⊎-elim (class uint32s) (class uint64s))) e n
 
     word : (k : Elements) → w ≡ elementsKind k → IsArray w
     word bytes h = inl h
@@ -230,35 +244,48 @@ array-decides w = go (kindOf w) refl
     word uint64s h = inr (inr h)
 
     go : (c : Kind) → kindOf w ≡ c → Decides elementsPart IsArray w
-    go constant e = leaves (λ r f. rw e) (no e (λ k h. let z : _≡_ {A = ℕ} 0 1 = cc in omega arith))
-    go (number j) e = leaves (λ r f. rw e) (no e (λ k h. let z : _≡_ {A = ℕ} 0 1 = cc in omega arith))
-    go array e = leaves (λ r f. rw e) (no e (λ k h. let z : _≡_ {A = ℕ} 0 1 = cc in omega arith))
-    go tuple e = leaves (λ r f. rw e) (no e (λ k h. let z : _≡_ {A = ℕ} 0 1 = cc in omega arith))
+    go constant e = leaves (λ r f. rw e) (no e refl)
+    go (number k) e = leaves (λ r f. rw e) (no e refl)
+    go array e = leaves (λ r f. rw e) (no e refl)
+    go tuple e = leaves (λ r f. rw e) (no e refl)
     go (elements k) e = takes (λ r f. (record { start = r .word3; size = elementWidth k * r .word2 }, rw e)) (word k (elements-word w e))
-    go union e = leaves (λ r f. rw e) (no e (λ k h. let z : _≡_ {A = ℕ} 0 1 = cc in omega arith))
-    go other e = leaves (λ r f. rw e) (no e (λ k h. let z : _≡_ {A = ℕ} 0 1 = cc in omega arith))
+    go union e = leaves (λ r f. rw e) (no e refl)
+    go other e = leaves (λ r f. rw e) (no e refl)
+
+-- the kinds that the signed number takes
+abbrev hasSign : Kind → Bool
+hasSign constant = false
+hasSign (number k) = isSigned k
+hasSign array = false
+hasSign tuple = false
+hasSign (elements k) = false
+hasSign union = false
+hasSign other = false
 
 signed-decides : (w : ℕ) → Decides signedOfRow IsSigned w
 unfolding signedOfRow
 signed-decides w = go (kindOf w) refl
   where
-    no : {c : Kind} → kindOf w ≡ c → (c ≡ number int32 → ⊥) → (c ≡ number int64 → ⊥) → IsSigned w → ⊥
-    no e f g x = ⊎-elim (λ (h : w ≡ 9). f (sym e ∙ ap kindOf h ∙ number-kind int32)) (λ (h : w ≡ 10). g (sym e ∙ ap kindOf h ∙ number-kind int64)) x
+    class : (k : Number) → isSigned k ≡ true → w ≡ numberKind k → hasSign (kindOf w) ≡ true
+    class k s h = ap hasSign (ap kindOf h ∙ number-kind k) ∙ s
+
+    no : {c : Kind} → kindOf w ≡ c → hasSign c ≡ false → IsSigned w → ⊥
+    no e n = not-taken hasSign w (⊎-elim (class int32 refl) (class int64 refl)) e n
 
     word : {k : Number} → kindOf w ≡ number k → w ≡ numberKind k
     word e = class-word w (λ o. let z : _≡_ {A = ℕ} 0 1 = cc in omega arith) e
 
     go : (c : Kind) → kindOf w ≡ c → Decides signedOfRow IsSigned w
-    go constant e = leaves (λ r f. rw e) (no e (λ h. let z : _≡_ {A = ℕ} 0 1 = cc in omega arith) (λ h. let z : _≡_ {A = ℕ} 0 1 = cc in omega arith))
-    go (number uint32) e = leaves (λ r f. rw e) (no e (λ h. let z : _≡_ {A = ℕ} 0 1 = cc in omega arith) (λ h. let z : _≡_ {A = ℕ} 0 1 = cc in omega arith))
-    go (number uint64) e = leaves (λ r f. rw e) (no e (λ h. let z : _≡_ {A = ℕ} 0 1 = cc in omega arith) (λ h. let z : _≡_ {A = ℕ} 0 1 = cc in omega arith))
+    go constant e = leaves (λ r f. rw e) (no e refl)
+    go (number uint32) e = leaves (λ r f. rw e) (no e refl)
+    go (number uint64) e = leaves (λ r f. rw e) (no e refl)
     go (number int32) e = takes (λ r f. (signedOf 4 (r .word2), rw e)) (inl (word e))
     go (number int64) e = takes (λ r f. (signedOf 8 (r .word2), rw e)) (inr (word e))
-    go array e = leaves (λ r f. rw e) (no e (λ h. let z : _≡_ {A = ℕ} 0 1 = cc in omega arith) (λ h. let z : _≡_ {A = ℕ} 0 1 = cc in omega arith))
-    go tuple e = leaves (λ r f. rw e) (no e (λ h. let z : _≡_ {A = ℕ} 0 1 = cc in omega arith) (λ h. let z : _≡_ {A = ℕ} 0 1 = cc in omega arith))
-    go (elements j) e = leaves (λ r f. rw e) (no e (λ h. let z : _≡_ {A = ℕ} 0 1 = cc in omega arith) (λ h. let z : _≡_ {A = ℕ} 0 1 = cc in omega arith))
-    go union e = leaves (λ r f. rw e) (no e (λ h. let z : _≡_ {A = ℕ} 0 1 = cc in omega arith) (λ h. let z : _≡_ {A = ℕ} 0 1 = cc in omega arith))
-    go other e = leaves (λ r f. rw e) (no e (λ h. let z : _≡_ {A = ℕ} 0 1 = cc in omega arith) (λ h. let z : _≡_ {A = ℕ} 0 1 = cc in omega arith))
+    go array e = leaves (λ r f. rw e) (no e refl)
+    go tuple e = leaves (λ r f. rw e) (no e refl)
+    go (elements k) e = leaves (λ r f. rw e) (no e refl)
+    go union e = leaves (λ r f. rw e) (no e refl)
+    go other e = leaves (λ r f. rw e) (no e refl)
 
 -- a row that is looked up and taken whatever its kind
 pub find-refuses : (m : ℕ) (t : List ℕ) (n : ℕ) (s : List ℕ) (i : ℕ) → Refuses (LookUpRefused m (λ _. Unit {0}) t n s i) (lookUp m t n s i)
