@@ -1,6 +1,5 @@
 -- The three demands of 00-demands.md, with document 02's signed numbers, as statements over the definitions that the contracts of the public
--- calls cite. Above each part
--- stand the words that it says, and what would leave it empty; proofs/Demand1.antt to Demand3.antt prove them.
+-- calls cite. Above each part stand the words that it says, and what would leave it empty; proofs/Demand1.antt to Demand3.antt prove them.
 use mathlib.Core.Path.{_≡_}
 use mathlib.Core.Logic.{_↔_}
 use mathlib.Core.Option.{none, some}
@@ -96,8 +95,7 @@ pub record Demand1 : Type 0 where
   pub routes : (g first second : List ℕ) → Refuses (RouteRefused g first second) (readBoth g first second)
   pub oneRoute : (g first second : List ℕ) (r q : SameRoute) → Compares g first second (sameRouteOf r) → Compares g first second (sameRouteOf q) → r ≡ q
   -- every refusal given, but for those of `find_row`, whose number is the caller's, is one of the papers' tables, with its kind of place;
-  -- which call gives which is said above. So none has number 0,
-  -- which at the C interface is an accepted call
+  -- which call gives which is said above. So none has number 0, which at the C interface is an accepted call
   pub listedGrammar : (g : List ℕ) → Lists (FirstRefusal g)
   pub listedRoom : (len index size : ℕ) → Lists (NoRoom len index size)
   pub listedUnpackers : (len index size : ℕ) → Lists (NotThere len index size)

@@ -7,19 +7,19 @@ use Prim.Native.Nat.{ℕ, _^_}
 use native.Mathlib.Omega.{arith}
 use lib.IntN.{ℤ}
 use borrow.Author.Tests.{lt-ltb}
-use Rattle.refusal.specs.Outcome.{Outcome, accepted, refused, test, Reason, reason, row}
+use Rattle.refusal.specs.Outcome.{accepted, test, Reason, reason, row}
 use Rattle.packed.specs.Packed.{Below, Bytes}
 use Rattle.value.specs.Kinds.{Number, width, Kind, kindOf, constant, number, array, tuple, elements, union, other}
 use Rattle.value.specs.Signed.{isSigned, signedOf, TwosComplement}
 use Rattle.value.proofs.KindLaws.{number-kind, width-positive}
 use Rattle.value.proofs.Signed.{twos-complement, twos-complement-only}
 use Rattle.tables.specs.Row.{Row, rowAt}
-use Rattle.rows.specs.Walk.{keepsRule, walk}
+use Rattle.rows.specs.Walk.{keepsRule}
 use Rattle.rows.specs.Locate.{lookUp}
 use Rattle.rows.proofs.Laws.{number-below}
 use Rattle.rows.proofs.Rule.{class-word, accepted-exactly}
 use Rattle.rows.proofs.Size.{table-rule}
-use Rattle.rows.proofs.Calls.{ends-bind, Found, found}
+use Rattle.rows.proofs.Calls.{ends-bind, found}
 use Rattle.signed.specs.Signed.{signedOfRow, signedNumberOf}
 use Rattle.signed.specs.Rule.{NumberOf}
 

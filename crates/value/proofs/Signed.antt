@@ -8,9 +8,11 @@ use native.Mathlib.Omega.{arith}
 use lib.IntN.{ℤ, pos, negsuc}
 use borrow.Author.Tests.{lt-ltb, le-ltb}
 use Rattle.packed.specs.Packed.{packLittleEndian}
-use Rattle.value.specs.Tree.{VUint32, VUint64, inNumber, ValidVal, TypedVal, ValueOf}
+use Rattle.value.specs.Kinds.{Number, width, int32, int64}
+use Rattle.value.specs.Tree.{GNumber, VNumber, inNumber, ValidVal, TypedVal, ValueOf}
 use Rattle.value.specs.Bytes.{bytesOf}
 use Rattle.value.specs.Signed.{half, signedOf, patternOf, InRange, TwosComplement, GInt32, GInt64, VInt32, VInt64}
+use Rattle.value.proofs.KindLaws.{width-positive}
 
 -- the ends of both widths, and zero
 pub ends-int32 : (signedOf 4 0 ≡ pos 0) × (signedOf 4 2147483647 ≡ pos 2147483647) × (signedOf 4 2147483648 ≡ negsuc 2147483647) × (signedOf 4 4294967295 ≡ negsuc 0)
@@ -71,19 +73,17 @@ unfolding bytesOf patternOf packLittleEndian
 bytes-of-minus-3 = (refl, refl)
 
 -- every number in range is a value of its kind
-pub value-int32 : (z : ℤ) → InRange 4 z → ValueOf GInt32 (VInt32 z)
+pub value-number : (k : Number) (z : ℤ) → InRange (width k) z → ValueOf (GNumber k) (VNumber k (patternOf (width k) z))
 unfolding ValidVal TypedVal
-value-int32 z r = record { inGrammar = inNumber; valid = tt; typed = pattern-signed 4 z (omega arith) r .0 }
+value-number k z r = record { inGrammar = inNumber; valid = tt; typed = pattern-signed (width k) z (width-positive k) r .0 }
+
+pub value-int32 : (z : ℤ) → InRange 4 z → ValueOf GInt32 (VInt32 z)
+value-int32 z r = value-number int32 z r
 
 pub value-int64 : (z : ℤ) → InRange 8 z → ValueOf GInt64 (VInt64 z)
-unfolding ValidVal TypedVal
-value-int64 z r = record { inGrammar = inNumber; valid = tt; typed = pattern-signed 8 z (omega arith) r .0 }
+value-int64 z r = value-number int64 z r
 
--- numbers of kinds 1 and 9, and of 2 and 10, may have the same bytes, and are two values
-pub kinds-apart-32 : (bytesOf (VUint32 5) ≡ bytesOf (VInt32 (pos 5))) × (VUint32 5 ≡ VInt32 (pos 5) → ⊥)
-unfolding bytesOf patternOf
-kinds-apart-32 = (refl, λ e. let z : _≡_ {A = ℕ} 0 1 = cc in omega arith)
-
-pub kinds-apart-64 : (bytesOf (VUint64 5) ≡ bytesOf (VInt64 (pos 5))) × (VUint64 5 ≡ VInt64 (pos 5) → ⊥)
-unfolding bytesOf patternOf
-kinds-apart-64 = (refl, λ e. let z : _≡_ {A = ℕ} 0 1 = cc in omega arith)
+-- numbers of two kinds of one width, as 1 and 9, have the same bytes, and are two values
+pub kinds-apart : (j k : Number) (n : ℕ) → width j ≡ width k → (j ≡ k → ⊥) → (bytesOf (VNumber j n) ≡ bytesOf (VNumber k n)) × (VNumber j n ≡ VNumber k n → ⊥)
+unfolding bytesOf
+kinds-apart j k n e d = (ap (λ (w : ℕ). packLittleEndian w n) e, λ h. let q : j ≡ k = cc in d q)

@@ -1,7 +1,5 @@
-use Prim.Native.Nat.{ℕ}
 use native.Mathlib.Omega.{arith}
 use Rattle.answer_c.proofs.Pattern.{Complement, complement, itself}
-use borrow.Author.Needs.{needs}
 use Rattle.answer_c.proofs.pattern64.Statement.{statement}
 use Rattle.answer_c.proofs.pattern64.Tie as tie
 
