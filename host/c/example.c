@@ -1,4 +1,5 @@
-/* example.c: writes a route as a record, reads it back with a trim below zero, and shows a refusal.
+/* example.c: writes a route as a record, reads it back with a trim below zero, compares it with
+ * another box's records, and shows a refusal.
  *
  *     cc -std=c11 -Wall -Wextra -Werror -Ihost/c host/c/example.c target/staticlib/libroute_c.a */
 
@@ -99,6 +100,19 @@ static int print_rows(const uint8_t *record, size_t length)
     return 1;
 }
 
+/* Prints whether two records of one length, which differ in what is named, are of the same route.
+ * Gives whether both were accepted. */
+static int print_same(const char *what, const uint8_t *first, const uint8_t *second, size_t length)
+{
+    route_answer answer = route_same_route(grammar, GRAMMAR_WORDS, first, length, second, length);
+    if (answer.number != 0) {
+        print_refusal("same route", answer);
+        return 0;
+    }
+    printf("same route, %s: %s\n", what, answer.first == 1 ? "yes" : "no");
+    return 1;
+}
+
 int main(void)
 {
     uint8_t record[128];
@@ -107,15 +121,17 @@ int main(void)
     if (length == 0 || !print_rows(record, length))
         return 1;
 
+    /* A box with another serial number, the root's first field, on the same route. */
     uint8_t other[128];
     write_route(other, sizeof other);
-    other[0] = 8; /* another serial number */
-    route_answer same = route_same_route(grammar, GRAMMAR_WORDS, record, length, other, length);
-    if (same.number != 0) {
-        print_refusal("same route", same);
+    other[0] = 8;
+    if (!print_same("another serial number", record, other, length))
         return 1;
-    }
-    printf("same route: %s\n", same.first == 1 ? "yes" : "no");
+
+    /* That box on another route: the last gain step, the record's last 8 bytes, is 9. */
+    other[length - 8] = 9;
+    if (!print_same("another gain step", record, other, length))
+        return 1;
 
     /* The last byte is missing, so the last channel's steps are cut short. */
     return print_rows(record, length - 1) ? 1 : 0;

@@ -336,9 +336,12 @@ route_answer route_marshall(const uint32_t *grammar, size_t grammar_len, const u
                             uint8_t *out, size_t out_len);
 
 /* Says whether two records are of the same route. Reads each of them as route_check_whole does and
- * gives in `first` 1 for yes, when both are accepted and their values are equal, and 0 for no, when
- * both are accepted and their values differ. The records may overlap. It uses less than 64 KiB of
- * stack, on grammars as deep as 256 nodes can be. Changes nothing.
+ * gives in `first` 1 for yes, when both are accepted and equal in what counts, and 0 for no, when
+ * both are accepted and differ in it. What counts of a value of node 0: when it is a tuple with at
+ * least one field, all fields but the first, which on the bench is the serial number of the box and
+ * is left out whatever its kind and size; else the whole value. Yes does not say that the records
+ * have equal bytes or equal lengths. The records may overlap. It uses less than 64 KiB of stack, on
+ * grammars as deep as 256 nodes can be. Changes nothing.
  * Refused: 1 to 5 as route_check_grammar, with 0 in `second`;
  * 6 and 8 to 11 as route_check_whole refuses the first record, with 1 in `second`;
  * 6 and 8 to 11 as route_check_whole refuses the second record, with 2 in `second`. */
