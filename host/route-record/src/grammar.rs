@@ -258,19 +258,22 @@ impl Grammar {
         Ok(out)
     }
 
-    /// Whether two records are of the same route: whether their values are equal. Refused as
-    /// [`calls::same_route`] refuses.
+    /// Whether two records are of the same route: whether their values are equal, but for the first
+    /// field of a root that is a tuple, which on the bench is the serial number of the box. Refused
+    /// as [`calls::same_route`] refuses.
     ///
     /// ```
     /// use route_record::Grammar;
     ///
-    /// let uint32 = Grammar::check(&[1, 1, 0, 0, 0]).unwrap();
-    /// assert_eq!(uint32.same_route(&[7, 0, 0, 0], &[7, 0, 0, 0]), Ok(true));
-    /// assert_eq!(uint32.same_route(&[7, 0, 0, 0], &[8, 0, 0, 0]), Ok(false));
+    /// let grammar = "tuple(u32, u32)".parse::<Grammar>()?;
+    /// let first = [7, 0, 0, 0, 5, 0, 0, 0];
+    /// assert_eq!(grammar.same_route(&first, &[8, 0, 0, 0, 5, 0, 0, 0]), Ok(true));
+    /// assert_eq!(grammar.same_route(&first, &[7, 0, 0, 0, 6, 0, 0, 0]), Ok(false));
     ///
-    /// let refusal = uint32.same_route(&[7, 0, 0, 0], &[7, 0, 0]).unwrap_err();
-    /// let words = "the second record: refused 9 at byte 0: the value that starts there is cut short";
+    /// let refusal = grammar.same_route(&first, &first[..7]).unwrap_err();
+    /// let words = "the second record: refused 9 at byte 4: the value that starts there is cut short";
     /// assert_eq!(refusal.to_string(), words);
+    /// # Ok::<(), route_record::GrammarError>(())
     /// ```
     pub fn same_route(&self, first: &[u8], second: &[u8]) -> Result<bool, SameRouteRefusal> {
         calls::same_route(&self.words, first, second)

@@ -19,7 +19,12 @@ fn is_same(answer: Answer) -> Result<bool, SameRouteRefusal> {
     }
 }
 
-/// Whether the values of two records, each read whole as a value of the grammar's root, are equal.
+/// Whether two records, each read whole as a value of the grammar's root, are of the same route:
+/// whether they are equal in what counts.
+///
+/// If the root is a tuple with at least one field, all fields but the first count. The first, on
+/// the bench the serial number of the box, is left out whatever its kind and size. Of any other root
+/// the whole value counts. Yes does not say that the records have equal bytes or equal lengths.
 ///
 /// Refused by 1 to 5 as [`check_grammar`](crate::calls::check_grammar) refuses, and then neither record is
 /// named; then by 6 and 8 to 11 as [`check_whole`](crate::calls::check_whole) refuses the first record;
@@ -28,6 +33,12 @@ fn is_same(answer: Answer) -> Result<bool, SameRouteRefusal> {
 /// ```
 /// use route_record::calls::same_route;
 /// use route_record::{Place, Refusal, SameRouteRefusal};
+///
+/// // A tuple of a uint32, the serial number, and a uint32.
+/// let route = [2, 4, 0, 2, 1, 0, 0, 2, 1, 1];
+/// let record = [7, 0, 0, 0, 5, 0, 0, 0];
+/// assert_eq!(same_route(&route, &record, &[8, 0, 0, 0, 5, 0, 0, 0]), Ok(true));
+/// assert_eq!(same_route(&route, &record, &[7, 0, 0, 0, 6, 0, 0, 0]), Ok(false));
 ///
 /// let bytes = [1, 5, 0, 0, 0];
 /// let one = [1, 0, 0, 0, 0, 0, 0, 0, 0x41];
