@@ -56,8 +56,8 @@ A grammar is a type, where T is again a type:
 
 /// What the help says of a command.
 fn entry(command: &Command) -> String {
-    let (usage, summary, example) = (command.usage(), command.summary, command.example);
-    let printed = command.printed.replace('\n', "\n    ");
-    let printed = printed.trim_end();
+    let (usage, example) = (command.usage(), command.example);
+    let [summary, printed] =
+        [command.summary, command.printed].map(|lines| lines.trim_end().replace('\n', "\n    "));
     format!("{usage}\n    {summary}\n    $ {example}\n    {printed}\n\n")
 }

@@ -141,10 +141,12 @@ fn tree_cuts_long_arrays_unless_all_is_asked_for() {
 fn same_has_a_word_and_a_status_for_each_answer() {
     let folder = folder("same");
     let first = &file(&folder, "first", RECORD);
-    let other = &file(&folder, "other", [&[8], &RECORD[1..]].concat());
+    let serial = &file(&folder, "serial", [&[8], &RECORD[1..]].concat());
+    let other = &file(&folder, "other", [&RECORD[..13], &[0x43]].concat());
     let same = |second: &str, stdin: &[u8]| route(&["same", "-g", TYPES, first, second], stdin);
     assert_eq!(same(first, b""), printed(0, "same\n"));
     assert_eq!(same("-", &RECORD), printed(0, "same\n"));
+    assert_eq!(same(serial, b""), printed(0, "same\n"));
     assert_eq!(same(other, b""), printed(3, "different\n"));
     let cut = |record: &str| {
         let refusal = refused(9, Place::Byte(4)).stdout;
@@ -153,6 +155,28 @@ fn same_has_a_word_and_a_status_for_each_answer() {
     assert_eq!(same("-", &RECORD[..13]), cut("second"));
     let got = route(&["same", "-g", TYPES, "-", first], &RECORD[..13]);
     assert_eq!(got, cut("first"));
+}
+
+#[test]
+fn same_leaves_out_the_first_field_of_a_root_that_is_a_tuple() {
+    let folder = folder("same_but_for_the_first_field");
+    let answer = |grammar, first, second: &str| {
+        let first = &file(&folder, "first.hex", first);
+        route(
+            &["same", "-g", grammar, "--hex", first, "-"],
+            second.as_bytes(),
+        )
+    };
+    let (same, different) = (printed(0, "same\n"), printed(3, "different\n"));
+    let (pair, record) = ("tuple(u32, u32)", "07000000 05000000");
+    assert_eq!(answer(pair, record, "08000000 05000000"), same);
+    assert_eq!(answer(pair, record, "07000000 06000000"), different);
+    let (one, none) = ("0100000000000000 41 05000000", "0000000000000000 05000000");
+    assert_eq!(answer("tuple(bytes, u32)", one, none), same);
+    assert_eq!(answer("tuple(u32)", "07000000", "08000000"), same);
+    assert_eq!(answer("u32", "07000000", "08000000"), different);
+    let (seven, eight) = ("0100000000000000 07000000", "0100000000000000 08000000");
+    assert_eq!(answer("array(tuple(u32))", seven, eight), different);
 }
 
 #[test]

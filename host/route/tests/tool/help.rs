@@ -56,8 +56,7 @@ fn the_examples_print_what_the_help_says() {
         assert!(line.contains(&format!("route {command} ")), "{line}");
         let got = typed(line, &format!("example_of_{command}"));
         assert_eq!((&got.stdout, got.stderr.as_str()), (expected, ""), "{line}");
-        let status = if command == "same" { 3 } else { 0 };
-        assert_eq!(got.status, Some(status), "{line}");
+        assert_eq!(got.status, Some(0), "{line}");
     }
 }
 
