@@ -122,3 +122,16 @@ pub fn chain(kind: u32) -> Vec<u32> {
     let words = [256].into_iter().chain(nodes).chain([255]);
     words.chain(children).collect()
 }
+
+/// The words of 256 nodes: a tuple of a chain and of its last node, the others each but the last of
+/// this kind with the next as its one child, and a uint32.
+pub fn chain_and_number(kind: u32) -> Vec<u32> {
+    let parents = (1..255).map(|k| [kind, k + 1, 1]);
+    let nodes: Vec<[u32; 3]> = [[4, 0, 2]]
+        .into_iter()
+        .chain(parents)
+        .chain([[1, 0, 0]])
+        .collect();
+    let children: Vec<u32> = [1, 255].into_iter().chain(2..256).collect();
+    table(&nodes, &children)
+}

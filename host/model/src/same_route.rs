@@ -1,4 +1,7 @@
-//! Whether two records are of the same route: both are read as trees, and the trees are compared.
+//! Whether two records are of the same route: both are read as trees, and what counts of the trees
+//! is compared.
+
+use std::slice;
 
 use crate::grammar::check_grammar;
 use crate::packed::sum;
@@ -47,11 +50,20 @@ fn are_equal(left: &V, right: &V) -> bool {
     }
 }
 
-/// Whether the values of two whole records of the grammar's root, of at most 4,096 rows each, are
-/// equal.
+/// What counts of a value of the root: the fields behind the first of a tuple with at least one
+/// field, else the value.
+fn what_counts<'v, 'a>(value: &'v V<'a>) -> &'v [V<'a>] {
+    match value {
+        V::Tuple(fields) if !fields.is_empty() => &fields[1..],
+        _ => slice::from_ref(value),
+    }
+}
+
+/// Whether two whole records of the grammar's root, of at most 4,096 rows each, are equal in what
+/// counts of their values.
 pub fn same_route(grammar: &[u32], first: &[u8], second: &[u8]) -> Result<bool, SameRouteRefusal> {
     check_grammar(grammar).map_err(SameRouteRefusal::Grammar)?;
     let first = read_whole(grammar, first, MOST_ROWS).map_err(SameRouteRefusal::First)?;
     let second = read_whole(grammar, second, MOST_ROWS).map_err(SameRouteRefusal::Second)?;
-    Ok(are_equal(&first, &second))
+    Ok(are_all_equal(what_counts(&first), what_counts(&second)))
 }

@@ -113,10 +113,56 @@ fn each_call_gives_each_of_its_answers() {
     }
 }
 
+/// The kind of a sound table's root and, if it is a tuple with a field, the kind of the first.
+fn root_kinds(grammar: &[u32]) -> (u32, Option<u32>) {
+    let (n, kind, first, count) = (grammar[0], grammar[1], grammar[2], grammar[3]);
+    let field = (kind == 4 && count > 0).then(|| {
+        let node = grammar[(2 + 3 * n + first) as usize];
+        grammar[(1 + 3 * node) as usize]
+    });
+    (kind, field)
+}
+
+/// Same route says yes and no of roots of each kind and behind first fields of each kind, and yes
+/// of first fields that differ and of those that are not as long as each other, where the kind has
+/// such values.
+#[test]
+fn same_route_of_each_kind() {
+    let (mut roots, mut fields) = (BTreeSet::new(), BTreeSet::new());
+    let (mut other_bytes, mut other_lengths) = (BTreeSet::new(), BTreeSet::new());
+    for line in calls() {
+        let (
+            Case::SameRoute {
+                grammar,
+                first,
+                second,
+            },
+            Answer::Accepted(same),
+        ) = (&line.case, &line.outcome.answer)
+        else {
+            continue;
+        };
+        let (root, field) = root_kinds(grammar);
+        roots.insert((root, same[0]));
+        fields.extend(field.map(|field| (field, same[0])));
+        if same[0] == 1 && first != second {
+            other_bytes.insert(field);
+            other_lengths.extend((first.len() != second.len()).then_some(field));
+        }
+    }
+    let both: BTreeSet<(u32, u64)> = (0..=10).flat_map(|k| [(k, 0), (k, 1)]).collect();
+    assert_eq!(fields, both);
+    // Two constants never differ.
+    let both: BTreeSet<_> = both.into_iter().filter(|&kind| kind != (0, 0)).collect();
+    assert_eq!(roots, both);
+    assert_eq!(other_bytes, (1..=10).map(Some).collect());
+    assert_eq!(other_lengths, [3, 5, 6, 7, 8].map(Some).into());
+}
+
 /// Refusals with their borders: the number, the call, what the line shows that just passes its test,
 /// and what the one that just does not.
 #[rustfmt::skip]
-const BORDERS: [(u64, &str, &str, &str); 78] = [
+const BORDERS: [(u64, &str, &str, &str); 80] = [
     (1, "check_grammar", "example F, N 256", "example F, N 257"),
     (1, "check_grammar", "example B, constant", "N 0"),
     (2, "check_grammar", "M 1,024", "M 1,025"),
@@ -157,6 +203,8 @@ const BORDERS: [(u64, &str, &str, &str); 78] = [
     (8, "demarshall", "4,096 rows", "more rows than 4,096 lent are none"),
     (8, "check_whole", "4,096 rows", "4,097 rows"),
     (8, "check_val", "4,096 rows", "4,097 rows"),
+    (8, "same_route", "4,096 rows, equal", "the first record's 8"),
+    (8, "same_route", "4,096 rows, most in the first field", "4,097 rows, most in the first field"),
     (9, "demarshall", "uint32", "uint32, 3 bytes"),
     (9, "demarshall", "uint64", "uint64, 7 bytes"),
     (9, "demarshall", "example I, int32 -1", "example I, int32, 3 bytes"),
