@@ -904,7 +904,7 @@ const EXCEPTIONS: [Exception; 58] = [
 ];
 
 /// Variants by hand: file, pieces of its text with what stands for each, what is broken.
-pub(super) const BY_HAND: [(&str, &[(&str, &str)], &str); 3] = [
+pub(super) const BY_HAND: [(&str, &[(&str, &str)], &str); 9] = [
     (
         "rows.rs",
         &[
@@ -964,6 +964,63 @@ pub(super) const BY_HAND: [(&str, &[(&str, &str)], &str); 3] = [
             ),
         ],
         "14 before 13 of kind 7",
+    ),
+    (
+        "same_route.rs",
+        &[(
+            "        V::Tuple(fields) if !fields.is_empty() =>",
+            "        V::Array(fields) | V::Tuple(fields) if !fields.is_empty() =>",
+        )],
+        "the first element of a root that is an array does not count",
+    ),
+    (
+        "same_route.rs",
+        &[(
+            "    Ok(are_all_equal(what_counts(&first), what_counts(&second)))",
+            "    Ok(match (&first, &second) {
+        (V::Case(tag, first), V::Case(other, second)) => {
+            tag == other && are_all_equal(what_counts(first), what_counts(second))
+        }
+        _ => are_all_equal(what_counts(&first), what_counts(&second)),
+    })",
+        )],
+        "the first field of the root's case does not count",
+    ),
+    (
+        "same_route.rs",
+        &[(
+            "        (V::Tuple(left), V::Tuple(right)) => are_all_equal(left, right),",
+            "        (V::Tuple(_), V::Tuple(_)) => are_all_equal(what_counts(left), what_counts(right)),",
+        )],
+        "the first field of no tuple counts",
+    ),
+    (
+        "same_route.rs",
+        &[(
+            "if !fields.is_empty() =>",
+            "if matches!(fields[..], [V::Uint32(_) | V::Uint64(_), ..]) =>",
+        )],
+        "a first field counts that is no unsigned number",
+    ),
+    (
+        "same_route.rs",
+        &[
+            (
+                "    check_grammar(grammar)",
+                "    let are_as_long = first.len() == second.len();
+    check_grammar(grammar)",
+            ),
+            (
+                "    Ok(are_all_equal(",
+                "    Ok(are_as_long && are_all_equal(",
+            ),
+        ],
+        "records of different lengths are different routes",
+    ),
+    (
+        "same_route.rs",
+        &[("if !fields.is_empty() =>", "if fields.len() > 1 =>")],
+        "the only field of a tuple counts",
     ),
 ];
 
