@@ -84,8 +84,7 @@ pub fn of_rust(case: &Case) -> Outcome {
 
 /// The case of a call on a record; of one on its rows, the record is accepted.
 pub fn case_of(call: Call, input: &Input) -> Case {
-    let Input { grammar, record } = input;
-    let (grammar, record) = (grammar.clone(), record.clone());
+    let (grammar, record) = (input.grammar.clone(), input.record.clone());
     match call {
         Call::CheckGrammar => Case::CheckGrammar { grammar },
         Call::Check => Case::CheckWhole { grammar, record },
@@ -111,8 +110,8 @@ pub fn case_of(call: Call, input: &Input) -> Case {
         }
         Call::SameRoute => Case::SameRoute {
             grammar,
-            first: record.clone(),
-            second: record,
+            first: record,
+            second: input.other.clone(),
         },
     }
 }

@@ -18,7 +18,7 @@ pub enum Call {
     Write,
     /// The size of the value, from its rows.
     Size,
-    /// Whether the record and a copy of it are the same route.
+    /// Whether the record and the input's other one are the same route.
     SameRoute,
 }
 
@@ -50,7 +50,11 @@ macro_rules! contender {
     ($($module:ident)::+, $call:expr, $input:expr) => {{
         use $($module)::+ as calls;
         let input: &Input = $input;
-        let Input { grammar, record } = input;
+        let Input {
+            grammar,
+            record,
+            other,
+        } = input;
         match $call {
             Call::CheckGrammar => Contender::new(|| calls::check_grammar(black_box(grammar))),
             Call::Check => {
@@ -76,12 +80,9 @@ macro_rules! contender {
                     calls::compute_size_of(black_box(&rows), n, black_box(record))
                 })
             }
-            Call::SameRoute => {
-                let copy = record.clone();
-                Contender::new(move || {
-                    calls::same_route(black_box(grammar), black_box(record), black_box(&copy))
-                })
-            }
+            Call::SameRoute => Contender::new(|| {
+                calls::same_route(black_box(grammar), black_box(record), black_box(other))
+            }),
         }
     }};
 }

@@ -2,20 +2,33 @@
 //! every run.
 
 use compare::table;
-use route_record::{MAX_BYTES, MAX_ROWS, ROW_WORDS};
+use route_record::{Grammar, MAX_BYTES, MAX_ROWS, ROW_WORDS};
 
-/// A grammar table and a record to be read by it.
+/// A grammar table and records to be read by it.
 pub struct Input {
     /// The words of the grammar.
     pub grammar: Vec<u32>,
     /// The bytes of the record.
     pub record: Vec<u8>,
+    /// The bytes of another record of the same route: a copy, or the record under another serial
+    /// number.
+    pub other: Vec<u8>,
 }
 
 /// The words of the most rows.
 pub const WORDS: usize = ROW_WORDS * MAX_ROWS;
 
 impl Input {
+    /// A record and a copy of it.
+    fn new(grammar: Vec<u32>, record: Vec<u8>) -> Input {
+        let other = record.clone();
+        Input {
+            grammar,
+            record,
+            other,
+        }
+    }
+
     /// The words of the rows of a record that is accepted, and the row count.
     pub fn rows(&self) -> (Vec<u64>, usize) {
         let mut rows = vec![0; WORDS];
@@ -65,9 +78,21 @@ pub fn mixed(rows: usize) -> Input {
         put_u64(&mut record, 2);
         put_u32s(&mut record, left - 2);
     }
+    Input::new(table(&nodes, &children), record)
+}
+
+/// A serial number, a uint32, and behind it the mix of `rows` rows, in a tuple. The other record has
+/// another serial number.
+pub fn with_serial(rows: usize) -> Input {
+    let types = "n = u32; w = u64; b = bytes
+                 tuple(n, array(union(n, tuple(n, w, b, u32s), array(n), tuple(b, w))))";
+    let grammar = types.parse::<Grammar>().expect("a grammar");
+    let mix = mixed(rows).record;
+    let record = |serial: u32| [&serial.to_le_bytes(), &mix[..]].concat();
     Input {
-        grammar: table(&nodes, &children),
-        record,
+        grammar: grammar.words().to_vec(),
+        record: record(7),
+        other: record(8),
     }
 }
 
@@ -75,36 +100,26 @@ pub fn mixed(rows: usize) -> Input {
 pub fn numbers(rows: usize) -> Input {
     let mut record = Vec::new();
     put_u32s(&mut record, rows - 1);
-    Input {
-        grammar: table(&[[3, 0, 1], [1, 0, 0]], &[1]),
-        record,
-    }
+    Input::new(table(&[[3, 0, 1], [1, 0, 0]], &[1]), record)
 }
 
 /// An array of 4,095 constants: 4,096 rows in 8 bytes.
 pub fn constants() -> Input {
-    Input {
-        grammar: table(&[[3, 0, 1], [0, 0, 0]], &[1]),
-        record: 4_095u64.to_le_bytes().to_vec(),
-    }
+    let record = 4_095u64.to_le_bytes().to_vec();
+    Input::new(table(&[[3, 0, 1], [0, 0, 0]], &[1]), record)
 }
 
 /// A tuple of 1,024 fields, each a uint32.
 pub fn wide_tuple() -> Input {
-    Input {
-        grammar: table(&[[4, 0, 1_024], [1, 0, 0]], &[1; 1_024]),
-        record: vec![7; 4 * 1_024],
-    }
+    let grammar = table(&[[4, 0, 1_024], [1, 0, 0]], &[1; 1_024]);
+    Input::new(grammar, vec![7; 4 * 1_024])
 }
 
 /// One byte array, the record of which has 1,048,576 bytes.
 pub fn long_array() -> Input {
     let mut record = Vec::new();
     put_bytes(&mut record, MAX_BYTES - 8);
-    Input {
-        grammar: table(&[[5, 0, 0]], &[]),
-        record,
-    }
+    Input::new(table(&[[5, 0, 0]], &[]), record)
 }
 
 /// 256 nodes, each but the last a tuple of two fields, both of the next node, and the last of the
@@ -113,10 +128,7 @@ pub fn shared_children(leaf: u32, record: Vec<u8>) -> Input {
     let tuples = (0..255).map(|k| [4, 2 * k, 2]);
     let nodes: Vec<_> = tuples.chain([[leaf, 0, 0]]).collect();
     let children: Vec<_> = (1..256).flat_map(|k| [k, k]).collect();
-    Input {
-        grammar: table(&nodes, &children),
-        record,
-    }
+    Input::new(table(&nodes, &children), record)
 }
 
 fn put_u32(record: &mut Vec<u8>, number: usize) {

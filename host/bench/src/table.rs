@@ -49,14 +49,11 @@ pub fn calls(report: &mut Report, programs: &[&dyn Program]) {
             line(report, programs, call, (size, input()), limit);
         }
     }
-    let input = records::mixed(300);
-    line(
-        report,
-        programs,
-        Call::CheckGrammar,
-        ("300 rows", input),
-        None,
-    );
+    let input = ("a serial and 300 rows", records::with_serial(300));
+    let beside_rust = Some(Limit::Beside("Rust", RATIO));
+    line(report, programs, Call::SameRoute, input, beside_rust);
+    let input = ("300 rows", records::mixed(300));
+    line(report, programs, Call::CheckGrammar, input, None);
     for (name, input) in [
         ("array of 4,095 constants", records::constants()),
         ("tuple of 1,024 fields", records::wide_tuple()),

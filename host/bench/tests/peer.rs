@@ -60,6 +60,10 @@ fn what_the_bench_accepts() {
         assert_accepted(&records::mixed(rows), rows);
         assert_accepted(&records::numbers(rows), rows);
     }
+    let with_serial = records::with_serial(300);
+    assert_accepted(&with_serial, 302);
+    assert_ne!(with_serial.record[..4], with_serial.other[..4]);
+    assert_eq!(with_serial.record[4..], records::mixed(300).record);
     assert_accepted(&records::constants(), 4_096);
     assert_accepted(&records::wide_tuple(), 1_025);
     assert_accepted(&records::long_array(), 1);

@@ -27,15 +27,29 @@ pub fn demarshall(words: &[u32], record: &[u8], rows: &mut [u64]) -> Result<Pars
     let (rows, _) = rows.as_chunks_mut();
     let capacity = rows.len().min(MAX_ROWS);
     check(grammar, record, capacity)?;
-    read(grammar, record, rows, capacity)
+    read(grammar, 0, record, rows, capacity)
 }
 
-/// Whether two records are of the same route. Values are equal where their bytes are.
+/// Whether two records are of the same route. What counts of their values is equal where its bytes
+/// are.
 pub fn same_route(words: &[u32], first: &[u8], second: &[u8]) -> Result<bool, Refusal> {
     let grammar = Grammar::of(words)?;
     check(grammar, first, MAX_ROWS)?;
     check(grammar, second, MAX_ROWS)?;
-    Ok(first == second)
+    Ok(counted(grammar, first)? == counted(grammar, second)?)
+}
+
+/// The bytes that count of a record that was checked: those behind the first field of a root that is
+/// a tuple with fields, else all.
+fn counted<'a>(grammar: Grammar, record: &'a [u8]) -> Result<&'a [u8], Refusal> {
+    let root = grammar.node(0);
+    match (root[0], grammar.children(root)) {
+        (4, &[field, ..]) => {
+            let parsed = read(grammar, field as usize, record, &mut [], MAX_ROWS)?;
+            Ok(&record[parsed.rest_index..])
+        }
+        _ => Ok(record),
+    }
 }
 
 /// The first pass.
@@ -43,16 +57,17 @@ fn check(grammar: Grammar, record: &[u8], capacity: usize) -> Result<Parsed, Ref
     if record.len() > MAX_BYTES {
         return Err(Refusal::at_byte(6, 0));
     }
-    let parsed = read(grammar, record, &mut [], capacity)?;
+    let parsed = read(grammar, 0, record, &mut [], capacity)?;
     if parsed.rest_index != record.len() {
         return Err(Refusal::at_byte(11, parsed.rest_index));
     }
     Ok(parsed)
 }
 
-/// Reads a value of the root from byte 0 on.
+/// Reads a value of node k from byte 0 on.
 fn read(
     grammar: Grammar,
+    k: usize,
     record: &[u8],
     rows: &mut [[u64; 4]],
     capacity: usize,
@@ -65,7 +80,7 @@ fn read(
         at: 0,
         used: 0,
     };
-    reader.value(0)?;
+    reader.value(k)?;
     Ok(Parsed {
         rows: reader.used,
         rest_index: reader.at,
