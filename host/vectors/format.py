@@ -1,7 +1,8 @@
 """Runs the Python text of docs/FORMAT.md over the test vectors: `python3 host/vectors/format.py`.
 
-The readings, the check of row tables and the signed number answer as each line says. Prints a line
-for each failure, the number of lines of each call and, last, 'N passed, M failed'.
+The readings, the check of row tables, the signed number and same route answer as each line says,
+and same route as each row of the page's own table says. Prints a line for each failure, the number
+of lines of each call and, last, 'N passed, M failed'.
 """
 
 import collections
@@ -66,6 +67,12 @@ def signed_number(line):
     return line.get("accepted") == {"number": str(number)}
 
 
+def same_route(line):
+    grammar, first, second = words(line, "grammar"), data(line, "first"), data(line, "second")
+    same = page["same_route"](grammar, first, second)
+    return line.get("accepted") == {"same": "1" if same else "0"}
+
+
 CALLS = {
     "parse_val": read,
     "demarshall": read,
@@ -74,17 +81,61 @@ CALLS = {
     "compute_size_of": check_rows,
     "locate_array": check_rows,
     "signed_number": signed_number,
+    "same_route": same_route,
+    "same_route on the page": same_route,
 }
 
-# Each file with the refusals that the text does not give: the grammar check's and the locator's.
-FILES = {"reading": (1, 2, 3, 4, 5), "rows": (18,), "signed": ()}
+
+def vectors(name):
+    return map(json.loads, (ROOT / "vectors" / f"{name}.jsonl").read_text().splitlines())
+
+
+def examples():
+    """The rows of the page's table of same route, as lines."""
+    grammars = dict(re.findall(r"\*\*([A-E])\. [^`]*`([^`]*)`", text))
+    grammars.update(re.findall(r"^\| (\w+) \| `([^`]*)` \| [^|]* \|$", text, re.M))
+    rows = re.search(r"^\*\*Same route\.\*\*\n\n\|.*\n\|.*\n((?:\|.*\n)+)", text, re.M)[1]
+    for row in rows.splitlines():
+        grammar, first, second, answer = [cell.strip() for cell in row.split("|")][1:5]
+        if not grammar.startswith("`"):
+            grammar = grammars[grammar]
+        line = {"name": row, "call": "same_route on the page"}
+        line["grammar"] = grammar.strip("`").split(", ")
+        line["first"], line["second"] = parts(first), parts(second)
+        if answer in ("yes", "no"):
+            line["accepted"] = {"same": "1" if answer == "yes" else "0"}
+        else:
+            number, place, at, record = re.fullmatch(
+                r"(\d+) at (\w+) (\d+), (\w+) record", answer
+            ).groups()
+            record = ("neither", "first", "second").index(record)
+            line["refused"] = {"number": int(number), "place": place, "at": at, "record": record}
+        yield line
+
+
+def parts(cell):
+    """The bytes of a cell, as a line has them."""
+    text, repeated, times = cell.strip("`").partition(" × ")
+    if repeated:
+        return [{"repeat": text, "times": int(times)}]
+    return [] if text == "-" else [text]
+
+
+# Each source with the refusals that the text does not give: the grammar check's and the locator's.
+GRAMMAR_CHECK = (1, 2, 3, 4, 5)
+SOURCES = [
+    (vectors("reading"), GRAMMAR_CHECK),
+    (vectors("rows"), (18,)),
+    (vectors("signed"), ()),
+    (vectors("same_route"), GRAMMAR_CHECK),
+    (examples(), GRAMMAR_CHECK),
+]
 
 
 def lines():
     """The lines that the text answers."""
-    for name, not_given in FILES.items():
-        for text in (ROOT / "vectors" / f"{name}.jsonl").read_text().splitlines():
-            line = json.loads(text)
+    for source, not_given in SOURCES:
+        for line in source:
             if line.get("refused", {}).get("number") not in not_given:
                 yield line
 
@@ -93,8 +144,8 @@ def holds(line):
     try:
         return CALLS[line["call"]](line)
     except ValueError as refusal:
-        number, place, at = refusal.args
-        return line.get("refused") == {"number": number, "place": place, "at": str(at)}
+        answer = dict(zip(("number", "place", "at", "record"), refusal.args))
+        return line.get("refused") == answer | {"at": str(answer["at"])}
 
 
 passed = failed = 0
