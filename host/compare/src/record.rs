@@ -12,6 +12,9 @@ pub struct Record {
     pub rows: usize,
     /// Where the element counts and the tags are in the bytes, 8 bytes each.
     pub counts: Vec<usize>,
+    /// How many of the bytes are the first field's, if the root is a tuple with at least one field,
+    /// else 0.
+    pub first_field: usize,
 }
 
 /// The child words of a node.
@@ -49,10 +52,16 @@ impl Record {
                 bytes: Vec::new(),
                 rows: 0,
                 counts: Vec::new(),
+                first_field: 0,
             },
         };
         writer.value(0);
         Some(writer.record)
+    }
+
+    /// The bytes of the first field, and those behind it.
+    pub fn parts(&self) -> (&[u8], &[u8]) {
+        self.bytes.split_at(self.first_field)
     }
 
     /// Changes one byte, or one count or tag to a limit or to a number next to one. The record is
@@ -105,9 +114,14 @@ impl Writer<'_> {
             1 | 9 => self.number(4),
             2 | 10 => self.number(8),
             3 => self.array(children[0] as usize),
-            4 => children
-                .iter()
-                .for_each(|&child| self.value(child as usize)),
+            4 => {
+                for (field, &child) in children.iter().enumerate() {
+                    self.value(child as usize);
+                    if (k, field) == (0, 0) {
+                        self.record.first_field = self.record.bytes.len();
+                    }
+                }
+            }
             5 => self.numbers(1),
             6 => self.numbers(4),
             7 => self.numbers(8),

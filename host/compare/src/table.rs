@@ -58,6 +58,24 @@ impl Table {
         Table::sound(random, n, m)
     }
 
+    /// A table whose root is a tuple of 1 to 4 of this one's nodes, in half of the draws with its
+    /// root first. It has a node more, and as many child words more as the tuple has fields.
+    pub fn in_a_tuple(self, random: &mut Random) -> Table {
+        let (n, m) = (self.nodes.len(), self.children.len());
+        let count = random.within(1..=4);
+        let root = [4, m as u32, count as u32];
+        // Each node's number is one more. Child words of no node hold anything.
+        let children = self.children.into_iter();
+        let mut children: Vec<u32> = children.map(|child| child.wrapping_add(1)).collect();
+        let first = random.below(n);
+        children.push(1 + random.pick(&[0, first]) as u32);
+        children.extend((1..count).map(|_| 1 + random.below(n) as u32));
+        Table {
+            nodes: [vec![root], self.nodes].concat(),
+            children,
+        }
+    }
+
     /// The table's words.
     pub fn words(&self) -> Vec<u32> {
         let (n, m) = (self.nodes.len() as u32, self.children.len() as u32);
@@ -108,6 +126,17 @@ pub fn table(nodes: &[[u32; 3]], children: &[u32]) -> Vec<u32> {
     [&[n], nodes.concat().as_slice(), &[m], children].concat()
 }
 
+/// The kind of a sound table's root and, if it is a tuple with at least one field, that of the
+/// first.
+pub fn root_kinds(words: &[u32]) -> (u32, Option<u32>) {
+    let (n, kind, first, count) = (words[0], words[1], words[2], words[3]);
+    let field = (kind == 4 && count > 0).then(|| {
+        let node = words[(2 + 3 * n + first) as usize];
+        words[(1 + 3 * node) as usize]
+    });
+    (kind, field)
+}
+
 /// A table of one node without children.
 pub fn leaf(kind: u32) -> Vec<u32> {
     table(&[[kind, 0, 0]], &[])
@@ -123,7 +152,7 @@ pub fn chain(kind: u32) -> Vec<u32> {
     words.chain(children).collect()
 }
 
-/// The words of 256 nodes: a tuple of a chain and of its last node, the others each but the last of
+/// The words of 256 nodes: a tuple of the second and the last, and the others, each but the last of
 /// this kind with the next as its one child, and a uint32.
 pub fn chain_and_number(kind: u32) -> Vec<u32> {
     let parents = (1..255).map(|k| [kind, k + 1, 1]);

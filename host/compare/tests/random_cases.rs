@@ -60,6 +60,35 @@ fn a_false_library_is_found_out() {
     assert!(answers.total() < 1_000);
 }
 
+/// Comparisons of the bytes of two accepted records that are not same route: of all, of those
+/// behind byte 4, of those at the end that both have, and of how many there are.
+const FALSE_COMPARISONS: [fn(&[u8], &[u8]) -> bool; 4] = [
+    |first, second| first == second,
+    |first, second| first.get(4..) == second.get(4..),
+    |first, second| first.ends_with(second) || second.ends_with(first),
+    |first, second| first.len() == second.len(),
+];
+
+#[test]
+fn a_false_comparison_of_routes_is_found_out() {
+    for is_same in FALSE_COMPARISONS {
+        let library = |case: &Case| {
+            let outcome = case.of_library();
+            match (case, &outcome.answer) {
+                (Case::SameRoute { first, second, .. }, Answer::Accepted(_)) => {
+                    let same = is_same(first, second);
+                    Outcome::with(Answer::Accepted(vec![same.into()]), case)
+                }
+                _ => outcome,
+            }
+        };
+        let mut answers = Answers::default();
+        let difference = run(7, library, || true, &mut answers).expect_err("a difference");
+        assert_eq!(difference.case.call(), "same_route");
+        assert!(answers.total() < 1_000);
+    }
+}
+
 /// What the program does with these arguments.
 fn program(arguments: &[&str]) -> Output {
     let mut command = Command::new(env!("CARGO_BIN_EXE_compare"));

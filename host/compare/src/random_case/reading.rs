@@ -1,4 +1,4 @@
-//! Random cases of the readers and of same route.
+//! Random cases of the readers.
 
 use route_record::{MAX_BYTES, MAX_ROWS, ROW_WORDS};
 
@@ -22,7 +22,7 @@ pub(super) fn sound(random: &mut Random, table: &Table) -> Option<Record> {
 }
 
 /// Bytes that stand for no value in particular, half of them mostly zeros.
-fn any_bytes(random: &mut Random) -> Vec<u8> {
+pub(super) fn any_bytes(random: &mut Random) -> Vec<u8> {
     let count = random.pick(&[0, 1, 4, 8, 20, 100]);
     let bytes = random.bytes(count);
     match random.below(2) {
@@ -78,13 +78,19 @@ fn words(random: &mut Random, rows: usize) -> usize {
     }
 }
 
+/// The words of a table, in some cases with faults.
+pub(super) fn words_of(random: &mut Random, table: &Table) -> Vec<u32> {
+    let mut words = table.words();
+    for _ in 0..random.pick(&[0, 0, 0, 0, 0, 0, 0, 1, 1, 2]) {
+        spoil_grammar(random, table, &mut words);
+    }
+    words
+}
+
 /// A table and its words, in some cases with faults.
 pub(super) fn grammar(random: &mut Random) -> (Table, Vec<u32>) {
     let table = table(random);
-    let mut words = table.words();
-    for _ in 0..random.pick(&[0, 0, 0, 0, 0, 0, 0, 1, 1, 2]) {
-        spoil_grammar(random, &table, &mut words);
-    }
+    let words = words_of(random, &table);
     (table, words)
 }
 
@@ -99,12 +105,12 @@ fn long_array(random: &mut Random) -> (Vec<u32>, Input) {
 }
 
 /// A table that passes its limits; a record of another one cannot be made.
-fn within_limits(table: &Table) -> bool {
+pub(super) fn within_limits(table: &Table) -> bool {
     table.nodes.len() <= 256 && table.children.len() <= 1_024
 }
 
 /// A record for the table.
-fn record(random: &mut Random, table: &Table) -> Input {
+pub(super) fn record(random: &mut Random, table: &Table) -> Input {
     match within_limits(table) {
         true => input(random, table),
         false => Input {
@@ -169,20 +175,5 @@ fn from_index(
             index,
             rows: lent(random, words),
         },
-    }
-}
-
-/// A case of same route: two records of one table, in half of the cases the same one.
-pub(super) fn same_route(random: &mut Random) -> Case {
-    let (table, grammar) = grammar(random);
-    let first = record(random, &table).bytes;
-    let second = match random.below(2) {
-        0 => first.clone(),
-        _ => record(random, &table).bytes,
-    };
-    Case::SameRoute {
-        grammar,
-        first,
-        second,
     }
 }

@@ -207,7 +207,7 @@ const LISTED: [(&str, &str, &str, &str); 42] = [
 
 /// Pairs whose first fields differ, or that differ in a field like them. Name, grammar, first and
 /// second record.
-const FIRST_FIELDS: [(&str, &str, &str, &str); 46] = [
+const FIRST_FIELDS: [(&str, &str, &str, &str); 47] = [
     (
         "the first field and the last element differ",
         A,
@@ -273,6 +273,12 @@ const FIRST_FIELDS: [(&str, &str, &str, &str); 46] = [
         PAIR_FIRST,
         "01000000 02000000 03000000",
         "01000000 02000000 04000000",
+    ),
+    (
+        "tuples of 8 and 9 bytes as the first fields",
+        "4, 4 0 2, 4 2 1, 1 0 0, 5 0 0, 3, 1 2 3",
+        "0000000000000000 07000000",
+        "0100000000000000 5A 07000000",
     ),
     (
         "a tuple as the last field, the first field differs",
