@@ -1,6 +1,8 @@
 //! Every length, every index and all small tables, which no list of cases says. Each answer is
 //! compared with the model's, and how many are accepted is counted beforehand.
 
+use std::ops::Range;
+
 use compare::{leaf, table, Answer, Calls, Case, Number, Random, U32, U64};
 
 /// Compares a case, and gives whether it is accepted.
@@ -344,17 +346,23 @@ fn tuple_counts() {
     assert_eq!(accepted(cases), 6);
 }
 
-/// The grammar and the record of the value of each kind: 93 bytes, 17 rows.
-fn each_kind() -> (Vec<u32>, Vec<u8>) {
-    let grammar = table(&NODES, &CHILDREN);
-    let outcome = writing(&grammar, &ROWS, &[9; 10]).compare();
+/// The bytes of a value.
+fn record_of(grammar: &[u32], rows: &[Row]) -> Vec<u8> {
+    let outcome = writing(grammar, rows, &[9; 10]).compare();
     let (Answer::Accepted(size), Case::Marshall { mut out, .. }) =
         (&outcome.answer, outcome.after())
     else {
         panic!("the value is written");
     };
     out.truncate(size[0] as usize);
-    (grammar, out)
+    out
+}
+
+/// The grammar and the record of the value of each kind: 93 bytes, 17 rows.
+fn each_kind() -> (Vec<u32>, Vec<u8>) {
+    let grammar = table(&NODES, &CHILDREN);
+    let record = record_of(&grammar, &ROWS);
+    (grammar, record)
 }
 
 /// The whole reading with so many words lent.
@@ -418,24 +426,60 @@ fn readings_of_every_byte() {
     assert_eq!(accepted(cases), 255 * free);
 }
 
+/// The fields of the value of each kind: the rows of each, and how many of its bytes may be any.
+const FIELDS: [(Range<usize>, u64); 11] = [
+    (1..4, 8),
+    (4..7, 4),
+    (7..9, 4),
+    (9..10, 0),
+    (10..11, 4),
+    (11..12, 8),
+    (12..13, 1),
+    (13..14, 4),
+    (14..15, 8),
+    (15..16, 4),
+    (16..17, 8),
+];
+
+/// The grammar and the record of a tuple of these fields of the value of each kind.
+fn tuple_of(fields: &[usize]) -> (Vec<u32>, Vec<u8>) {
+    let (mut nodes, mut children) = (NODES, CHILDREN.to_vec());
+    nodes[0] = [4, children.len() as u32, fields.len() as u32];
+    children.extend(fields.iter().map(|&field| CHILDREN[field]));
+    let below = fields.iter().map(|&field| &ROWS[FIELDS[field].0.clone()]);
+    let below = below.collect::<Vec<_>>().concat();
+    let root = [4, below.len() as u64 + 1, fields.len() as u64, 0];
+    let grammar = table(&nodes, &children);
+    let record = record_of(&grammar, &[vec![root], below].concat());
+    (grammar, record)
+}
+
 /// Records that differ in a byte of a number or of an element are of different routes, whichever
-/// byte it is.
+/// byte it is, but of the same route where it is one of the first field. Each field of the value of
+/// each kind is the first one.
 #[test]
 fn routes_that_differ_in_each_byte() {
-    let (grammar, record) = each_kind();
-    let mut different = 0;
-    for at in 0..record.len() {
-        let mut second = record.clone();
-        second[at] ^= 0x80;
-        let (grammar, first) = (grammar.clone(), record.clone());
-        let case = Case::SameRoute {
-            grammar,
-            first,
-            second,
-        };
-        different += usize::from(case.compare().answer == Answer::Accepted(vec![0]));
+    for (field, (_, free)) in FIELDS.into_iter().enumerate() {
+        let others = (0..FIELDS.len()).filter(|&other| other != field);
+        let fields: Vec<usize> = [field].into_iter().chain(others).collect();
+        let (grammar, record) = tuple_of(&fields);
+        let end = tuple_of(&[field]).1.len();
+        let mut counts = [0; 2];
+        for at in 0..record.len() {
+            let mut second = record.clone();
+            second[at] ^= 0x80;
+            let case = Case::SameRoute {
+                grammar: grammar.clone(),
+                first: record.clone(),
+                second,
+            };
+            if let Answer::Accepted(same) = case.compare().answer {
+                assert_eq!(same, [u64::from(at < end)]);
+                counts[same[0] as usize] += 1;
+            }
+        }
+        assert_eq!(counts, [record.len() as u64 - 40 - free, free]);
     }
-    assert_eq!(different, record.len() - 40);
 }
 
 /// Writings of example A at every index of outputs of every length.
