@@ -3,7 +3,7 @@
 
 use std::thread;
 
-use compare::{chain, Case};
+use compare::{chain, chain_and_number, Case};
 use route_record::{calls, Parsed, Place, Refusal, SameRouteRefusal};
 
 type Answer = Result<Parsed, Refusal>;
@@ -12,18 +12,23 @@ type SameRoute = Result<bool, SameRouteRefusal>;
 /// The bytes of stack within which a reading stays.
 const STACK: usize = 64 * 1_024;
 
+/// What the work gives on a thread with the small stack.
+fn on_small_stack<T: Send>(work: impl FnOnce() -> T + Send) -> T {
+    thread::scope(|scope| {
+        let thread = thread::Builder::new().stack_size(STACK);
+        let thread = thread.spawn_scoped(scope, work);
+        let thread = thread.expect("a thread with a small stack");
+        thread.join().expect("all calls return")
+    })
+}
+
 /// The library's answers, with rows and as a check, and whether the record is the same route as
-/// itself, on a thread with the small stack.
-fn on_small_stack(grammar: Vec<u32>, record: Vec<u8>) -> ([Answer; 2], SameRoute) {
-    let calls = move || {
-        let mut words = vec![0; 4 * 256];
-        let lent = calls::demarshall(&grammar, &record, &mut words);
-        let check = calls::check_whole(&grammar, &record);
-        ([lent, check], calls::same_route(&grammar, &record, &record))
-    };
-    let thread = thread::Builder::new().stack_size(STACK).spawn(calls);
-    let thread = thread.expect("a thread with a small stack");
-    thread.join().expect("all calls return")
+/// itself.
+fn answers(grammar: &[u32], record: &[u8]) -> ([Answer; 2], SameRoute) {
+    let mut words = vec![0; 4 * 256];
+    let lent = calls::demarshall(grammar, record, &mut words);
+    let check = calls::check_whole(grammar, record);
+    ([lent, check], calls::same_route(grammar, record, record))
 }
 
 /// The answers to a chain of this kind, each value of which begins with these bytes, on the small
@@ -49,23 +54,57 @@ fn compare_chain(kind: u32, own: &[u8]) {
         let answer: Result<[u64; 2], Refusal> = case.compare().answer.result();
         let parsed = |parsed: Parsed| [parsed.rows as u64, parsed.rest_index as u64];
         assert_eq!(answer, expected.map(parsed));
-        let answers = on_small_stack(grammar.clone(), record.to_vec());
+        let answers = on_small_stack(|| answers(&grammar, record));
         let same = expected.map(|_| true).map_err(SameRouteRefusal::First);
         assert_eq!(answers, ([expected; 2], same));
+    }
+}
+
+/// Whether records of a tuple of a chain of this kind, each value of which begins with these bytes,
+/// and of a number are the same route, on the small stack and compared with the model. The chain
+/// has 255 levels.
+fn compare_first_field(kind: u32, own: &[u8]) {
+    let grammar = chain_and_number(kind);
+    let end = 254 * own.len() + 4;
+    let record = |field: u8, behind: u8| {
+        [&own.repeat(254), &[field, 0, 0, 0][..], &[behind, 0, 0, 0]].concat()
+    };
+    let cut = |at: usize| {
+        let place = Place::Byte(at as u64);
+        Err(SameRouteRefusal::Second(Refusal { number: 9, place }))
+    };
+    let first = record(1, 7);
+    for (second, expected) in [
+        (record(2, 7), Ok(true)),
+        (record(1, 8), Ok(false)),
+        (first[..end - 1].to_vec(), cut(end - 4)),
+        (first[..end + 3].to_vec(), cut(end)),
+    ] {
+        let case = Case::SameRoute {
+            grammar: grammar.clone(),
+            first: first.clone(),
+            second: second.clone(),
+        };
+        case.compare();
+        let answer = on_small_stack(|| calls::same_route(&grammar, &first, &second));
+        assert_eq!(answer, expected);
     }
 }
 
 #[test]
 fn arrays() {
     compare_chain(3, &1u64.to_le_bytes());
+    compare_first_field(3, &1u64.to_le_bytes());
 }
 
 #[test]
 fn tuples() {
     compare_chain(4, &[]);
+    compare_first_field(4, &[]);
 }
 
 #[test]
 fn unions() {
     compare_chain(8, &0u64.to_le_bytes());
+    compare_first_field(8, &0u64.to_le_bytes());
 }
