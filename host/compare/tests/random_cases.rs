@@ -60,9 +60,11 @@ fn a_false_library_is_found_out() {
     assert!(answers.total() < 1_000);
 }
 
-/// Comparisons of the bytes of two accepted records that are not same route: of all, of those
-/// behind byte 4, of those at the end that both have, and of how many there are.
-const FALSE_COMPARISONS: [fn(&[u8], &[u8]) -> bool; 4] = [
+type Comparison = fn(&[u8], &[u8]) -> bool;
+
+/// Comparisons of two accepted records that are not same route: of all bytes, of those from byte 4
+/// on, of those at the end that both have, and of how many there are.
+const FALSE_COMPARISONS: [Comparison; 4] = [
     |first, second| first == second,
     |first, second| first.get(4..) == second.get(4..),
     |first, second| first.ends_with(second) || second.ends_with(first),

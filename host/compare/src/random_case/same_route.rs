@@ -32,16 +32,19 @@ fn pair(random: &mut Random, table: &Table) -> Option<[Vec<u8>; 2]> {
     Some([one.bytes, second])
 }
 
-/// Two records for the table, in some cases with faults.
+/// Two records for the table, in some cases one or both with faults.
 fn records(random: &mut Random, table: &Table) -> [Vec<u8>; 2] {
     let pair = match within_limits(table) {
         true => pair(random, table),
         false => None,
     };
     let [first, second] = pair.unwrap_or_else(|| [any_bytes(random), any_bytes(random)]);
-    match random.below(6) {
-        0 => [record(random, table).bytes, second],
-        1 => [first, record(random, table).bytes],
+    let any = record(random, table).bytes;
+    match random.below(8) {
+        0 => [any, second],
+        1 => [first, any],
+        2 => [any, record(random, table).bytes],
+        3 => [any.clone(), any],
         _ => [first, second],
     }
 }
