@@ -205,8 +205,7 @@ const LISTED: [(&str, &str, &str, &str); 42] = [
     ),
 ];
 
-/// Pairs whose first fields differ, or that differ in a field like them. Name, grammar, first and
-/// second record.
+/// The root's first field, and what may be taken for it. Name, grammar, first and second record.
 const FIRST_FIELDS: [(&str, &str, &str, &str); 47] = [
     (
         "the first field and the last element differ",
