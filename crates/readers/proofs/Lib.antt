@@ -4,3 +4,4 @@ pub mod Loop
 pub mod Arms
 pub mod Root
 pub mod Meaning
+pub mod FirstField

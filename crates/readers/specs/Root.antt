@@ -6,9 +6,9 @@ use Prim.Native.Nat.{ℕ, zero, suc, _^_, _≤_, min}
 use lib.ListN.{length}
 use Rattle.refusal.specs.Outcome.{Outcome, accepted, refused, bind, map, contents, Reason}
 use Rattle.packed.specs.Packed.{Bytes, Below}
-use Rattle.value.specs.Tree.{Val}
+use Rattle.value.specs.Tree.{Val, VConstant, VNumber, VArray, VTuple, VNumberArray, VCase, vnil, vcons}
 use Rattle.value.specs.Step.{next}
-use Rattle.value.specs.Reading.{Stop, Reading, start, atEnd, readVal}
+use Rattle.value.specs.Reading.{State, Stop, Reading, start, begin, atEnd, readVal, readTo}
 use Rattle.grammar.specs.Rule.{Passes}
 use Rattle.grammar.specs.Tree.{treeOf}
 use Rattle.tables.specs.Row.{laid}
@@ -40,6 +40,17 @@ ended false d x = x
 -- 1 to 7, then the value of the root from the index on
 unfoldable pub readRoot : List ℕ → List ℕ → ℕ → ℕ → Bool → Reading Val
 readRoot g d index capacity whole = bind (beforeStart index (admitOf g d index)) (λ _. ended whole d (readVal capacity d (treeOf g 0) (start index)))
+
+-- the state behind the first field of a tuple at byte 0, whose own row is row 0; of a value that is no tuple or has no field, the
+-- state before it
+abbrev pub behindFirstField : Val → State
+behindFirstField VConstant = start 0
+behindFirstField (VNumber k n) = start 0
+behindFirstField (VArray vs) = start 0
+behindFirstField (VTuple vnil) = start 0
+behindFirstField (VTuple (vcons v vs)) = readTo v (begin (start 0)) .state
+behindFirstField (VNumberArray k ns) = start 0
+behindFirstField (VCase c v) = start 0
 
 -- the answer r to a reading x at a capacity, and the rows at exit: the layout of the value, whose bytes start at the index, over
 -- the rows at entry; after a refusal the rows at entry

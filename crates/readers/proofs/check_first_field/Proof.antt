@@ -1,0 +1,48 @@
+use Rattle.readers.proofs.FirstField.{field-stopped, field-admitted, field-read}
+use borrow.Author.Needs.{needs}
+use Rattle.readers.proofs.check_first_field.Statement.{statement}
+use Rattle.readers.proofs.check_first_field.Tie as tie
+
+slice-aggregate-read : tie.Need-slice-aggregate-read
+slice-aggregate-read c = search needs
+
+read-requires : tie.Need-read-requires
+read-requires c κs = search needs
+
+enum-known-u : tie.Need-enum-known-u
+enum-known-u c = search needs
+
+enum-told : tie.Need-enum-told
+enum-told c = search needs
+
+first-field-requires : tie.Need-first-field-requires
+first-field-requires c κs =
+    let a = c .before .before .before .before .before .before .before .args in
+    let u = c .enum-told .given in
+    field-admitted (a .grammar .now) (a .«record» .now) (c .before .before .before .read .ensures) (u .0 .0) (u .1)
+    (λ j l. c .before .before .before .before .before .before .shared-slice-known .given j .fits)
+    (λ j. c .before .before .before .before .before .shared-slice-known2 .given j .fits)
+
+returns : tie.Need-returns
+returns c =
+    let a = c .before .before .before .before .before .before .before .before .args in
+    let u = c .before .u .given in
+    field-stopped (a .grammar .now) (a .«record» .now) (c .before .before .before .before .read .ensures) (u .0 .0) (u .0 .1 .0) (u .1)
+
+returns-2 : tie.Need-returns-2
+returns-2 c =
+    let a = c .before .before .before .before .before .before .before .before .args in
+    let u = c .before .enum-told .given in
+    (field-read (a .grammar .now) (a .«record» .now) (c .before .before .before .before .read .ensures) (u .0 .0) (u .1) (c .first-field .ensures .0), c .first-field .ensures .1)
+
+pub check-first-field-spec : {M : Type 1} → statement M
+check-first-field-spec =
+    tie.close
+    (tie.spec
+    slice-aggregate-read
+    read-requires
+    enum-known-u
+    enum-told
+    first-field-requires
+    returns
+    returns-2)
