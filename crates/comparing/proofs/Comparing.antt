@@ -1,38 +1,67 @@
 -- That the code of `same_route` may compare bytes, and that its contract leaves nothing to the program.
-use mathlib.Core.Path.{_≡_, refl, sym, ap, _∙_}
+use mathlib.Core.Path.{_≡_, refl, sym, ap, subst, _∙_}
 use mathlib.Core.Logic.{_↔_, Iff·trans}
 use mathlib.Core.Bool.{Bool, true, false}
 use mathlib.Core.List.{List}
-use Prim.Native.Nat.{ℕ, _^_}
+use Prim.Native.Nat.{ℕ, _-_, _^_, _≤_}
 use native.Mathlib.Omega.{arith}
+use lib.ListN.{length, take, drop}
 use Rattle.refusal.specs.Outcome.{Outcome, accepted, refused, map, Reason}
 use Rattle.refusal.proofs.Outcome.{map-accepted, map-refused}
 use Rattle.refusal.proofs.Tests.{refuted, refutes}
 use Rattle.packed.specs.Packed.{Bytes, Below}
-use Rattle.value.specs.Tree.{Val}
+use Rattle.value.specs.Tree.{Val, ValueOf, SizeOfV}
 use Rattle.value.specs.Bytes.{bytesOf}
 use Rattle.value.specs.Step.{Step}
-use Rattle.value.specs.Reading.{State}
-use Rattle.value.proofs.Laws.{demarshallable-value}
+use Rattle.value.specs.Reading.{State, Stop}
+use Rattle.value.proofs.Laws.{length-bytesOf, demarshallable-value}
 use Rattle.grammar.specs.Check.{checkGrammar}
-use Rattle.reading.specs.Meaning.{Counts}
-use Rattle.reading.specs.Calls.{demarshallOf, countsOf}
+use Rattle.grammar.specs.Tree.{treeOf}
+use Rattle.readers.specs.declared.Step.{Step as CodeStep}
+use Rattle.readers.specs.Meaning.{stepOf}
+use Rattle.readers.specs.Root.{readRoot, behindFirstField}
+use Rattle.reading.specs.Calls.{withoutState, demarshallOf}
+use Rattle.reading.proofs.Calls.{root-whole}
 use Rattle.reading.proofs.Bridge.{demarshall-accepted}
 use Rattle.comparing.specs.SameRoute.{NamedReason, ofGrammar, ofFirst, ofSecond, Both, readBoth, Same, Compares}
+use Rattle.comparing.proofs.Counted.{counted-bytes, first-within, part-from}
 
--- an accepted record is the bytes of its value
-pub record-bytes : (g d : List ℕ) (capacity : ℕ) → Below (2 ^ 32) g → Bytes d → (t : Step State Val) → demarshallOf g d capacity ≡ accepted t → d ≡ bytesOf (t .value)
-record-bytes g d capacity w b t h = let m = demarshall-accepted g d capacity w b t h in demarshallable-value b (m .0) .0 ∙ ap bytesOf (m .1)
+-- an accepted record is the bytes of its value, which is one of the root
+pub record-value : (g d : List ℕ) (capacity : ℕ) → Below (2 ^ 32) g → Bytes d → (t : Step State Val) → demarshallOf g d capacity ≡ accepted t → (d ≡ bytesOf (t .value)) × ValueOf (treeOf g 0) (t .value)
+record-value g d capacity w b t h =
+    let m = demarshall-accepted g d capacity w b t h in
+    let x = demarshallable-value b (m .0) in
+    (x .0 ∙ ap bytesOf (m .1), subst (ValueOf (treeOf g 0)) (m .1) (x .1))
 
--- under one grammar the values of two accepted records are equal exactly when their bytes are
-pub same-value-same-bytes : (g first second : List ℕ) (capacity : ℕ) → Below (2 ^ 32) g → Bytes first → Bytes second → (t u : Step State Val) → demarshallOf g first capacity ≡ accepted t → demarshallOf g second capacity ≡ accepted u → (t .value ≡ u .value) ↔ (first ≡ second)
-same-value-same-bytes g first second capacity w a b t u h k = (
-  λ e. record-bytes g first capacity w a t h ∙ ap bytesOf e ∙ sym (record-bytes g second capacity w b u k),
-  λ e.
-      let q : accepted t ≡ accepted u = sym h ∙ ap (λ (d : List ℕ). demarshallOf g d capacity) e ∙ k in
-      let s : t ≡ u = cc in
-      ap (λ (x : Step State Val). x .value) s,
-)
+-- under one grammar two accepted records are of the same route exactly when their bytes behind the first fields are equal
+pub same-route-same-bytes : (g first second : List ℕ) (capacity : ℕ) → Below (2 ^ 32) g → Bytes first → Bytes second → (t u : Step State Val) → demarshallOf g first capacity ≡ accepted t → demarshallOf g second capacity ≡ accepted u → Same (record { first = t .value; second = u .value }) ↔ (drop (behindFirstField (t .value) .at) first ≡ drop (behindFirstField (u .value) .at) second)
+same-route-same-bytes g first second capacity w a b t u h k =
+    let x = record-value g first capacity w a t h in
+    let y = record-value g second capacity w b u k in
+    rw (x .0, y .0) (counted-bytes (t .value) (u .value) (x .1) (y .1))
+
+-- an answer that was matched
+pub step-matched : {o : Outcome Stop State} {p q : CodeStep} → p ≡ q → stepOf p ≡ o → stepOf q ≡ o
+step-matched e h = ap stepOf (sym e) ∙ h
+
+-- what the check of a record's first field says of its whole reading
+module _ (g d : List ℕ) where
+  field-refused : {e : Stop} → refused e ≡ map (λ t. behindFirstField (t .value)) (readRoot g d 0 4096 true) → demarshallOf g d 4096 ≡ refused (e .why)
+  field-refused h = sym (root-whole g d 4096) ∙ ap withoutState (map-refused (λ (t : Step State Val). behindFirstField (t .value)) (readRoot g d 0 4096 true) (sym h))
+
+  field-accepted : {s : State} → accepted s ≡ map (λ t. behindFirstField (t .value)) (readRoot g d 0 4096 true) → (t : Step State Val) × (demarshallOf g d 4096 ≡ accepted t) × (s ≡ behindFirstField (t .value))
+  field-accepted {s} h =
+      let m = map-accepted (λ (t : Step State Val). behindFirstField (t .value)) (readRoot g d 0 4096 true) (sym h) in
+      let q : accepted s ≡ accepted (behindFirstField (m .0 .value)) = h ∙ ap (map (λ (t : Step State Val). behindFirstField (t .value))) (m .1) in
+      (m .0, sym (root-whole g d 4096) ∙ ap withoutState (m .1), cc)
+
+  -- it ends within the record
+  pub field-within : {s : State} → accepted s ≡ map (λ t. behindFirstField (t .value)) (readRoot g d 0 4096 true) → Below (2 ^ 32) g → Bytes d → s .at ≤ length d
+  field-within {s} h w b =
+      let m = field-accepted h in
+      let x = record-value g d 4096 w b (m .0) (m .1) in
+      let l : length d ≡ SizeOfV (m .0 .value) = ap length (x .0) ∙ length-bytesOf (m .0 .value) in
+      omega (arith, first-within (m .0 .value) (x .1), ap (λ (q : State). q .at) (m .2), l)
 
 -- a refusal is no value
 clash : {E A P : Type 0} {e : E} {a : A} → refused e ≡ accepted a → P
@@ -70,22 +99,21 @@ module _ (g first second : List ℕ) where
   grammar-refused h = refused-both (rw (sym h))
 
   module _ (p : accepted tt ≡ checkGrammar g) where
-    pub first-refused : {e : Reason} → refused e ≡ map countsOf (demarshallOf g first 4096) → Compares g first second (refused (ofFirst e))
+    pub first-refused : {e : Stop} → refused e ≡ map (λ t. behindFirstField (t .value)) (readRoot g first 0 4096 true) → Compares g first second (refused (ofFirst (e .why)))
     unfolding readBoth
-    first-refused h = refused-both (rw (sym p, map-refused countsOf (demarshallOf g first 4096) (sym h)))
+    first-refused h = refused-both (rw (sym p, field-refused g first h))
 
-    module _ {k : Counts} (h : accepted k ≡ map countsOf (demarshallOf g first 4096)) where
-      pub second-refused : {e : Reason} → refused e ≡ map countsOf (demarshallOf g second 4096) → Compares g first second (refused (ofSecond e))
+    module _ {m : State} (h : accepted m ≡ map (λ t. behindFirstField (t .value)) (readRoot g first 0 4096 true)) where
+      pub second-refused : {e : Stop} → refused e ≡ map (λ t. behindFirstField (t .value)) (readRoot g second 0 4096 true) → Compares g first second (refused (ofSecond (e .why)))
       unfolding readBoth
-      second-refused r =
-          let t = map-accepted countsOf (demarshallOf g first 4096) (sym h) in
-          refused-both (rw (sym p, t .1, map-refused countsOf (demarshallOf g second 4096) (sym r)))
+      second-refused k = let t = field-accepted g first h in refused-both (rw (sym p, t .1, field-refused g second k))
 
-      pub compared : {l : Counts} → accepted l ≡ map countsOf (demarshallOf g second 4096) → Below (2 ^ 32) g → Bytes first → Bytes second → {s : Bool} → (first ≡ second) ↔ (s ≡ true) → Compares g first second (accepted s)
-      compared r w a b e =
-          let t = map-accepted countsOf (demarshallOf g first 4096) (sym h) in
-          let u = map-accepted countsOf (demarshallOf g second 4096) (sym r) in
-          accepted-both (both-read (t .0) (u .0) p (t .1) (u .1)) (Iff·trans (same-value-same-bytes g first second 4096 w a b (t .0) (u .0) (t .1) (u .1)) e)
+      pub compared : {n : State} → accepted n ≡ map (λ t. behindFirstField (t .value)) (readRoot g second 0 4096 true) → Below (2 ^ 32) g → Bytes first → Bytes second → {s : Bool} → (take (length first - m .at) (drop (m .at) first) ≡ take (length second - n .at) (drop (n .at) second)) ↔ (s ≡ true) → Compares g first second (accepted s)
+      compared {n} k w a b {s} e =
+          let t = field-accepted g first h in
+          let u = field-accepted g second k in
+          let d : (drop (behindFirstField (t .0 .value) .at) first ≡ drop (behindFirstField (u .0 .value) .at) second) ↔ (s ≡ true) = rw (part-from, part-from, t .2, u .2) at e in
+          accepted-both (both-read (t .0) (u .0) p (t .1) (u .1)) (Iff·trans (same-route-same-bytes g first second 4096 w a b (t .0) (u .0) (t .1) (u .1)) d)
 
 -- an answer that was tested
 pub with-answer : {g first second : List ℕ} {s r : Bool} → s ≡ r → Compares g first second (accepted s) → Compares g first second (accepted r)

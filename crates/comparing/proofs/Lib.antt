@@ -1,2 +1,4 @@
 pub mod Meaning
+pub mod Counted
 pub mod Comparing
+pub mod RootRule

@@ -1,12 +1,13 @@
--- What `same_route` answers: whether two records under one grammar have equal values, or what is refused and why.
+-- What `same_route` answers: whether two records under one grammar are equal in what counts, or what is refused and why.
 use mathlib.Core.Path.{_≡_}
 use mathlib.Core.Logic.{_↔_}
 use mathlib.Core.Bool.{Bool, true, false}
 use mathlib.Core.List.{List}
-use Prim.Native.Nat.{ℕ}
+use Prim.Native.Nat.{ℕ, _<_}
 use Rattle.refusal.specs.Outcome.{Outcome, accepted, refused, bind, map, Reason}
 use Rattle.refusal.specs.Meaning.{reasonOf}
-use Rattle.value.specs.Tree.{Val}
+use Rattle.value.specs.Tree.{Val, Vals, VConstant, VNumber, VArray, VTuple, VNumberArray, VCase, vnil, vcons}
+use Rattle.tables.specs.Grammar.{kindWord, countWord}
 use Rattle.grammar.specs.Check.{checkGrammar}
 use Rattle.reading.specs.Calls.{demarshallOf}
 use Rattle.comparing.specs.declared.SameRoute.{SameRoute}
@@ -43,9 +44,27 @@ readBoth g first second =
     (λ _. bind (naming ofFirst (demarshallOf g first 4096))
     (λ t. map (λ u. record { first = t .value; second = u .value }) (naming ofSecond (demarshallOf g second 4096))))
 
+-- what counts of a record's value: of a tuple with at least one field the fields behind the first, which is the serial number of
+-- the box that wrote the record; of any other value all of it
+abbrev pub counted : Val → Val
+counted VConstant = VConstant
+counted (VNumber k n) = VNumber k n
+counted (VArray vs) = VArray vs
+counted (VTuple vnil) = VTuple vnil
+counted (VTuple (vcons v vs)) = VTuple vs
+counted (VNumberArray k ns) = VNumberArray k ns
+counted (VCase c v) = VCase c v
+
 -- when the values are those of the same route
 abbrev pub Same : Both → Type 0
-Same b = b .first ≡ b .second
+Same b = counted (b .first) ≡ counted (b .second)
+
+-- document 02's rule of two values that were read under the table g, by its root
+pub record RootRule (g : List ℕ) (b : Both) : Type 0 where
+  -- a tuple with at least one field: the fields behind the first decide
+  pub tupleRoot : kindWord g 0 ≡ 4 → 0 < countWord g 0 → (v : Val) × (vs : Vals) × (u : Val) × (us : Vals) × (b .first ≡ VTuple (vcons v vs)) × (b .second ≡ VTuple (vcons u us)) × (Same b ↔ (vs ≡ us))
+  -- any other root: the values
+  pub otherRoot : (kindWord g 0 ≡ 4 → countWord g 0 ≡ 0) → Same b ↔ (b .first ≡ b .second)
 
 -- exactly when o is yes, no, or a refusal
 pub record Compares (g first second : List ℕ) (o : Outcome NamedReason Bool) : Type 0 where

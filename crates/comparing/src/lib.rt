@@ -3,7 +3,7 @@ ghost use mathlib.Core.Path.{_≡_};
 ghost use mathlib.Core.Bool.{true};
 ghost use mathlib.Core.Logic.{_↔_};
 ghost use Rattle.comparing.specs.SameRoute.{sameRouteOf, Compares};
-use reading::Parsed;
+use readers::Step;
 use refusal::Answer;
 use refusal::Refusal;
 
@@ -34,18 +34,21 @@ fn same_bytes(a: &[u8], b: &[u8]) -> bool
     same
 }
 
-// Whether two records under one grammar have equal values. A record is the bytes of its value, so the bytes are compared.
+// Whether two records under one grammar are of the same route. A record is the bytes of its value, so the bytes behind the root's
+// first field are compared, or where it has none, all bytes.
 pub fn same_route(grammar: &[u32], first: &[u8], second: &[u8]) -> SameRoute
     ensures { λ r. ⌜ Compares (now (grammar .entry)) (now (first .entry)) (now (second .entry)) (sameRouteOf r) ⌝ }
 {
     match grammar::check_grammar(grammar) {
         Answer::Refused(r) => SameRoute::Grammar(r),
-        Answer::Accepted => match reading::check_whole(grammar, first) {
-            Parsed::Refused(r) => SameRoute::First(r),
-            Parsed::Value { .. } => match reading::check_whole(grammar, second) {
-                Parsed::Refused(r) => SameRoute::Second(r),
-                Parsed::Value { .. } => {
-                    if same_bytes(first, second) {
+        Answer::Accepted => match readers::check_first_field(grammar, first) {
+            Step::Stopped(_, r) => SameRoute::First(r),
+            Step::Next(t) => match readers::check_first_field(grammar, second) {
+                Step::Stopped(_, r) => SameRoute::Second(r),
+                Step::Next(u) => {
+                    let a = t.at;
+                    let b = u.at;
+                    if same_bytes(&first[a..], &second[b..]) {
                         SameRoute::Yes
                     } else {
                         SameRoute::No
