@@ -1,1 +1,2 @@
 pub mod SameRoute
+pub mod Examples
