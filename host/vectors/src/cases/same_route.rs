@@ -206,7 +206,7 @@ const LISTED: [(&str, &str, &str, &str); 42] = [
 ];
 
 /// The root's first field, and what may be taken for it. Name, grammar, first and second record.
-const FIRST_FIELDS: [(&str, &str, &str, &str); 47] = [
+const FIRST_FIELDS: [(&str, &str, &str, &str); 49] = [
     (
         "the first field and the last element differ",
         A,
@@ -338,6 +338,18 @@ const FIRST_FIELDS: [(&str, &str, &str, &str); 47] = [
         "3, 8 0 1, 4 1 2, 1 0 0, 3, 1 2 2",
         "0000000000000000 01000000 02000000",
         "0000000000000000 09000000 02000000",
+    ),
+    (
+        "an element of two uint64, the first differs",
+        "3, 3 0 1, 4 1 2, 2 0 0, 3, 1 2 2",
+        "0100000000000000 0100000000000000 0200000000000000",
+        "0100000000000000 0900000000000000 0200000000000000",
+    ),
+    (
+        "a case of two uint64, the first differs",
+        "3, 8 0 1, 4 1 2, 2 0 0, 3, 1 2 2",
+        "0000000000000000 0100000000000000 0200000000000000",
+        "0000000000000000 0900000000000000 0200000000000000",
     ),
     (
         "the only field of an element differs",
