@@ -50,10 +50,9 @@ module _ (g d : List ℕ) where
   field-refused h = sym (root-whole g d 4096) ∙ ap withoutState (map-refused (λ (t : Step State Val). behindFirstField (t .value)) (readRoot g d 0 4096 true) (sym h))
 
   field-accepted : {s : State} → accepted s ≡ map (λ t. behindFirstField (t .value)) (readRoot g d 0 4096 true) → (t : Step State Val) × (demarshallOf g d 4096 ≡ accepted t) × (s ≡ behindFirstField (t .value))
-  field-accepted {s} h =
+  field-accepted h =
       let m = map-accepted (λ (t : Step State Val). behindFirstField (t .value)) (readRoot g d 0 4096 true) (sym h) in
-      let q : accepted s ≡ accepted (behindFirstField (m .0 .value)) = h ∙ ap (map (λ (t : Step State Val). behindFirstField (t .value))) (m .1) in
-      (m .0, sym (root-whole g d 4096) ∙ ap withoutState (m .1), cc)
+      (m .0, sym (root-whole g d 4096) ∙ ap withoutState (m .1), m .2)
 
   -- it ends within the record
   pub field-within : {s : State} → accepted s ≡ map (λ t. behindFirstField (t .value)) (readRoot g d 0 4096 true) → Below (2 ^ 32) g → Bytes d → s .at ≤ length d

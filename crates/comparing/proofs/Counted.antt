@@ -7,7 +7,7 @@ use native.Mathlib.Nat.{zero-add}
 use native.Mathlib.Omega.{arith}
 use lib.ListN.{length, take, drop, length-drop}
 use lib.Seq.{drop-at, take-all}
-use Rattle.value.specs.Tree.{G, Gs, Val, Vals, VConstant, VNumber, VArray, VTuple, VNumberArray, VCase, vnil, vcons, ValInGrammar, inConstant, inNumber, inArray, inTuple, inNumberArray, inCase, eachNil, eachCons, ValidVal, TypedVal, ValueOf, FieldsOf, SizeOfV, SeqSum}
+use Rattle.value.specs.Tree.{G, Gs, Val, Vals, VTuple, vcons, ValInGrammar, inConstant, inNumber, inArray, inTuple, inNumberArray, inCase, eachNil, eachCons, ValidVal, TypedVal, ValueOf, FieldsOf, SizeOfV}
 use Rattle.value.specs.Bytes.{bytesOf, bytesOfAll}
 use Rattle.value.specs.Reading.{start}
 use Rattle.value.proofs.Laws.{length-bytesOf, one-value, one-meaning-fields}

@@ -11,13 +11,13 @@ use Rattle.refusal.specs.declared.Refusal.{Refusal}
 use Rattle.refusal.specs.Outcome.{Outcome, accepted, refused, map}
 use Rattle.refusal.proofs.Outcome.{map-accepted}
 use Rattle.packed.specs.Packed.{Bytes, Below}
-use Rattle.value.specs.Kinds.{Kind, kindOf, constant, number, array, tuple, elements, union, other}
+use Rattle.value.specs.Kinds.{Kind, kindOf, tuple}
 use Rattle.value.specs.Tree.{G, Gs, GTuple, gcons, seqG, Val, Vals, VConstant, VNumber, VArray, VTuple, VNumberArray, VCase, vnil, vcons, ValInGrammar, inTuple, eachCons}
 use Rattle.value.specs.Step.{Step, both}
 use Rattle.value.specs.Reading.{State, Stop, Reading, start, begin, claim, readBody, readFields, readVal, readTo}
 use Rattle.value.proofs.KindLaws.{other-kinds}
 use Rattle.value.proofs.Reading.{read-accepted}
-use Rattle.tables.specs.Grammar.{nodeCount, kindWord, firstWord, countWord, childWord}
+use Rattle.tables.specs.Grammar.{kindWord, firstWord, countWord, childWord}
 use Rattle.grammar.specs.Rule.{Passes}
 use Rattle.grammar.specs.Tree.{nodeTree, childTrees, treeOf}
 use Rattle.grammar.proofs.Tree.{tree-node, tree-valid, trees-length}
@@ -50,7 +50,7 @@ module _ (g : List ℕ) (p : Passes g) where
       let x = tuple-class (kindOf (kindWord g 0)) (childTrees g (treeOf g) (firstWord g 0) (countWord g 0)) (subst (ValInGrammar (VTuple (vcons v vs))) root-tree i) in
       (class-word (kindWord g 0) (λ o. let z : _≡_ {A = ℕ} 0 1 = cc in omega arith) (x .0), omega (arith, x .1, trees-length g (treeOf g) (countWord g 0) (firstWord g 0)))
 
-  -- whose tree it is a tuple of
+  -- the tree of such a root, by that of its first child
   pub root-fields : kindWord g 0 ≡ 4 → 0 < countWord g 0 → (gs : Gs) × (treeOf g 0 ≡ GTuple (gcons (treeOf g (childWord g (firstWord g 0))) gs))
   unfolding nodeTree childTrees
   root-fields k n = go (countWord g 0) n (root-tree ∙ rw (k, other-kinds .2))
@@ -69,6 +69,10 @@ module _ (g : List ℕ) (p : Passes g) where
   no-first-field n (VNumberArray k ns) i = refl
   no-first-field n (VCase c v) i = refl
 
+-- the state behind a field that was read
+behind-read : (t u : Step State Val) (vs : Vals) → t .value ≡ VTuple (vcons (u .value) vs) → u ≡ readTo (u .value) (begin (start 0)) → u .state ≡ behindFirstField (t .value)
+behind-read t u vs v e = ap (λ (s : Step State Val). s .state) e ∙ ap behindFirstField (sym v)
+
 module _ (g d : List ℕ) (a : Admitted g d [] 0 4096) (t : Step State Val) (h : readVal 4096 d (treeOf g 0) (start 0) ≡ accepted t) where
   -- the first field, read behind the root's row
   pub first-read : kindWord g 0 ≡ 4 → 0 < countWord g 0 → map (λ (u : Step State Val). u .state) (readVal 4096 d (treeOf g (childWord g (firstWord g 0))) (begin (start 0))) ≡ accepted (behindFirstField (t .value))
@@ -80,7 +84,7 @@ module _ (g d : List ℕ) (a : Admitted g d [] 0 4096) (t : Step State Val) (h :
       let y = both-accepted (readVal 4096 d c (begin (start 0))) (readFields 4096 d (f .0)) (x .0) (x .1) in
       let e : y .0 ≡ readTo (y .0 .value) (begin (start 0)) = read-accepted 4096 d c (begin (start 0)) (omega arith) (tree-valid g (a .words) (childWord g (firstWord g 0))) (a .byteValues) (y .0) (y .1) .2 in
       let v : t .value ≡ VTuple (vcons (y .0 .value) (y .2)) = ap (λ (s : Step State Val). s .value) (x .2) ∙ ap VTuple (y .3) in
-      ap (map (λ (u : Step State Val). u .state)) (y .1) ∙ ap (λ (u : Step State Val). accepted (u .state)) e ∙ ap (λ (w : Val). accepted (behindFirstField w)) (sym v)
+      ap (map (λ (u : Step State Val). u .state)) (y .1) ∙ ap accepted (behind-read t (y .0) (y .2) v e)
 
   -- as the code reads it
   pub child-read : {child : ℕ} {x : Outcome Stop State} → kindWord g 0 ≡ 4 → (countWord g 0 ≡ 0 → ⊥) → child ≡ childWord g (firstWord g 0 + 0) → x ≡ map (λ (u : Step State Val). u .state) (readVal 4096 d (treeOf g child) (begin (start 0))) → x ≡ accepted (behindFirstField (t .value))
