@@ -6,6 +6,7 @@ use std::fs;
 use std::process::Command;
 
 use compare::{on_large_stack, root_kinds, Answer, Case, Line};
+use route_record::Place;
 use vectors::{check, Counts, Show, Vector, FILES};
 
 /// The lines of a committed file.
@@ -115,11 +116,13 @@ fn each_call_gives_each_of_its_answers() {
 
 /// Same route says yes and no of roots of each kind and behind first fields of each kind, and yes
 /// of first fields that differ and of those that are not as long as each other, where the kind has
-/// such values.
+/// such values. Of two fields the last, of each kind but the constant, decides it: no, and yes where
+/// the records are not as long as each other.
 #[test]
 fn same_route_of_each_kind() {
     let (mut roots, mut fields) = (BTreeSet::new(), BTreeSet::new());
     let (mut other_bytes, mut other_lengths) = (BTreeSet::new(), BTreeSet::new());
+    let mut lasts = BTreeSet::new();
     for line in calls() {
         let (
             Case::SameRoute {
@@ -139,6 +142,12 @@ fn same_route_of_each_kind() {
             other_bytes.insert(field);
             other_lengths.extend((first.len() != second.len()).then_some(field));
         }
+        if let [n, 4, field, 2, ..] = grammar[..] {
+            if same[0] == 0 || first.len() != second.len() {
+                let node = grammar[(3 + 3 * n + field) as usize];
+                lasts.insert((grammar[(1 + 3 * node) as usize], same[0]));
+            }
+        }
     }
     let both: BTreeSet<(u32, u64)> = (0..=10).flat_map(|k| [(k, 0), (k, 1)]).collect();
     assert_eq!(fields, both);
@@ -147,6 +156,52 @@ fn same_route_of_each_kind() {
     assert_eq!(roots, both);
     assert_eq!(other_bytes, (1..=10).map(Some).collect());
     assert_eq!(other_lengths, (3..=8).map(Some).collect());
+    let both = (1..=10).flat_map(|k| [(k, 0), (k, 1)]);
+    assert_eq!(lasts, both.collect());
+}
+
+/// Same route with a record that is refused: each refusal of the first record with each of the second,
+/// 0 for an accepted one; 8 to 11 at a byte that is not 0; and roots of each kind with two records of
+/// equal bytes, and with two that are not as long as each other.
+#[test]
+fn same_route_of_refused_records() {
+    let (mut pairs, mut behind_0) = (BTreeSet::new(), BTreeSet::new());
+    let (mut equal_bytes, mut other_lengths) = (BTreeSet::new(), BTreeSet::new());
+    for line in calls() {
+        let number = line.outcome.answer.number();
+        let (
+            Case::SameRoute {
+                grammar,
+                first,
+                second,
+            },
+            Answer::Refused {
+                refusal,
+                record: named @ 1..=2,
+            },
+        ) = (line.case, line.outcome.answer)
+        else {
+            continue;
+        };
+        behind_0.extend((refusal.place != Place::Byte(0)).then_some((number, named)));
+        let (root, _) = root_kinds(&grammar);
+        equal_bytes.extend((first == second).then_some(root));
+        other_lengths.extend((first.len() != second.len()).then_some(root));
+        let number_of = |record| {
+            let grammar = grammar.clone();
+            let case = Case::CheckWhole { grammar, record };
+            case.of_model().answer.number()
+        };
+        pairs.insert((number_of(first), number_of(second)));
+    }
+    let numbers = [0, 6, 8, 9, 10, 11];
+    let each_two = numbers.map(|one| numbers.map(|other| (one, other)));
+    let expected = each_two.concat().into_iter().filter(|&two| two != (0, 0));
+    assert_eq!(pairs, expected.collect());
+    let expected = (8..=11).flat_map(|number| [(number, 1), (number, 2)]);
+    assert_eq!(behind_0, expected.collect());
+    assert_eq!(equal_bytes, (0..=10).collect());
+    assert_eq!(other_lengths, (0..=10).collect());
 }
 
 /// Refusals with their borders: the number, the call, what the line shows that just passes its test,

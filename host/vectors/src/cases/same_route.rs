@@ -4,8 +4,8 @@ use compare::{chain_and_number, Case};
 
 use super::magnitudes;
 use super::{counted, hex, numbers, table, Cases, List, MAX_BYTES, REFUSED_GRAMMARS};
-use super::{A, A64, A_RECORD, B, BYT, C, D, E, I32, I64, KIND_11, MIX, MIX_RECORD, NUMBERS, PAIR};
-use super::{TUP0, U32, U64, UNI};
+use super::{A, A64, ARR, A_RECORD, B, BYT, C, D, E, I32, I64, KIND_11, MIX, MIX_RECORD, NUMBERS};
+use super::{PAIR, TUP0, U32, U64, UNI};
 
 /// Adds the comparison of two records under a table.
 fn add_under(list: &mut List, name: &str, grammar: Vec<u32>, first: &[u8], second: &[u8]) {
@@ -42,6 +42,8 @@ const BYTES_FIRST: &str = "3, 4 0 2, 5 0 0, 1 0 0, 2, 1 2";
 /// A tuple of a tuple of two uint32 and a uint32, and the same fields exchanged.
 const PAIR_FIRST: &str = "3, 4 0 2, 4 2 2, 1 0 0, 4, 1 2 2 2";
 const PAIR_LAST: &str = "3, 4 0 2, 4 2 2, 1 0 0, 4, 2 1 2 2";
+/// A tuple of a byte array and a union of two byte arrays, one node used three times.
+const UNION_LAST: &str = "3, 4 0 2, 8 2 2, 5 0 0, 4, 2 1 2 2";
 /// A tuple of a union of a constant and a uint32, and a uint32.
 const UNION_FIRST: &str = "4, 4 0 2, 8 2 2, 1 0 0, 0 0 0, 4, 1 2 3 2";
 /// A tuple of an array of constants and a uint32.
@@ -50,7 +52,7 @@ const CONSTANTS_FIRST: &str = "4, 4 0 2, 3 2 1, 1 0 0, 0 0 0, 3, 1 2 3";
 const CONSTANTS_TWICE: &str = "3, 4 0 2, 3 2 1, 0 0 0, 3, 1 1 2";
 
 /// Name, grammar, first and second record.
-const LISTED: [(&str, &str, &str, &str); 42] = [
+const LISTED: [(&str, &str, &str, &str); 43] = [
     ("example A twice", A, A_RECORD, A_RECORD),
     ("the first field differs", A, A_RECORD, A_NUMBER),
     ("the last element differs", A, A_RECORD, A_ELEMENT),
@@ -203,10 +205,51 @@ const LISTED: [(&str, &str, &str, &str); 42] = [
         "05000000",
         "050000",
     ),
+    (
+        "a union without cases, equal bytes that are refused",
+        D,
+        "0000000000000000",
+        "0000000000000000",
+    ),
+];
+
+/// Each kind of root that is no tuple with fields: a grammar, an accepted and a refused record.
+const ROOTS: [(&str, &str, &str, &str); 11] = [
+    ("constant", B, "", "00"),
+    ("uint32", U32, "05000000", ""),
+    ("uint64", U64, "0500000000000000", "05000000000000"),
+    (
+        "array",
+        ARR,
+        "0100000000000000 05000000",
+        "0100000000000000 050000",
+    ),
+    ("tuple without fields", TUP0, "", "00"),
+    ("byte array", BYT, "0100000000000000 5A", "0100000000000000"),
+    (
+        "uint32 array",
+        E,
+        "0100000000000000 05000000",
+        "0100000000000000 050000",
+    ),
+    (
+        "uint64 array",
+        A64,
+        "0100000000000000 0500000000000000",
+        "0100000000000000 05000000000000",
+    ),
+    (
+        "union",
+        UNI,
+        "0100000000000000 05000000",
+        "0100000000000000",
+    ),
+    ("int32", I32, "FFFFFFFF", "FFFFFF"),
+    ("int64", I64, "FFFFFFFFFFFFFFFF", "FFFFFFFFFFFFFF"),
 ];
 
 /// The root's first field, and what may be taken for it. Name, grammar, first and second record.
-const FIRST_FIELDS: [(&str, &str, &str, &str); 49] = [
+const FIRST_FIELDS: [(&str, &str, &str, &str); 52] = [
     (
         "the first field and the last element differ",
         A,
@@ -224,6 +267,12 @@ const FIRST_FIELDS: [(&str, &str, &str, &str); 49] = [
         PAIR,
         "01000000 02000000",
         "01000000 03000000",
+    ),
+    (
+        "the third of four fields of one node differs",
+        "2, 4 0 4, 1 0 0, 4, 1 1 1 1",
+        "01000000 02000000 03000000 04000000",
+        "01000000 02000000 09000000 04000000",
     ),
     (
         "first fields of 11 and 10 bytes, equal behind them",
@@ -442,6 +491,18 @@ const FIRST_FIELDS: [(&str, &str, &str, &str); 49] = [
         "00000000000000",
     ),
     (
+        "10 behind the first record's first field",
+        UNION_LAST,
+        "0100000000000000 41 0200000000000000",
+        "0000000000000000 0000000000000000 0000000000000000",
+    ),
+    (
+        "10 behind the second record's first field",
+        UNION_LAST,
+        "0100000000000000 41 0000000000000000 0000000000000000",
+        "0000000000000000 0200000000000000",
+    ),
+    (
         "11 behind the first record's only field",
         ONE,
         "07000000 00",
@@ -569,6 +630,65 @@ const KINDS: [(&str, &str, &str, &str); 11] = [
     ),
 ];
 
+/// Each kind but the constant and the uint32 as that of a field behind a byte array: a grammar, and
+/// the bytes of two such fields, which differ.
+const BEHIND: [(&str, &str, &str, &str); 9] = [
+    (
+        "uint64",
+        "3, 4 0 2, 5 0 0, 2 0 0, 2, 1 2",
+        "0000000000000001",
+        "0000000000000002",
+    ),
+    (
+        "array",
+        "3, 4 0 2, 3 2 1, 5 0 0, 3, 2 1 2",
+        "0100000000000000 0100000000000000 42",
+        "0200000000000000 0100000000000000 42 0000000000000000",
+    ),
+    (
+        "tuple",
+        "3, 4 0 2, 4 2 1, 5 0 0, 3, 2 1 2",
+        "0100000000000000 42",
+        "0100000000000000 43",
+    ),
+    (
+        "byte array",
+        BYTES_TWICE,
+        "0100000000000000 42",
+        "0100000000000000 43",
+    ),
+    (
+        "uint32 array",
+        "3, 4 0 2, 5 0 0, 6 0 0, 2, 1 2",
+        "0100000000000000 07000000",
+        "0100000000000000 07000080",
+    ),
+    (
+        "uint64 array",
+        "3, 4 0 2, 5 0 0, 7 0 0, 2, 1 2",
+        "0100000000000000 0700000000000000",
+        "0100000000000000 0700000000000080",
+    ),
+    (
+        "union",
+        UNION_LAST,
+        "0000000000000000 0100000000000000 42",
+        "0100000000000000 0100000000000000 42",
+    ),
+    (
+        "int32",
+        "3, 4 0 2, 5 0 0, 9 0 0, 2, 1 2",
+        "FFFFFFFF",
+        "FFFFFF7F",
+    ),
+    (
+        "int64",
+        "3, 4 0 2, 5 0 0, 10 0 0, 2, 1 2",
+        "FFFFFFFFFFFFFFFF",
+        "FFFFFFFFFFFFFF7F",
+    ),
+];
+
 /// Tuples of many uint32, one of which differs.
 fn many_fields(list: &mut List) {
     for (count, many) in [(256, "256"), (1_024, "1,024")] {
@@ -653,7 +773,8 @@ fn deep_fields(list: &mut List) {
     }
 }
 
-/// The root's first field: the listed pairs, each kind, many fields, long ones and deep ones.
+/// The root's first field: the listed pairs, each kind of it and of a field behind it, many fields,
+/// long ones and deep ones.
 fn first_fields(list: &mut List) {
     for (name, grammar, first, second) in FIRST_FIELDS {
         add(list, name, grammar, &hex(first), &hex(second));
@@ -666,6 +787,14 @@ fn first_fields(list: &mut List) {
         let second = behind(one, "08000000");
         let name = format!("first field {kind}, the number behind it differs");
         add(list, &name, grammar, &first, &second);
+    }
+    for (kind, grammar, one, other) in BEHIND {
+        let long = |field: &str| hex(&format!("0100000000000000 41 {field}"));
+        let short = hex(&format!("0000000000000000 {one}"));
+        let name = format!("{kind} behind first fields of 9 and 8 bytes");
+        add(list, &name, grammar, &long(one), &short);
+        let name = format!("{kind} behind a byte array differs");
+        add(list, &name, grammar, &long(one), &long(other));
     }
     many_fields(list);
     long_fields(list);
@@ -706,12 +835,64 @@ fn long_records(list: &mut List) {
     }
 }
 
+/// One record refused, or both by the same bytes, under each kind of root.
+fn refused_roots(list: &mut List) {
+    for (kind, grammar, accepted, refused) in ROOTS {
+        let (accepted, refused) = (hex(accepted), hex(refused));
+        for (which, first, second) in [
+            ("equal bytes that are refused", &refused, &refused),
+            ("the first record refused", &refused, &accepted),
+            ("the second record refused", &accepted, &refused),
+        ] {
+            let name = format!("root {kind}, {which}");
+            add(list, &name, grammar, first, second);
+        }
+    }
+}
+
+/// Both records refused, by each two numbers; and a grammar refused before them for what the root
+/// does not reach.
+fn both_refused(list: &mut List) {
+    // a tuple of a union of one constant and an array of constants, and more nodes, not reached by it
+    let nodes = [[4, 0, 2], [8, 2, 1], [3, 3, 1], [0; 3], [0; 3]];
+    let grammar = |more: &[[u32; 3]]| table(&[&nodes, more].concat(), &[1, 2, 3, 4]);
+    let record = |tag, count, behind: &[u8]| counted(tag, &counted(count, behind));
+    let records = [
+        (6, vec![0; MAX_BYTES + 1]),
+        (8, record(0, 5_000, &[])),
+        (9, counted(0, &[])),
+        (10, record(7, 0, &[])),
+        (11, record(0, 0, &[0])),
+    ];
+    for (one, first) in &records {
+        for (other, second) in &records {
+            let name = format!("the first record's {one} and the second's {other}");
+            add_under(list, &name, grammar(&[]), first, second);
+        }
+    }
+    let refused = [
+        (1, grammar(&[[0; 3]; 252])),
+        (2, [grammar(&[]), vec![0]].concat()),
+        (3, grammar(&[[11, 0, 0]])),
+        (4, grammar(&[[0, 1, 0]])),
+        (5, grammar(&[[4, 0, 1]])),
+    ];
+    for (number, grammar) in refused {
+        for (other, record) in &records[1..] {
+            let name = format!("{number} before {other} of both records");
+            add_under(list, &name, grammar.clone(), record, record);
+        }
+    }
+}
+
 /// The cases of same route.
 pub fn same_route() -> Cases {
     let mut list = List::default();
     for (name, grammar, first, second) in LISTED {
         add(&mut list, name, grammar, &hex(first), &hex(second));
     }
+    refused_roots(&mut list);
+    both_refused(&mut list);
     long_records(&mut list);
     first_fields(&mut list);
     list.0.extend(magnitudes::same_route());
