@@ -6,7 +6,7 @@ use mathlib.Core.List.{List}
 use Prim.Native.Nat.{ℕ, _-_, _^_, _≤_}
 use native.Mathlib.Omega.{arith}
 use lib.ListN.{length, take, drop}
-use Rattle.refusal.specs.Outcome.{Outcome, accepted, refused, map, Reason}
+use Rattle.refusal.specs.Outcome.{Outcome, accepted, refused, Reason}
 use Rattle.refusal.proofs.Outcome.{map-accepted, map-refused}
 use Rattle.refusal.proofs.Tests.{refuted, refutes}
 use Rattle.packed.specs.Packed.{Bytes, Below}
@@ -17,16 +17,15 @@ use Rattle.value.specs.Reading.{State, Stop}
 use Rattle.value.proofs.Laws.{length-bytesOf, demarshallable-value}
 use Rattle.grammar.specs.Check.{checkGrammar}
 use Rattle.grammar.specs.Tree.{treeOf}
-use Rattle.readers.specs.declared.Step.{Step as CodeStep}
-use Rattle.readers.specs.Meaning.{stepOf}
-use Rattle.readers.specs.Root.{readRoot, behindFirstField}
+use Rattle.readers.specs.Root.{readRoot, behindFirstField, firstFieldOf}
+use Rattle.readers.proofs.Laws.{part-from}
 use Rattle.reading.specs.Calls.{withoutState, demarshallOf}
 use Rattle.reading.proofs.Calls.{root-whole}
 use Rattle.reading.proofs.Bridge.{demarshall-accepted}
 use Rattle.comparing.specs.SameRoute.{NamedReason, ofGrammar, ofFirst, ofSecond, Both, readBoth, Same, Compares}
-use Rattle.comparing.proofs.Counted.{counted-bytes, first-within, part-from}
+use Rattle.comparing.proofs.Counted.{counted-bytes, first-within}
 
--- an accepted record is the bytes of its value, which is one of the root
+-- an accepted record is the bytes of its value, a value of the root's tree
 pub record-value : (g d : List ℕ) (capacity : ℕ) → Below (2 ^ 32) g → Bytes d → (t : Step State Val) → demarshallOf g d capacity ≡ accepted t → (d ≡ bytesOf (t .value)) × ValueOf (treeOf g 0) (t .value)
 record-value g d capacity w b t h =
     let m = demarshall-accepted g d capacity w b t h in
@@ -40,22 +39,18 @@ same-route-same-bytes g first second capacity w a b t u h k =
     let y = record-value g second capacity w b u k in
     rw (x .0, y .0) (counted-bytes (t .value) (u .value) (x .1) (y .1))
 
--- an answer that was matched
-pub step-matched : {o : Outcome Stop State} {p q : CodeStep} → p ≡ q → stepOf p ≡ o → stepOf q ≡ o
-step-matched e h = ap stepOf (sym e) ∙ h
-
 -- what the check of a record's first field says of its whole reading
 module _ (g d : List ℕ) where
-  field-refused : {e : Stop} → refused e ≡ map (λ t. behindFirstField (t .value)) (readRoot g d 0 4096 true) → demarshallOf g d 4096 ≡ refused (e .why)
+  field-refused : {e : Stop} → refused e ≡ firstFieldOf g d → demarshallOf g d 4096 ≡ refused (e .why)
   field-refused h = sym (root-whole g d 4096) ∙ ap withoutState (map-refused (λ (t : Step State Val). behindFirstField (t .value)) (readRoot g d 0 4096 true) (sym h))
 
-  field-accepted : {s : State} → accepted s ≡ map (λ t. behindFirstField (t .value)) (readRoot g d 0 4096 true) → (t : Step State Val) × (demarshallOf g d 4096 ≡ accepted t) × (s ≡ behindFirstField (t .value))
+  field-accepted : {s : State} → accepted s ≡ firstFieldOf g d → (t : Step State Val) × (demarshallOf g d 4096 ≡ accepted t) × (s ≡ behindFirstField (t .value))
   field-accepted h =
       let m = map-accepted (λ (t : Step State Val). behindFirstField (t .value)) (readRoot g d 0 4096 true) (sym h) in
       (m .0, sym (root-whole g d 4096) ∙ ap withoutState (m .1), m .2)
 
-  -- it ends within the record
-  pub field-within : {s : State} → accepted s ≡ map (λ t. behindFirstField (t .value)) (readRoot g d 0 4096 true) → Below (2 ^ 32) g → Bytes d → s .at ≤ length d
+  -- the first field ends within the record
+  pub field-within : {s : State} → accepted s ≡ firstFieldOf g d → Below (2 ^ 32) g → Bytes d → s .at ≤ length d
   field-within {s} h w b =
       let m = field-accepted h in
       let x = record-value g d 4096 w b (m .0) (m .1) in
@@ -98,16 +93,16 @@ module _ (g first second : List ℕ) where
   grammar-refused h = refused-both (rw (sym h))
 
   module _ (p : accepted tt ≡ checkGrammar g) where
-    pub first-refused : {e : Stop} → refused e ≡ map (λ t. behindFirstField (t .value)) (readRoot g first 0 4096 true) → Compares g first second (refused (ofFirst (e .why)))
+    pub first-refused : {e : Stop} → refused e ≡ firstFieldOf g first → Compares g first second (refused (ofFirst (e .why)))
     unfolding readBoth
     first-refused h = refused-both (rw (sym p, field-refused g first h))
 
-    module _ {m : State} (h : accepted m ≡ map (λ t. behindFirstField (t .value)) (readRoot g first 0 4096 true)) where
-      pub second-refused : {e : Stop} → refused e ≡ map (λ t. behindFirstField (t .value)) (readRoot g second 0 4096 true) → Compares g first second (refused (ofSecond (e .why)))
+    module _ {m : State} (h : accepted m ≡ firstFieldOf g first) where
+      pub second-refused : {e : Stop} → refused e ≡ firstFieldOf g second → Compares g first second (refused (ofSecond (e .why)))
       unfolding readBoth
       second-refused k = let t = field-accepted g first h in refused-both (rw (sym p, t .1, field-refused g second k))
 
-      pub compared : {n : State} → accepted n ≡ map (λ t. behindFirstField (t .value)) (readRoot g second 0 4096 true) → Below (2 ^ 32) g → Bytes first → Bytes second → {s : Bool} → (take (length first - m .at) (drop (m .at) first) ≡ take (length second - n .at) (drop (n .at) second)) ↔ (s ≡ true) → Compares g first second (accepted s)
+      pub compared : {n : State} → accepted n ≡ firstFieldOf g second → Below (2 ^ 32) g → Bytes first → Bytes second → {s : Bool} → (take (length first - m .at) (drop (m .at) first) ≡ take (length second - n .at) (drop (n .at) second)) ↔ (s ≡ true) → Compares g first second (accepted s)
       compared {n} k w a b {s} e =
           let t = field-accepted g first h in
           let u = field-accepted g second k in

@@ -26,25 +26,40 @@ four n rest = n ∷ 0 ∷ 0 ∷ 0 ∷ rest
 abbrev pub eight : ℕ → List ℕ → List ℕ
 eight n rest = n ∷ 0 ∷ 0 ∷ 0 ∷ 0 ∷ 0 ∷ 0 ∷ 0 ∷ rest
 
--- a tuple of a uint32 and a byte array: document 01's case A
+-- a tuple of a uint32 and a byte array, document 01's case A; its record by serial number and last byte
 abbrev pub grammarA : List ℕ
 grammarA = 3 ∷ 4 ∷ 0 ∷ 2 ∷ 1 ∷ 0 ∷ 0 ∷ 5 ∷ 0 ∷ 0 ∷ 2 ∷ 1 ∷ 2 ∷ []
 
--- a tuple of a byte array and a uint32
-abbrev pub bytesFirst : List ℕ
-bytesFirst = 3 ∷ 4 ∷ 0 ∷ 2 ∷ 5 ∷ 0 ∷ 0 ∷ 1 ∷ 0 ∷ 0 ∷ 2 ∷ 1 ∷ 2 ∷ []
+abbrev pub recordA : ℕ → ℕ → List ℕ
+recordA serial last = four serial (eight 2 (0x41 ∷ last ∷ []))
 
--- a tuple of a tuple of two uint32 and a uint32
+abbrev pub countedA : ℕ → Val
+countedA last = VTuple (vcons (VByteArray (0x41 ∷ last ∷ [])) vnil)
+
+-- a tuple of a node of a kind without children and a uint32
+abbrev pub before : ℕ → List ℕ
+before kind = 3 ∷ 4 ∷ 0 ∷ 2 ∷ kind ∷ 0 ∷ 0 ∷ 1 ∷ 0 ∷ 0 ∷ 2 ∷ 1 ∷ 2 ∷ []
+
+-- a tuple of a tuple of two uint32 and a uint32, and with these fields exchanged
 abbrev pub tupleFirst : List ℕ
 tupleFirst = 3 ∷ 4 ∷ 0 ∷ 2 ∷ 4 ∷ 2 ∷ 2 ∷ 1 ∷ 0 ∷ 0 ∷ 4 ∷ 1 ∷ 2 ∷ 2 ∷ 2 ∷ []
 
--- a tuple of one uint32
-abbrev pub oneField : List ℕ
-oneField = 2 ∷ 4 ∷ 0 ∷ 1 ∷ 1 ∷ 0 ∷ 0 ∷ 1 ∷ 1 ∷ []
+abbrev pub tupleLast : List ℕ
+tupleLast = 3 ∷ 4 ∷ 0 ∷ 2 ∷ 4 ∷ 2 ∷ 2 ∷ 1 ∷ 0 ∷ 0 ∷ 4 ∷ 2 ∷ 1 ∷ 2 ∷ 2 ∷ []
+
+-- a tuple of an array of constants and a uint32, and its record: a count of two bytes and the number 7
+abbrev pub constantsFirst : List ℕ
+constantsFirst = 4 ∷ 4 ∷ 0 ∷ 2 ∷ 3 ∷ 2 ∷ 1 ∷ 1 ∷ 0 ∷ 0 ∷ 0 ∷ 0 ∷ 0 ∷ 3 ∷ 1 ∷ 2 ∷ 3 ∷ []
+
+abbrev pub constants : ℕ → ℕ → List ℕ
+constants low high = low ∷ high ∷ 0 ∷ 0 ∷ 0 ∷ 0 ∷ 0 ∷ 0 ∷ four 7 []
 
 -- a node of a kind above a tuple of two uint32: an array or a union of it
 abbrev pub above : ℕ → List ℕ
 above kind = 3 ∷ kind ∷ 0 ∷ 1 ∷ 4 ∷ 1 ∷ 2 ∷ 1 ∷ 0 ∷ 0 ∷ 3 ∷ 1 ∷ 2 ∷ 2 ∷ []
+
+abbrev pub one : ℕ → Val
+one n = VTuple (vcons (VUint32 n) vnil)
 
 abbrev pub two : ℕ → ℕ → Val
 two m n = VTuple (vcons (VUint32 m) (vcons (VUint32 n) vnil))
@@ -52,21 +67,28 @@ two m n = VTuple (vcons (VUint32 m) (vcons (VUint32 n) vnil))
 abbrev pub examples : List Example
 examples =
     -- serial numbers 7 and 8: the same route
-    record { grammar = grammarA; first = four 7 (eight 2 (0x41 ∷ 0x42 ∷ [])); second = four 8 (eight 2 (0x41 ∷ 0x42 ∷ [])); expected = both (VTuple (vcons (VByteArray (0x41 ∷ 0x42 ∷ [])) vnil)) (VTuple (vcons (VByteArray (0x41 ∷ 0x42 ∷ [])) vnil)) }
+    record { grammar = grammarA; first = recordA 7 0x42; second = recordA 8 0x42; expected = both (countedA 0x42) (countedA 0x42) }
     -- and another byte behind them: another
-    ∷ record { grammar = grammarA; first = four 7 (eight 2 (0x41 ∷ 0x42 ∷ [])); second = four 8 (eight 2 (0x41 ∷ 0x43 ∷ [])); expected = both (VTuple (vcons (VByteArray (0x41 ∷ 0x42 ∷ [])) vnil)) (VTuple (vcons (VByteArray (0x41 ∷ 0x43 ∷ [])) vnil)) }
+    ∷ record { grammar = grammarA; first = recordA 7 0x42; second = recordA 8 0x43; expected = both (countedA 0x42) (countedA 0x43) }
     -- first fields of different lengths
-    ∷ record { grammar = bytesFirst; first = eight 2 (0x41 ∷ 0x42 ∷ four 7 []); second = eight 3 (0x58 ∷ 0x59 ∷ 0x5a ∷ four 7 []); expected = both (VTuple (vcons (VUint32 7) vnil)) (VTuple (vcons (VUint32 7) vnil)) }
-    -- a first field that is a tuple itself does not count at all
-    ∷ record { grammar = tupleFirst; first = four 1 (four 2 (four 3 [])); second = four 8 (four 9 (four 3 [])); expected = both (VTuple (vcons (VUint32 3) vnil)) (VTuple (vcons (VUint32 3) vnil)) }
-    -- one field: nothing counts
-    ∷ record { grammar = oneField; first = four 7 []; second = four 8 []; expected = both (VTuple vnil) (VTuple vnil) }
+    ∷ record { grammar = before 5; first = eight 2 (0x41 ∷ 0x42 ∷ four 7 []); second = eight 3 (0x58 ∷ 0x59 ∷ 0x5a ∷ four 7 []); expected = both (one 7) (one 7) }
+    -- one without bytes
+    ∷ record { grammar = before 0; first = four 7 []; second = four 8 []; expected = both (one 7) (one 8) }
+    -- one that is a tuple does not count at all, and a tuple behind it counts whole
+    ∷ record { grammar = tupleFirst; first = four 1 (four 2 (four 3 [])); second = four 8 (four 9 (four 3 [])); expected = both (one 3) (one 3) }
+    ∷ record { grammar = tupleLast; first = four 1 (four 2 (four 3 [])); second = four 1 (four 9 (four 3 [])); expected = both (VTuple (vcons (two 2 3) vnil)) (VTuple (vcons (two 9 3) vnil)) }
+    -- one field: nothing counts. No field: there is nothing
+    ∷ record { grammar = 2 ∷ 4 ∷ 0 ∷ 1 ∷ 1 ∷ 0 ∷ 0 ∷ 1 ∷ 1 ∷ []; first = four 7 []; second = four 8 []; expected = both (VTuple vnil) (VTuple vnil) }
+    ∷ record { grammar = 1 ∷ 4 ∷ 0 ∷ 0 ∷ 0 ∷ []; first = []; second = []; expected = both (VTuple vnil) (VTuple vnil) }
     -- a tuple below another root counts whole
     ∷ record { grammar = above 3; first = eight 1 (four 1 (four 2 [])); second = eight 1 (four 9 (four 2 [])); expected = both (VArray (vcons (two 1 2) vnil)) (VArray (vcons (two 9 2) vnil)) }
     ∷ record { grammar = above 8; first = eight 0 (four 1 (four 2 [])); second = eight 0 (four 9 (four 2 [])); expected = both (VCase 0 (two 1 2)) (VCase 0 (two 9 2)) }
-    -- a first field that is cut, in each record
-    ∷ record { grammar = grammarA; first = 7 ∷ []; second = 8 ∷ []; expected = refused (ofFirst (reason 9 (byte 0))) }
-    ∷ record { grammar = grammarA; first = four 7 (eight 2 (0x41 ∷ 0x42 ∷ [])); second = 8 ∷ []; expected = refused (ofSecond (reason 9 (byte 0))) }
+    -- the rows of the first field are rows of the record: with 4,093 constants there are 4,096, with 4,094 none is left for the number
+    ∷ record { grammar = constantsFirst; first = constants 0xfd 0x0f; second = constants 0 0; expected = both (one 7) (one 7) }
+    ∷ record { grammar = constantsFirst; first = constants 0xfe 0x0f; second = constants 0 0; expected = refused (ofFirst (reason 8 (byte 8))) }
+    -- a record that is cut behind its first field, and one that is cut in it
+    ∷ record { grammar = grammarA; first = four 7 (eight 2 (0x41 ∷ [])); second = four 7 (eight 2 (0x41 ∷ [])); expected = refused (ofFirst (reason 9 (byte 4))) }
+    ∷ record { grammar = grammarA; first = recordA 7 0x42; second = 8 ∷ []; expected = refused (ofSecond (reason 9 (byte 0))) }
     ∷ []
 
 abbrev pub ExamplesHold : Type 0

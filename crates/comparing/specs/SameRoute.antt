@@ -3,9 +3,10 @@ use mathlib.Core.Path.{_≡_}
 use mathlib.Core.Logic.{_↔_}
 use mathlib.Core.Bool.{Bool, true, false}
 use mathlib.Core.List.{List}
-use Prim.Native.Nat.{ℕ, _<_}
+use Prim.Native.Nat.{ℕ, _^_, _<_}
 use Rattle.refusal.specs.Outcome.{Outcome, accepted, refused, bind, map, Reason}
 use Rattle.refusal.specs.Meaning.{reasonOf}
+use Rattle.packed.specs.Packed.{Bytes, Below}
 use Rattle.value.specs.Tree.{Val, Vals, VConstant, VNumber, VArray, VTuple, VNumberArray, VCase, vnil, vcons}
 use Rattle.tables.specs.Grammar.{kindWord, countWord}
 use Rattle.grammar.specs.Check.{checkGrammar}
@@ -65,6 +66,10 @@ pub record RootRule (g : List ℕ) (b : Both) : Type 0 where
   pub tupleRoot : kindWord g 0 ≡ 4 → 0 < countWord g 0 → (v : Val) × (vs : Vals) × (u : Val) × (us : Vals) × (b .first ≡ VTuple (vcons v vs)) × (b .second ≡ VTuple (vcons u us)) × (Same b ↔ (vs ≡ us))
   -- any other root: the values
   pub otherRoot : (kindWord g 0 ≡ 4 → countWord g 0 ≡ 0) → Same b ↔ (b .first ≡ b .second)
+
+-- it holds of any two records that are accepted under one table
+abbrev pub RootDecides : Type 0
+RootDecides = (g first second : List ℕ) → Below (2 ^ 32) g → Bytes first → Bytes second → (b : Both) → readBoth g first second ≡ accepted b → RootRule g b
 
 -- exactly when o is yes, no, or a refusal
 pub record Compares (g first second : List ℕ) (o : Outcome NamedReason Bool) : Type 0 where

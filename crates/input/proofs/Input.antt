@@ -9,7 +9,7 @@ use lib.ListN.{length, take, drop}
 use lib.Dec.{leb, eqb}
 use borrow.Author.Tests.{le-leb, lt-leb, leb-true, eq-eqb, ne-eqb, eqb-true}
 use Rattle.refusal.specs.Outcome.{Outcome, accepted, refused, bind, test, map, Reason, reason, byte}
-use Rattle.refusal.proofs.Outcome.{test-true, test-false, test-passed}
+use Rattle.refusal.proofs.Outcome.{bind-inverse, test-true, test-false, test-passed}
 use Rattle.refusal.proofs.Meaning.{reason-injective}
 use Rattle.packed.specs.declared.UnpackedU32.{UnpackedU32}
 use Rattle.packed.specs.Meaning.{unpackedU32}
@@ -94,10 +94,6 @@ module _ (input : List ℕ) where
 test-inverse : {A : Type 0} (b : Bool) (e : Reason) (k : Unit {0} → Outcome Reason A) (a : A) → test b e k ≡ accepted a → (b ≡ true) × (k tt ≡ accepted a)
 test-inverse b e k a h = let t = test-passed b e k a h in (t, sym (test-true e k t) ∙ h)
 
-pub bind-inverse : {A B : Type 0} (x : Outcome Reason A) (k : A → Outcome Reason B) (b : B) → bind x k ≡ accepted b → (a : A) × (x ≡ accepted a) × (k a ≡ accepted b)
-bind-inverse (accepted a) k b h = (a, refl, h)
-bind-inverse (refused e) k b h = let z : _≡_ {A = ℕ} 0 1 = cc in absurd (omega arith)
-
 module _ (input : List ℕ) (p : Parts) where
   count-inverse : (index n : ℕ) → countAt input index ≡ accepted n → unpackLittleEndian 4 (take 4 (drop index input)) ≡ n
   unfolding countAt
@@ -111,9 +107,9 @@ module _ (input : List ℕ) (p : Parts) where
   unfolding layoutOf recordAfter
   laid-out h =
       let s = test-inverse (leb (length input) mostInput) (notLaidOut input) _ p h in
-      let w = bind-inverse (countAt input 0) _ p (s .1) in
+      let w = bind-inverse (countAt input 0) _ (s .1) in
       let m = test-inverse (leb (w .0) mostWords) (notLaidOut input) _ p (w .2) in
-      let z = bind-inverse (countAt input (4 + 4 * w .0)) _ p (m .1) in
+      let z = bind-inverse (countAt input (4 + 4 * w .0)) _ (m .1) in
       let e = test-inverse (eqb (8 + 4 * w .0 + z .0) (length input)) (notLaidOut input) _ p (z .2) in
       let q : record { words = w .0; start = 8 + 4 * w .0; size = z .0 } ≡ p = cc in
       subst (LaidOut input) q

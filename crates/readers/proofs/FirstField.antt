@@ -26,7 +26,8 @@ use Rattle.readers.specs.declared.State.{State as CodeState}
 use Rattle.readers.specs.declared.Step.{Step as CodeStep}
 use Rattle.readers.specs.declared.Step.the-variants.{Next, Stopped}
 use Rattle.readers.specs.Meaning.{stepOf, StepKeeps}
-use Rattle.readers.specs.Root.{capacityWithin, readRoot, behindFirstField, FillsRows, Admitted}
+use Rattle.readers.specs.Root.{capacityWithin, readRoot, FillsRows, Admitted, behindFirstField, firstFieldOf}
+use Rattle.readers.proofs.Meaning.{step-matched}
 use Rattle.readers.proofs.Cycle.{give-accepted}
 use Rattle.readers.proofs.Root.{within-none, root-admitted, root-accepted}
 
@@ -86,11 +87,11 @@ module _ (g d : List ℕ) (a : Admitted g d [] 0 4096) (t : Step State Val) (h :
       let v : t .value ≡ VTuple (vcons (y .0 .value) (y .2)) = ap (λ (s : Step State Val). s .value) (x .2) ∙ ap VTuple (y .3) in
       ap (map (λ (u : Step State Val). u .state)) (y .1) ∙ ap accepted (behind-read t (y .0) (y .2) v e)
 
-  -- as the code reads it
+  -- the same of what the code calls the child, and of its answer
   pub child-read : {child : ℕ} {x : Outcome Stop State} → kindWord g 0 ≡ 4 → (countWord g 0 ≡ 0 → ⊥) → child ≡ childWord g (firstWord g 0 + 0) → x ≡ map (λ (u : Step State Val). u .state) (readVal 4096 d (treeOf g child) (begin (start 0))) → x ≡ accepted (behindFirstField (t .value))
   child-read k n e q = q ∙ ap (λ (c : ℕ). map (λ (u : Step State Val). u .state) (readVal 4096 d (treeOf g c) (begin (start 0)))) (e ∙ ap (childWord g) (add-zero (firstWord g 0))) ∙ first-read k (omega (arith, n))
 
-  -- none, so the state stays before the root
+  -- where the root has no first field, the state before it
   pub first-none : (kindWord g 0 ≡ 4 → countWord g 0 ≡ 0) → start 0 ≡ behindFirstField (t .value)
   first-none n =
       let x = read-accepted 4096 d (treeOf g 0) (start 0) (a .inside) (tree-valid g (a .words) 0) (a .byteValues) t h in
@@ -108,17 +109,17 @@ module _ (g d : List ℕ) {r : CodeStep} {entry exit : List ℕ} (f : FillsRows 
   whole-check = subst (λ (c : ℕ). (stepOf r ≡ map (λ t. t .state) (readRoot g d 0 c true)) × StepKeeps c r) (sym (within-none 4096 0 refl)) (f .answers, f .keeps)
 
   -- the whole reading stopped
-  pub field-stopped : (u : CodeState) (q : Refusal) → r ≡ Stopped u q → (stepOf (Stopped u q) ≡ map (λ t. behindFirstField (t .value)) (readRoot g d 0 4096 true)) × (u .capacity ≡ 4096)
-  field-stopped u q e = let k = whole-check .1 in (refusal-stays (readRoot g d 0 4096 true) (ap stepOf (sym e) ∙ whole-check .0), rw e at k)
+  pub field-stopped : (u : CodeState) (q : Refusal) → r ≡ Stopped u q → (stepOf (Stopped u q) ≡ firstFieldOf g d) × (u .capacity ≡ 4096)
+  field-stopped u q e = let k = whole-check .1 in (refusal-stays (readRoot g d 0 4096 true) (step-matched e (whole-check .0)), rw e at k)
 
   module _ (u : CodeState) (e : r ≡ Next u) where
     whole-read : (t : Step State Val) × (readRoot g d 0 4096 true ≡ accepted t)
-    whole-read = let m = map-accepted (λ (t : Step State Val). t .state) (readRoot g d 0 4096 true) (sym (ap stepOf (sym e) ∙ whole-check .0)) in (m .0, m .1)
+    whole-read = let m = map-accepted (λ (t : Step State Val). t .state) (readRoot g d 0 4096 true) (sym (step-matched e (whole-check .0))) in (m .0, m .1)
 
-    -- so the first field may be read
+    -- the whole reading went on, so the first field may be read
     pub field-admitted : Below (2 ^ 32) g → Bytes d → Admitted g d [] 0 4096
     field-admitted w b = let x = whole-read in root-admitted g d 0 (root-accepted g d 0 4096 true (x .0) (x .1) .0) w b (omega arith) (inl refl)
 
-    -- and was read
-    pub field-read : {x : Outcome Stop State} → ((t : Step State Val) → readVal 4096 d (treeOf g 0) (start 0) ≡ accepted t → x ≡ accepted (behindFirstField (t .value))) → x ≡ map (λ t. behindFirstField (t .value)) (readRoot g d 0 4096 true)
+    -- what reading it answers
+    pub field-read : {x : Outcome Stop State} → ((t : Step State Val) → readVal 4096 d (treeOf g 0) (start 0) ≡ accepted t → x ≡ accepted (behindFirstField (t .value))) → x ≡ firstFieldOf g d
     field-read h = let a = whole-read in h (a .0) (root-accepted g d 0 4096 true (a .0) (a .1) .1) ∙ sym (ap (map (λ (t : Step State Val). behindFirstField (t .value))) (a .1))

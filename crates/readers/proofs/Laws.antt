@@ -6,7 +6,7 @@ use Prim.Native.Nat.{ℕ, _+_, _-_, _*_, _/_, _≤_, _<_}
 use native.Mathlib.Numerals.{add-one}
 use native.Mathlib.Omega.{arith}
 use lib.ListN.{length, take, drop, length-drop}
-use lib.Seq.{length-take-le}
+use lib.Seq.{take-all}
 use lib.Dec.{leb}
 use borrow.Author.Tests.{lt-ltb, le-ltb, le-leb, leb-true}
 use Rattle.refusal.specs.Outcome.{Outcome, accepted, refused, test, map, Reason, reason, byte}
@@ -132,8 +132,11 @@ pub taken-at : (d : List ℕ) (w : ℕ) (s : State) (n : ℕ) (u : CodeState) �
 taken-at d w s n u h = let m = take-moves d w s n (stateOf u) h in (ap (λ (t : State). t .at) (m .0), m .1)
 
 -- the part handed on, from byte p to the end
+pub part-from : (d : List ℕ) (p : ℕ) → take (length d - p) (drop p d) ≡ drop p d
+part-from d p = take-all (length d - p) (drop p d) (rw length-drop (omega arith))
+
 part-length : (d : List ℕ) (p : ℕ) → length (take (length d - p) (drop p d)) ≡ length d - p
-part-length d p = length-take-le (length d - p) (drop p d) (rw length-drop (omega arith))
+part-length d p = rw (part-from d p, length-drop)
 
 -- an array's body, decided on the part behind the count n of the value at s
 module _ (d : List ℕ) (w : ℕ) (s : State) (n : ℕ) (u : CodeState) (h : yield n (stateOf u) ≡ takeNumber d 8 s) (r : Body) (b : bodyOf r ≡ test (leb n (length (take (length d - u .at) (drop (u .at) d)) / w)) (reason 9 (byte (s .at))) (λ _. accepted (w * n))) where

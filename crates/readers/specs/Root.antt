@@ -1,4 +1,5 @@
--- The reading of the root on every input: 1 to 7, the capacity, the value, 11 of a whole reading, and the rows that are filled.
+-- The reading of the root on every input: 1 to 7, the capacity, the value, 11 of a whole reading, the rows that are filled, and where the
+-- first field ends.
 use mathlib.Core.Path.{_≡_}
 use mathlib.Core.Bool.{Bool, true, false}
 use mathlib.Core.List.{List}
@@ -7,7 +8,7 @@ use lib.ListN.{length}
 use Rattle.refusal.specs.Outcome.{Outcome, accepted, refused, bind, map, contents, Reason}
 use Rattle.packed.specs.Packed.{Bytes, Below}
 use Rattle.value.specs.Tree.{Val, VConstant, VNumber, VArray, VTuple, VNumberArray, VCase, vnil, vcons}
-use Rattle.value.specs.Step.{next}
+use Rattle.value.specs.Step.{Step, next}
 use Rattle.value.specs.Reading.{State, Stop, Reading, start, begin, atEnd, readVal, readTo}
 use Rattle.grammar.specs.Rule.{Passes}
 use Rattle.grammar.specs.Tree.{treeOf}
@@ -41,17 +42,6 @@ ended false d x = x
 unfoldable pub readRoot : List ℕ → List ℕ → ℕ → ℕ → Bool → Reading Val
 readRoot g d index capacity whole = bind (beforeStart index (admitOf g d index)) (λ _. ended whole d (readVal capacity d (treeOf g 0) (start index)))
 
--- the state behind the first field of a tuple at byte 0, whose own row is row 0; of a value that is no tuple or has no field, the
--- state before it
-abbrev pub behindFirstField : Val → State
-behindFirstField VConstant = start 0
-behindFirstField (VNumber k n) = start 0
-behindFirstField (VArray vs) = start 0
-behindFirstField (VTuple vnil) = start 0
-behindFirstField (VTuple (vcons v vs)) = readTo v (begin (start 0)) .state
-behindFirstField (VNumberArray k ns) = start 0
-behindFirstField (VCase c v) = start 0
-
 -- the answer r to a reading x at a capacity, and the rows at exit: the layout of the value, whose bytes start at the index, over
 -- the rows at entry; after a refusal the rows at entry
 pub record FillsRows (x : Reading Val) (capacity index : ℕ) (r : CodeStep) (entry exit : List ℕ) : Type 0 where
@@ -68,3 +58,23 @@ pub record Admitted (g d rows : List ℕ) (index capacity : ℕ) : Type 0 where
   pub byteValues : Bytes d
   pub most : capacity ≤ 4096
   pub room : Room capacity rows
+
+-- the state behind the first field of a tuple at byte 0, whose own row is row 0; of a value that is no tuple or has no field, the
+-- state before it
+abbrev pub behindFirstField : Val → State
+behindFirstField VConstant = start 0
+behindFirstField (VNumber k n) = start 0
+behindFirstField (VArray vs) = start 0
+behindFirstField (VTuple vnil) = start 0
+behindFirstField (VTuple (vcons v vs)) = readTo v (begin (start 0)) .state
+behindFirstField (VNumberArray k ns) = start 0
+behindFirstField (VCase c v) = start 0
+
+-- the whole reading as a check, and the state behind the first field of its value
+abbrev pub firstFieldOf : List ℕ → List ℕ → Outcome Stop State
+firstFieldOf g d = map (λ t. behindFirstField (t .value)) (readRoot g d 0 4096 true)
+
+-- the answer r of the reader of the first field, where the root is accepted
+pub record ReadsFirstField (g d : List ℕ) (r : CodeStep) : Type 0 where
+  pub answers : (t : Step State Val) → readVal 4096 d (treeOf g 0) (start 0) ≡ accepted t → stepOf r ≡ accepted (behindFirstField (t .value))
+  pub keeps : StepKeeps 4096 r

@@ -1,22 +1,21 @@
 // The value, array-contents and tuple-contents readers, and two calls over them that take any input.
 ghost use mathlib.Core.Path.{_≡_};
-ghost use mathlib.Core.Bool.{true};
 ghost use mathlib.Core.List.{_∷_, []};
 ghost use Prim.Native.Nat.{ℕ, _+_, _-_, _*_, _/_, _≤_, _<_, min};
 ghost use lib.ListN.{length, getD};
 ghost use lib.Dec.{leb};
 ghost use Rattle.refusal.specs.Outcome.{accepted, refused, test, reason, byte, word as wordAt, map};
 ghost use Rattle.value.specs.Kinds.{Number, numberKind, Elements, elementsKind, elementWidth};
-ghost use Rattle.value.specs.Tree.{Val, VNumber, VNumberArray};
-ghost use Rattle.value.specs.Reading.{State as At, claim as claimOf, takeNumber, takeNumbers, move, start, readBody, readVal, readFields};
-ghost use Rattle.value.specs.Step.{Step as Read, give, elements};
+ghost use Rattle.value.specs.Tree.{VNumber, VNumberArray};
+ghost use Rattle.value.specs.Reading.{claim as claimOf, takeNumber, takeNumbers, move, start, readBody, readVal, readFields};
+ghost use Rattle.value.specs.Step.{give, elements};
 ghost use Rattle.tables.specs.Grammar.{nodeCount, firstWord, countWord, childWord};
 ghost use Rattle.grammar.specs.Tree.{treeOf, childTrees};
 ghost use Rattle.tables.specs.Row.{rowWidth, laid};
 ghost use Rattle.rows.specs.Layout.{rowsOf, rowsOfAll};
 ghost use Rattle.readers.specs.Meaning.{stateOf, stepOf, takenOf, bodyOf, StepKeeps, TakenKeeps};
 ghost use Rattle.readers.specs.Reads.{Ready, Node, RowClaimed, Leaf, Reads, closed, Counted, takeBelow};
-ghost use Rattle.readers.specs.Root.{capacityWithin, ended, readRoot, behindFirstField, Admitted, FillsRows};
+ghost use Rattle.readers.specs.Root.{capacityWithin, ended, readRoot, Admitted, FillsRows, firstFieldOf, ReadsFirstField};
 use packed::UnpackedU32;
 use packed::UnpackedU64;
 use refusal::Answer;
@@ -493,9 +492,9 @@ pub fn read(
 
 // The first field of the root, as a check, over a table and a record that are admitted: it starts at byte 0, behind the root's row.
 // Where the root is no tuple or has no field, the state before the root.
-fn first_field(grammar: &[u32], bytes: &[u8]) -> Step
+fn read_first_field(grammar: &[u32], bytes: &[u8]) -> Step
     requires { ⌜ Admitted (now grammar) (now bytes) [] 0 4096 ⌝ }
-    ensures { λ r. ⌜ ((t : Read At Val) → readVal 4096 (now (bytes .entry)) (treeOf (now (grammar .entry)) 0) (start 0) ≡ accepted t → stepOf r ≡ accepted (behindFirstField (t .value))) × StepKeeps 4096 r ⌝ }
+    ensures { λ r. ⌜ ReadsFirstField (now (grammar .entry)) (now (bytes .entry)) r ⌝ }
 {
     let kind = grammar[1];
     let count = grammar[3];
@@ -520,11 +519,11 @@ fn first_field(grammar: &[u32], bytes: &[u8]) -> Step
 
 // The whole reading as a check at the largest capacity and, where it is accepted, the state behind the root's first field.
 pub fn check_first_field(grammar: &[u32], record: &[u8]) -> Step
-    ensures { λ r. ⌜ (stepOf r ≡ map (λ t. behindFirstField (t .value)) (readRoot (now (grammar .entry)) (now («record» .entry)) 0 4096 true)) × StepKeeps 4096 r ⌝ }
+    ensures { λ r. ⌜ (stepOf r ≡ firstFieldOf (now (grammar .entry)) (now («record» .entry))) × StepKeeps 4096 r ⌝ }
 {
     let mut none = [0u64; 0];
     match read(grammar, record, 0, MOST_ROWS, true, &mut none) {
         Step::Stopped(u, r) => Step::Stopped(u, r),
-        Step::Next(_) => first_field(grammar, record),
+        Step::Next(_) => read_first_field(grammar, record),
     }
 }

@@ -17,6 +17,11 @@ pub bind-assoc : {E A B C : Type 0} (x : Outcome E A) (k : A → Outcome E B) (l
 bind-assoc (accepted a) k l = refl
 bind-assoc (refused e) k l = refl
 
+-- what an accepted outcome says of the one that it goes on from
+pub bind-inverse : {E A B : Type 0} (x : Outcome E A) (k : A → Outcome E B) {b : B} → bind x k ≡ accepted b → (a : A) × (x ≡ accepted a) × (k a ≡ accepted b)
+bind-inverse (accepted a) k h = (a, refl, h)
+bind-inverse (refused e) k h = let z : _≡_ {A = ℕ} 0 1 = cc in absurd (omega arith)
+
 pub bind-test : {E A B : Type 0} (b : Bool) (e : E) (k : Unit {0} → Outcome E A) (l : A → Outcome E B) → bind (test b e k) l ≡ test b e (λ u. bind (k u) l)
 bind-test true e k l = refl
 bind-test false e k l = refl

@@ -11,7 +11,7 @@ use borrow.Author.Tests.{le-leb, leb-true}
 use Rattle.refusal.specs.Outcome.{Outcome, accepted, refused, bind, test, map, Reason, reason, row}
 use Rattle.refusal.specs.Meaning.{reasonOf}
 use Rattle.refusal.specs.declared.Refusal.{Refusal}
-use Rattle.refusal.proofs.Outcome.{map-map, map-accepted, map-refused, test-true, test-passed}
+use Rattle.refusal.proofs.Outcome.{bind-inverse, map-map, map-accepted, map-refused, test-true, test-passed}
 use Rattle.packed.specs.Packed.{Bytes, Below, room}
 use Rattle.packed.proofs.Calls.{room-test, room-fits}
 use Rattle.value.specs.Tree.{Val, SizeOfV}
@@ -34,11 +34,6 @@ sized p h = ap sizeOf (sym p) ∙ h
 
 pub size-refused : {x : SizeOf} {r : Refusal} {o : Outcome Reason ℕ} → x ≡ SizeOf.Refused r → sizeOf x ≡ o → refused (reasonOf r) ≡ o
 size-refused p h = ap sizeOf (sym p) ∙ h
-
--- what an accepted outcome says of the one that it goes on from
-bind-accepted : {A B : Type 0} (o : Outcome Reason A) (k : A → Outcome Reason B) {b : B} → bind o k ≡ accepted b → (a : A) × (o ≡ accepted a) × (k a ≡ accepted b)
-bind-accepted (accepted a) k h = (a, refl, h)
-bind-accepted (refused e) k h = let z : _≡_ {A = ℕ} 0 1 = cc in absurd (omega arith)
 
 -- ---- the decision, as the code makes it
 
@@ -104,10 +99,10 @@ module _ (g t : List ℕ) (n : ℕ) (s : List ℕ) (len index : ℕ) where
   pub accepted-writes : (v : Val) → marshallValOf g t n s len index ≡ accepted v → Writes g t n s len index v
   unfolding valueToWrite marshallValOf
   accepted-writes v h =
-      let a = bind-accepted (valueToWrite g t n s) _ h in
-      let b = bind-accepted (checkGrammar g) _ (a .1) in
-      let c = bind-accepted (walk t n s) _ (b .2) in
-      let d = bind-accepted (checkInGrammar (c .0) (treeOf g 0) 0) _ (c .2) in
+      let a = bind-inverse (valueToWrite g t n s) _ h in
+      let b = bind-inverse (checkGrammar g) _ (a .1) in
+      let c = bind-inverse (walk t n s) _ (b .2) in
+      let d = bind-inverse (checkInGrammar (c .0) (treeOf g 0) 0) _ (c .2) in
       let l : leb (SizeOfV (c .0)) 1048576 ≡ true = test-passed (leb (SizeOfV (c .0)) 1048576) (reason 16 (row 0)) (λ _. accepted (c .0)) (a .0) (d .2) in
       let e : accepted (c .0) ≡ accepted (a .0) = sym (test-true _ _ l) ∙ d .2 in
       let m = map-accepted (λ _. a .0) (room len index (SizeOfV (a .0))) (a .2) in

@@ -8,7 +8,7 @@ use borrow.Author.Tests.{le-leb}
 use Rattle.refusal.specs.Outcome.{Outcome, accepted, refused, bind, map, contents, Fills, Reason}
 use Rattle.refusal.specs.declared.Refusal.{Refusal}
 use Rattle.refusal.specs.Meaning.{reasonOf}
-use Rattle.refusal.proofs.Outcome.{test-true}
+use Rattle.refusal.proofs.Outcome.{bind-inverse, test-true}
 use Rattle.packed.specs.Packed.{put, unpackLittleEndianSeq, unpackSeqAt}
 use Rattle.packed.proofs.Calls.{present-inside}
 use Rattle.value.specs.Tree.{Val, rowCount}
@@ -28,7 +28,6 @@ use Rattle.reading.proofs.Calls.{parses-refused, parse-accepted, whole-accepted
 use Rattle.text.specs.Text.{linesOf, rowsText, refusalText}
 use Rattle.input.specs.Input.{Parts, layoutOf, wordsAt, grammarOf, recordOf}
 use Rattle.text.specs.Show.{mostRows, readInput, shown, textOf, FewRows}
-use Rattle.input.proofs.Input.{bind-inverse}
 
 -- the words that were unpacked
 pub words-read : (input words : List ℕ) {answer : Outcome Reason (Unit {0})} {exit : List ℕ} → 4 + 4 * length words ≤ length input → Fills (unpackSeqAt 4 input 4 (length words)) answer words exit → exit ≡ wordsAt input (length words)
@@ -74,7 +73,7 @@ demarshall-counted g d t h =
 
 input-counted : (input : List ℕ) (t : Step State Val) → readInput input ≡ accepted t → Counted t
 unfolding readInput
-input-counted input t h = let b = bind-inverse (layoutOf input) _ t h in demarshall-counted (grammarOf input (b .0)) (recordOf input (b .0)) t (b .2)
+input-counted input t h = let b = bind-inverse (layoutOf input) _ h in demarshall-counted (grammarOf input (b .0)) (recordOf input (b .0)) t (b .2)
 
 -- rows with the same words have the same lines
 lines-same : (t u : List ℕ) (n : ℕ) → ((j : ℕ) → j < rowWidth * n → getD t j 0 ≡ getD u j 0) → linesOf t n ≡ linesOf u n

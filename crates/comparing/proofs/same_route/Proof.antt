@@ -4,7 +4,8 @@ use lib.ListN.{length}
 use Rattle.refusal.specs.Outcome.{accepted}
 use Rattle.refusal.proofs.Meaning.{done, stopped}
 use Rattle.comparing.specs.SameRoute.{Compares}
-use Rattle.comparing.proofs.Comparing.{step-matched, field-within, grammar-refused, first-refused, second-refused, compared, with-answer}
+use Rattle.readers.proofs.Meaning.{step-matched}
+use Rattle.comparing.proofs.Comparing.{field-within, grammar-refused, first-refused, second-refused, compared, with-answer}
 use borrow.Author.Needs.{needs}
 use Rattle.comparing.proofs.same_route.Statement.{statement}
 use Rattle.comparing.proofs.same_route.Tie as tie

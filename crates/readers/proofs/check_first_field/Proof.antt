@@ -15,8 +15,8 @@ enum-known-u c = search needs
 enum-told : tie.Need-enum-told
 enum-told c = search needs
 
-first-field-requires : tie.Need-first-field-requires
-first-field-requires c κs =
+read-first-field-requires : tie.Need-read-first-field-requires
+read-first-field-requires c κs =
     let a = c .before .before .before .before .before .before .before .args in
     let u = c .enum-told .given in
     field-admitted (a .grammar .now) (a .«record» .now) (c .before .before .before .read .ensures) (u .0 .0) (u .1)
@@ -33,7 +33,7 @@ returns-2 : tie.Need-returns-2
 returns-2 c =
     let a = c .before .before .before .before .before .before .before .before .args in
     let u = c .before .enum-told .given in
-    (field-read (a .grammar .now) (a .«record» .now) (c .before .before .before .before .read .ensures) (u .0 .0) (u .1) (c .first-field .ensures .0), c .first-field .ensures .1)
+    (field-read (a .grammar .now) (a .«record» .now) (c .before .before .before .before .read .ensures) (u .0 .0) (u .1) (c .read-first-field .ensures .answers), c .read-first-field .ensures .keeps)
 
 pub check-first-field-spec : {M : Type 1} → statement M
 check-first-field-spec =
@@ -43,6 +43,6 @@ check-first-field-spec =
     read-requires
     enum-known-u
     enum-told
-    first-field-requires
+    read-first-field-requires
     returns
     returns-2)
