@@ -61,7 +61,7 @@ pub static COMMANDS: [Command; 5] = [
         options: &[],
         records: "FIRST SECOND",
         summary: "Says whether two records are of the same route, and so does the status.\n\
-                  If the root is a tuple, its first field, a serial number, does not count.",
+                  If the root is a tuple, its first field, whatever its type, does not count.",
         example: "echo 07000000 05000000 >first.hex; echo 08000000 05000000 | \
                   route same -g 'tuple(u32, u32)' --hex first.hex -",
         printed: "same\n",
