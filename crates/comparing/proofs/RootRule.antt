@@ -33,9 +33,9 @@ record BothRead (g first second : List ℕ) (b : Both) : Type 0 where
   readSecond : demarshallOf g second 4096 ≡ accepted u
   values : b ≡ record { first = t .value; second = u .value }
 
-both-read : (g first second : List ℕ) (b : Both) → readBoth g first second ≡ accepted b → BothRead g first second b
+both-inverse : (g first second : List ℕ) (b : Both) → readBoth g first second ≡ accepted b → BothRead g first second b
 unfolding readBoth
-both-read g first second b h =
+both-inverse g first second b h =
     let x = bind-inverse (naming ofGrammar (checkGrammar g)) _ h in
     let y = bind-inverse (naming ofFirst (demarshallOf g first 4096)) _ (x .2) in
     let z = map-accepted (λ (u : Step State Val). record { first = y .0 .value; second = u .value }) (naming ofSecond (demarshallOf g second 4096)) (y .2) in
@@ -63,7 +63,7 @@ other-rule g p n i (neither a b) = rw (a .counts, b .counts) (λ e. e, λ e. e)
 
 pub root-rule : RootDecides
 root-rule g first second w c d b h =
-    let r = both-read g first second b h in
+    let r = both-inverse g first second b h in
     let p = accepted-exactly g .0 (r .grammar) in
     let x = record-value g first 4096 w c (r .t) (r .readFirst) .1 in
     let y = record-value g second 4096 w d (r .u) (r .readSecond) .1 in

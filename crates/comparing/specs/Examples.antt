@@ -1,4 +1,4 @@
--- Examples of what counts of two records, as one list.
+-- Examples of what counts of two records, as one list. They are of the same route where the two values expected are equal.
 use mathlib.Core.Path.{_≡_}
 use mathlib.Core.List.{List, [], _∷_, map}
 use Prim.Native.Nat.{ℕ}
@@ -36,7 +36,7 @@ recordA serial last = four serial (eight 2 (0x41 ∷ last ∷ []))
 abbrev pub countedA : ℕ → Val
 countedA last = VTuple (vcons (VByteArray (0x41 ∷ last ∷ [])) vnil)
 
--- a tuple of a node of a kind without children and a uint32
+-- a tuple of two fields: a node of the given kind, which has no children, and a uint32
 abbrev pub before : ℕ → List ℕ
 before kind = 3 ∷ 4 ∷ 0 ∷ 2 ∷ kind ∷ 0 ∷ 0 ∷ 1 ∷ 0 ∷ 0 ∷ 2 ∷ 1 ∷ 2 ∷ []
 
@@ -47,14 +47,14 @@ tupleFirst = 3 ∷ 4 ∷ 0 ∷ 2 ∷ 4 ∷ 2 ∷ 2 ∷ 1 ∷ 0 ∷ 0 ∷ 4 ∷ 1
 abbrev pub tupleLast : List ℕ
 tupleLast = 3 ∷ 4 ∷ 0 ∷ 2 ∷ 4 ∷ 2 ∷ 2 ∷ 1 ∷ 0 ∷ 0 ∷ 4 ∷ 2 ∷ 1 ∷ 2 ∷ 2 ∷ []
 
--- a tuple of an array of constants and a uint32, and its record: a count of two bytes and the number 7
+-- a tuple of an array of constants and a uint32, and its record: a count by its two lowest bytes, and the number 7
 abbrev pub constantsFirst : List ℕ
 constantsFirst = 4 ∷ 4 ∷ 0 ∷ 2 ∷ 3 ∷ 2 ∷ 1 ∷ 1 ∷ 0 ∷ 0 ∷ 0 ∷ 0 ∷ 0 ∷ 3 ∷ 1 ∷ 2 ∷ 3 ∷ []
 
 abbrev pub constants : ℕ → ℕ → List ℕ
 constants low high = low ∷ high ∷ 0 ∷ 0 ∷ 0 ∷ 0 ∷ 0 ∷ 0 ∷ four 7 []
 
--- a node of a kind above a tuple of two uint32: an array or a union of it
+-- a root of the given kind, array or union, whose child is a tuple of two uint32
 abbrev pub above : ℕ → List ℕ
 above kind = 3 ∷ kind ∷ 0 ∷ 1 ∷ 4 ∷ 1 ∷ 2 ∷ 1 ∷ 0 ∷ 0 ∷ 3 ∷ 1 ∷ 2 ∷ 2 ∷ []
 
@@ -68,16 +68,16 @@ abbrev pub examples : List Example
 examples =
     -- serial numbers 7 and 8: the same route
     record { grammar = grammarA; first = recordA 7 0x42; second = recordA 8 0x42; expected = both (countedA 0x42) (countedA 0x42) }
-    -- and another byte behind them: another
+    -- another last byte too: another route
     ∷ record { grammar = grammarA; first = recordA 7 0x42; second = recordA 8 0x43; expected = both (countedA 0x42) (countedA 0x43) }
     -- first fields of different lengths
     ∷ record { grammar = before 5; first = eight 2 (0x41 ∷ 0x42 ∷ four 7 []); second = eight 3 (0x58 ∷ 0x59 ∷ 0x5a ∷ four 7 []); expected = both (one 7) (one 7) }
-    -- one without bytes
+    -- first fields without bytes: the numbers are behind them
     ∷ record { grammar = before 0; first = four 7 []; second = four 8 []; expected = both (one 7) (one 8) }
-    -- one that is a tuple does not count at all, and a tuple behind it counts whole
+    -- a first field that is a tuple is left out whole, and a tuple behind the first field counts whole
     ∷ record { grammar = tupleFirst; first = four 1 (four 2 (four 3 [])); second = four 8 (four 9 (four 3 [])); expected = both (one 3) (one 3) }
     ∷ record { grammar = tupleLast; first = four 1 (four 2 (four 3 [])); second = four 1 (four 9 (four 3 [])); expected = both (VTuple (vcons (two 2 3) vnil)) (VTuple (vcons (two 9 3) vnil)) }
-    -- one field: nothing counts. No field: there is nothing
+    -- one field: nothing counts. No field: equal values
     ∷ record { grammar = 2 ∷ 4 ∷ 0 ∷ 1 ∷ 1 ∷ 0 ∷ 0 ∷ 1 ∷ 1 ∷ []; first = four 7 []; second = four 8 []; expected = both (VTuple vnil) (VTuple vnil) }
     ∷ record { grammar = 1 ∷ 4 ∷ 0 ∷ 0 ∷ 0 ∷ []; first = []; second = []; expected = both (VTuple vnil) (VTuple vnil) }
     -- a tuple below another root counts whole

@@ -45,8 +45,8 @@ readBoth g first second =
     (λ _. bind (naming ofFirst (demarshallOf g first 4096))
     (λ t. map (λ u. record { first = t .value; second = u .value }) (naming ofSecond (demarshallOf g second 4096))))
 
--- what counts of a record's value: of a tuple with at least one field the fields behind the first, which is the serial number of
--- the box that wrote the record; of any other value all of it
+-- what counts of a record's value: of a tuple with at least one field all fields but the first, which on the bench is the serial
+-- number of the box that wrote the record; of any other value all of it
 abbrev pub counted : Val → Val
 counted VConstant = VConstant
 counted (VNumber k n) = VNumber k n
@@ -60,7 +60,7 @@ counted (VCase c v) = VCase c v
 abbrev pub Same : Both → Type 0
 Same b = counted (b .first) ≡ counted (b .second)
 
--- document 02's rule of two values that were read under the table g, by its root
+-- request 02 in the table's terms: what decides of two values that were read under the table g
 pub record RootRule (g : List ℕ) (b : Both) : Type 0 where
   -- a tuple with at least one field: the fields behind the first decide
   pub tupleRoot : kindWord g 0 ≡ 4 → 0 < countWord g 0 → (v : Val) × (vs : Vals) × (u : Val) × (us : Vals) × (b .first ≡ VTuple (vcons v vs)) × (b .second ≡ VTuple (vcons u us)) × (Same b ↔ (vs ≡ us))

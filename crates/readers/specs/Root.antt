@@ -70,11 +70,11 @@ behindFirstField (VTuple (vcons v vs)) = readTo v (begin (start 0)) .state
 behindFirstField (VNumberArray k ns) = start 0
 behindFirstField (VCase c v) = start 0
 
--- the whole reading as a check, and the state behind the first field of its value
+-- the whole reading as a check at capacity 4,096 and, where it is accepted, the state behind the first field of its value
 abbrev pub firstFieldOf : List ℕ → List ℕ → Outcome Stop State
 firstFieldOf g d = map (λ t. behindFirstField (t .value)) (readRoot g d 0 4096 true)
 
--- the answer r of the reader of the first field, where the root is accepted
+-- the answer r of the reader of the first field: fixed where the root is accepted; its capacity is always 4,096
 pub record ReadsFirstField (g d : List ℕ) (r : CodeStep) : Type 0 where
   pub answers : (t : Step State Val) → readVal 4096 d (treeOf g 0) (start 0) ≡ accepted t → stepOf r ≡ accepted (behindFirstField (t .value))
   pub keeps : StepKeeps 4096 r
