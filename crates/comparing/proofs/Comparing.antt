@@ -58,7 +58,7 @@ module _ (g d : List ℕ) where
       omega (arith, first-within (m .0 .value) (x .1), ap (λ (q : State). q .at) (m .2), l)
 
 -- a refusal is no value
-clash : {E A P : Type 0} {e : E} {a : A} → refused e ≡ accepted a → P
+pub clash : {E A P : Type 0} {e : E} {a : A} → refused e ≡ accepted a → P
 clash h = let z : _≡_ {A = ℕ} 0 1 = cc in absurd (omega arith)
 
 module _ (g first second : List ℕ) where

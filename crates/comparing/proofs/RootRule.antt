@@ -18,11 +18,11 @@ use Rattle.readers.proofs.FirstField.{tuple-root, root-fields}
 use Rattle.reading.specs.Calls.{demarshallOf}
 use Rattle.comparing.specs.SameRoute.{NamedReason, ofGrammar, ofFirst, ofSecond, naming, Both, readBoth, Same, RootRule, RootDecides}
 use Rattle.comparing.proofs.Counted.{FirstFields, both, neither, first-fields}
-use Rattle.comparing.proofs.Comparing.{record-value}
+use Rattle.comparing.proofs.Comparing.{record-value, clash}
 
 naming-accepted : {A : Type 0} (name : Reason → NamedReason) (o : Outcome Reason A) {a : A} → naming name o ≡ accepted a → o ≡ accepted a
 naming-accepted name (accepted a) h = cc
-naming-accepted name (refused e) h = let z : _≡_ {A = ℕ} 0 1 = cc in absurd (omega arith)
+naming-accepted name (refused e) h = clash h
 
 -- both records were read under a grammar that passes
 record BothRead (g first second : List ℕ) (b : Both) : Type 0 where

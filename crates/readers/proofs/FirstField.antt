@@ -9,7 +9,7 @@ use native.Mathlib.Omega.{arith}
 use lib.ListN.{length}
 use Rattle.refusal.specs.declared.Refusal.{Refusal}
 use Rattle.refusal.specs.Outcome.{Outcome, accepted, refused, map}
-use Rattle.refusal.proofs.Outcome.{map-accepted}
+use Rattle.refusal.proofs.Outcome.{bind-inverse, map-accepted}
 use Rattle.packed.specs.Packed.{Bytes, Below}
 use Rattle.value.specs.Kinds.{Kind, kindOf, tuple}
 use Rattle.value.specs.Tree.{G, Gs, GTuple, gcons, seqG, Val, Vals, VConstant, VNumber, VArray, VTuple, VNumberArray, VCase, vnil, vcons, ValInGrammar, inTuple, eachCons}
@@ -33,8 +33,10 @@ use Rattle.readers.proofs.Root.{within-none, root-admitted, root-accept
 
 -- a value, and what is read behind it
 both-accepted : (x : Reading Val) (k : State → Reading Vals) (t : Step State Vals) → both x k ≡ accepted t → (u : Step State Val) × (x ≡ accepted u) × (vs : Vals) × (t .value ≡ vcons (u .value) vs)
-both-accepted (refused e) k t h = let z : _≡_ {A = ℕ} 0 1 = cc in absurd (omega arith)
-both-accepted (accepted u) k t h = let x = give-accepted (vcons (u .value)) (k (u .state)) t h in (u, refl, x .0 .value, ap (λ (s : Step State Vals). s .value) (x .2))
+both-accepted x k t h =
+    let u = bind-inverse x _ h in
+    let y = give-accepted (vcons (u .0 .value)) (k (u .0 .state)) t (u .2) in
+    (u .0, u .1, y .0 .value, ap (λ (s : Step State Vals). s .value) (y .2))
 
 -- a tuple with a field is of the class of tuples, and its node has a child
 tuple-class : (k : Kind) (gs : Gs) {v : Val} {vs : Vals} → ValInGrammar (VTuple (vcons v vs)) (nodeTree k gs) → (k ≡ tuple) × (0 < length (seqG gs))
