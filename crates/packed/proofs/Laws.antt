@@ -95,6 +95,13 @@ pack-snoc (suc w) n =
     let e : n / 256 / 256 ^ w ≡ n / 256 ^ suc w = rw (div-div-eq-div-mul, pow-succ') in
     ap (λ (l : List ℕ). n % 256 ∷ l) (pack-snoc w (n / 256) ∙ rw e)
 
+-- the first w of k bytes
+pub pack-front : (w k n : ℕ) → w ≤ k → take w (packLittleEndian k n) ≡ packLittleEndian w n
+unfolding packLittleEndian
+pack-front zero k n h = refl
+pack-front (suc w) zero n h = absurd (omega arith)
+pack-front (suc w) (suc k) n h = rw (pack-front w k (n / 256) (omega arith))
+
 -- what is left of a number after one byte more
 pub rest-next : (n i : ℕ) → n / 256 ^ i / 256 ≡ n / 256 ^ (i + 1)
 rest-next n i = rw (div-div-eq-div-mul, add-one, pow-suc 256 i)
