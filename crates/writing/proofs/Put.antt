@@ -45,7 +45,7 @@ module _ (t s : List ℕ) where
   length-bytesFrom (suc n) i h =
       rw (length-append, length-ownBytes (kindOf (rowAt t i .kind)) (rowAt t i) s (h i (omega arith) (omega arith)), length-bytesFrom n (suc i) (λ j a b. h j (omega arith) (omega arith)))
 
-  bytes-next : (i : ℕ) → bytesFrom t s 0 i ++ ownBytesAt t s i ≡ bytesFrom t s 0 (i + 1)
+  pub bytes-next : (i : ℕ) → bytesFrom t s 0 i ++ ownBytesAt t s i ≡ bytesFrom t s 0 (i + 1)
   unfolding bytesFrom
   bytes-next i = sym (bytes-join t s i 0 1 ∙ rw (zero-add i, append-nil))
 
@@ -60,7 +60,7 @@ module _ (t s : List ℕ) where
       omega (arith, size-next t i, size-join t (i + 1) 0 (n - (i + 1)), ap (sizeFrom t 0) e)
 
   module _ (n : ℕ) (out : List ℕ) (index : ℕ) (h : (j : ℕ) → j < n → RowHolds t s j) (f : index + sizeFrom t 0 n ≤ length out) where
-    put-length : (i : ℕ) → i ≤ n → length (bytesFrom t s 0 i) ≡ sizeFrom t 0 i
+    pub put-length : (i : ℕ) → i ≤ n → length (bytesFrom t s 0 i) ≡ sizeFrom t 0 i
     put-length i l = length-bytesFrom i 0 (λ j a b. h j (omega arith) .within)
 
     -- after row i, whose bytes are put behind those of the rows before it

@@ -1,0 +1,17 @@
+-- The examples, by computation.
+use mathlib.Core.Path.{refl}
+use Rattle.packed.specs.Packed.{unpackLittleEndian, unpackLittleEndianSeq, packLittleEndian, packLittleEndianSeq, room, put}
+use Rattle.value.specs.Kinds.{kinds, kindOf}
+use Rattle.value.specs.Tree.{SizeOfV, rowCount}
+use Rattle.value.specs.Bytes.{bytesOf}
+use Rattle.grammar.specs.Check.{checkLayout, checkNode, checkChildren, checkNodes, checkGrammar}
+use Rattle.grammar.specs.Tree.{nodeTree, childTrees, treeTo, treeOf}
+use Rattle.rows.specs.Walk.{rowValue, checkRow, walkChildren, walkTo, walk}
+use Rattle.sizing.specs.InGrammar.{checkInGrammar}
+use Rattle.sizing.specs.Writes.{valueToWrite, marshallValOf}
+use Rattle.previewing.specs.Preview.{differing, previewOf}
+use Rattle.previewing.specs.Examples.{ExamplesHold}
+
+pub examples-hold : ExamplesHold
+unfolding previewOf differing marshallValOf valueToWrite checkInGrammar checkGrammar checkLayout checkNodes checkNode checkChildren treeOf treeTo nodeTree childTrees walk walkTo walkChildren checkRow rowValue kindOf kinds unpackLittleEndian unpackLittleEndianSeq packLittleEndian packLittleEndianSeq room put SizeOfV rowCount bytesOf
+examples-hold = refl

@@ -1,0 +1,5 @@
+pub mod Differing
+pub mod ComparedLaws
+pub mod Previewing
+pub mod Meaning
+pub mod Examples

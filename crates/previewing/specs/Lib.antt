@@ -1,0 +1,3 @@
+pub mod Preview
+pub mod Compared
+pub mod Examples

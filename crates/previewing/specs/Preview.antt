@@ -1,0 +1,55 @@
+-- What `preview` answers: what a writing with the same arguments would answer, and how many bytes of the output it would change.
+use mathlib.Core.Path.{_≡_}
+use mathlib.Core.Logic.{_↔_}
+use mathlib.Core.Bool.{cond}
+use mathlib.Core.List.{List, [], _∷_}
+use Prim.Native.Nat.{ℕ, suc, _+_, _≤_}
+use lib.ListN.{length}
+use lib.Dec.{eqb}
+use Rattle.refusal.specs.Outcome.{Outcome, accepted, refused, map, Reason}
+use Rattle.refusal.specs.Meaning.{reasonOf}
+use Rattle.packed.specs.Packed.{put}
+use Rattle.value.specs.Tree.{SizeOfV}
+use Rattle.value.specs.Bytes.{bytesOf}
+use Rattle.rows.specs.Meaning.{sizeOf}
+use Rattle.rows.specs.declared.SizeOf.{SizeOf}
+use Rattle.sizing.specs.Writes.{marshallValOf}
+use Rattle.writing.specs.Marshall.{Marshalls}
+use Rattle.previewing.specs.declared.Previewed.{Previewed}
+use Rattle.previewing.specs.declared.Previewed.the-variants as Previewed
+
+-- at how many places two lists differ, up to the end of the shorter
+unfoldable pub differing : List ℕ → List ℕ → ℕ
+differing [] b = 0
+differing (x ∷ a) [] = 0
+differing (x ∷ a) (y ∷ b) = cond (eqb x y) 0 1 + differing a b
+
+-- the size of the value, and the number of output bytes whose content would differ after the writing
+pub record Preview : Type 0 where
+  pub size : ℕ
+  pub changed : ℕ
+
+-- the outcome is the writers', so its refusals and their order are; `put` gives the output that they leave
+unfoldable pub previewOf : List ℕ → List ℕ → ℕ → List ℕ → List ℕ → ℕ → Outcome Reason Preview
+previewOf g t n s out index = map (λ v. record { size = SizeOfV v; changed = differing out (put out index (bytesOf v)) }) (marshallValOf g t n s (length out) index)
+
+-- what each case of the answer means
+abbrev pub previewedOf : Previewed → Outcome Reason Preview
+previewedOf (Previewed.Preview size changed) = accepted (record { size = size; changed = changed })
+previewedOf (Previewed.Refused r) = refused (reasonOf r)
+
+-- "It must equal what writing to a copy of the output would answer and change" (document 02): of every answer p that the contract of `preview`
+-- allows and every answer w and output at exit that the contract of `marshall_val` allows, with the same arguments
+abbrev pub EqualsWriting : Type 0
+EqualsWriting =
+    (g t s out exit : List ℕ) (n index : ℕ) (p : Previewed) (w : SizeOf)
+    → previewedOf p ≡ previewOf g t n s out index
+    → Marshalls (marshallValOf g t n s (length out) index) index w out exit
+    → previewedOf p ≡ map (λ size. record { size = size; changed = differing out exit }) (sizeOf w)
+
+-- what `differing` counts, without its text: it is none exactly of equal lists, and each place counts once
+pub record CountsPlaces : Type 0 where
+  pub none : (a b : List ℕ) → length a ≡ length b → (differing a b ≡ 0) ↔ (a ≡ b)
+  pub equal : (x : ℕ) (a b : List ℕ) → differing (x ∷ a) (x ∷ b) ≡ differing a b
+  pub different : (x y : ℕ) (a b : List ℕ) → ¬ (x ≡ y) → differing (x ∷ a) (y ∷ b) ≡ suc (differing a b)
+  pub most : (a b : List ℕ) → differing a b ≤ length a
