@@ -15,6 +15,7 @@ use Rattle.rows.specs.Locate.{Part}
 use Rattle.rows.specs.Layout.{rowsOf}
 use Rattle.reading.specs.Meaning.{Counts}
 use Rattle.reading.specs.Calls.{countsOf}
+use Rattle.previewing.specs.Preview.{Preview}
 use Rattle.comparing.specs.SameRoute.{NamedReason, ofGrammar, ofFirst, ofSecond, Compares}
 use Rattle.answer_c.specs.declared.RouteAnswer.{RouteAnswer}
 
@@ -59,6 +60,10 @@ partValues p = values (p .start) (p .size)
 -- of a reading: the row count, and the position behind the value
 abbrev pub countValues : Counts → Values
 countValues c = values (c .rows) (c .restIndex)
+
+-- of a preview: the size, and the number of output bytes whose content would differ
+abbrev pub previewValues : Preview → Values
+previewValues p = values (p .size) (p .changed)
 
 -- of same route: 1 for yes, 0 for no
 abbrev pub sameAnswerOf : Outcome NamedReason Bool → RouteAnswer

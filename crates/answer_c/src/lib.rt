@@ -7,11 +7,13 @@ ghost use Rattle.value.specs.Signed.{patternOf};
 ghost use Rattle.rows.specs.Meaning.{sizeOf, located};
 ghost use Rattle.signed.specs.Meaning.{signedNumber};
 ghost use Rattle.reading.specs.Meaning.{parsedOf};
+ghost use Rattle.previewing.specs.Preview.{previewedOf};
 ghost use Rattle.comparing.specs.SameRoute.{sameRouteOf};
-ghost use Rattle.answer_c.specs.Answer.{answerOf, refusalOf, noValue, oneValue, signedValue, partValues, countValues, sameAnswerOf};
+ghost use Rattle.answer_c.specs.Answer.{answerOf, refusalOf, noValue, oneValue, signedValue, partValues, countValues, previewValues, sameAnswerOf};
 use comparing::SameRoute;
 use packed::UnpackedU32;
 use packed::UnpackedU64;
+use previewing::Previewed;
 use reading::Parsed;
 use refusal::Answer;
 use refusal::Place;
@@ -152,6 +154,15 @@ pub fn of_parsed(answer: Parsed) -> RouteAnswer
     match answer {
         Parsed::Value { rows, rest_index } => accept(rows as u64, rest_index as u64),
         Parsed::Refused(r) => refuse(r),
+    }
+}
+
+pub fn of_previewed(answer: Previewed) -> RouteAnswer
+    ensures { λ r. ⌜ r ≡ answerOf (map previewValues (previewedOf answer)) ⌝ }
+{
+    match answer {
+        Previewed::Preview { size, changed } => accept(size, changed),
+        Previewed::Refused(r) => refuse(r),
     }
 }
 

@@ -5,6 +5,7 @@ use mathlib.Core.Bool.{Bool, true, false}
 use mathlib.Core.List.{List}
 use Prim.Native.Nat.{ℕ, _<_}
 use native.Mathlib.Omega.{arith}
+use lib.ListN.{length}
 use lib.IntN.{ℤ}
 use Rattle.refusal.specs.Outcome.{Outcome, accepted, refused, map, Location, Reason, reason}
 use Rattle.value.specs.Kinds.{Number, uint32, uint64, int32, int64, width}
@@ -64,6 +65,7 @@ number-zero = record {
   reading = λ g d index capacity. zero-of _ (map-refuses countsOf (demand1 .reading g d index capacity)) (demand1 .listedReading g d index capacity);
   wholeReading = λ g d capacity. zero-of _ (map-refuses countsOf (demand1 .wholeReading g d capacity)) (demand1 .listedWhole g d capacity);
   writing = λ g t n s len index. zero-of _ (map-refuses SizeOfV (demand1 .writing g t n s len index)) (demand1 .listedWriting g t n s len index);
+  preview = λ g t n s out index. zero-of _ (demand1 .preview g t n s out index) (demand1 .listedWriting g t n s (length out) index);
   routes = λ g first second o h. named-zero o (λ e q. demand1 .listedRoutes g first second e (demand1 .routes g first second e .0 (h .refuses e .0 q)));
 }
 

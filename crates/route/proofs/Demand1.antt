@@ -19,6 +19,8 @@ use Rattle.signed.proofs.Meaning.{signedNumber-injective}
 use Rattle.admission.specs.Admission.{capacityOf}
 use Rattle.reading.specs.Calls.{countsOf}
 use Rattle.reading.proofs.Meaning.{parsedOf-injective}
+use Rattle.previewing.specs.Preview.{previewOf}
+use Rattle.previewing.proofs.Meaning.{previewedOf-injective}
 use Rattle.route.specs.Demands.{Demand1}
 use Rattle.route.specs.Rewriting.{rewriteOf}
 use Rattle.comparing.specs.SameRoute.{sameRouteOf}
@@ -29,6 +31,7 @@ use Rattle.route.proofs.Reading.{rows-kept}
 use Rattle.route.proofs.Refusals.{map-refuses, room-refuses, present-refuses, walk-refuses, find-refuses, locate-refuses, signed-refuses, parse-refuses, demarshall-refuses, marshall-refuses, rewrite-refuses, both-refuses}
 
 pub demand1 : Demand1
+unfolding previewOf
 demand1 = record {
   answer = outcome-injective;
   unpackedUint32 = unpackedU32-injective;
@@ -37,6 +40,7 @@ demand1 = record {
   array = located-injective;
   signedNumbers = signedNumber-injective;
   counts = parsedOf-injective;
+  previewed = previewedOf-injective;
   route = sameRoute-injective;
   grammar = refused-exactly;
   room = room-refuses;
@@ -51,6 +55,7 @@ demand1 = record {
   reading = parse-refuses;
   wholeReading = demarshall-refuses;
   writing = marshall-refuses;
+  preview = λ g t n s out index. map-refuses _ (marshall-refuses g t n s (length out) index);
   rewriting = rewrite-refuses;
   routes = both-refuses;
   oneRoute = λ g first second r q a b. sameRoute-injective r q (compares-one g first second (sameRouteOf r) (sameRouteOf q) a b);

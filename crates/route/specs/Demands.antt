@@ -38,6 +38,7 @@ use Rattle.reading.specs.Calls.{parseValOf, demarshallOf, countsOf, Parses}
 use Rattle.reading.specs.declared.Parsed.{Parsed}
 use Rattle.sizing.specs.Writes.{marshallValOf, Writes}
 use Rattle.writing.specs.Marshall.{Marshalls}
+use Rattle.previewing.specs.Preview.{previewOf, previewedOf}
 use Rattle.route.specs.Rewriting.{rewriteOf, Rewrites}
 use Rattle.comparing.specs.SameRoute.{NamedReason, sameRouteOf, readBoth, Compares}
 use Rattle.route.specs.Refusals.{Refuses, NoRoom, NotThere, RowsRefused, LookUpRefused, LocatorRefused, SignedRefused, ReadingRefused, WholeRefused, WritingRefused, RewritingRefused, RouteRefused, Listed, Lists, unnamed}
@@ -63,6 +64,7 @@ pub record Demand1 : Type 0 where
   pub array : AtMostOneAnswer located
   pub signedNumbers : AtMostOneAnswer signedNumber
   pub counts : AtMostOneAnswer parsedOf
+  pub previewed : AtMostOneAnswer previewedOf
   pub route : AtMostOneAnswer sameRouteOf
   -- `check_grammar`
   pub grammar : (g : List ℕ) → Refuses (FirstRefusal g) (checkGrammar g)
@@ -89,6 +91,8 @@ pub record Demand1 : Type 0 where
   pub wholeReading : (g d : List ℕ) (capacity : ℕ) → Refuses (WholeRefused g d capacity) (demarshallOf g d capacity)
   -- `marshall_val`, `marshall`
   pub writing : (g t : List ℕ) (n : ℕ) (s : List ℕ) (len index : ℕ) → Refuses (WritingRefused g t n s len index) (marshallValOf g t n s len index)
+  -- `preview`
+  pub preview : (g t : List ℕ) (n : ℕ) (s out : List ℕ) (index : ℕ) → Refuses (WritingRefused g t n s (length out) index) (previewOf g t n s out index)
   -- `rewrite`
   pub rewriting : (g d : List ℕ) (capacity len index : ℕ) → Refuses (RewritingRefused g d capacity len index) (rewriteOf g d capacity len index)
   -- `same_route`, whose contract allows one answer

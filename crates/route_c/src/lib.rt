@@ -10,11 +10,13 @@ ghost use Rattle.signed.specs.Signed.{signedNumberOf};
 ghost use Rattle.admission.specs.Admission.{capacityOf};
 ghost use Rattle.reading.specs.Calls.{parseValOf, demarshallOf, countsOf};
 ghost use Rattle.sizing.specs.Writes.{marshallValOf};
-ghost use Rattle.answer_c.specs.Answer.{answerOf, noValue, oneValue, signedValue, partValues, countValues, Answers, AnswersRows, AnswersBytes, AnswersSame};
+ghost use Rattle.previewing.specs.Preview.{previewOf};
+ghost use Rattle.answer_c.specs.Answer.{answerOf, noValue, oneValue, signedValue, partValues, countValues, previewValues, Answers, AnswersRows, AnswersBytes, AnswersSame};
 use answer_c::RouteAnswer;
 use answer_c::of_answer;
 use answer_c::of_located;
 use answer_c::of_parsed;
+use answer_c::of_previewed;
 use answer_c::of_same_route;
 use answer_c::of_signed_number;
 use answer_c::of_size;
@@ -181,6 +183,20 @@ pub extern "C" fn route_marshall(
     ensures { λ r. ⌜ AnswersBytes (marshallValOf (now (grammar .entry)) (now (rows .entry)) n (now (store .entry)) (length (now (out .entry))) 0) 0 r (now (out .entry)) (now (out .exit)) ⌝ }
 {
     of_size(writing::marshall(grammar, rows, n, store, out))
+}
+
+#[no_mangle]
+pub extern "C" fn route_preview(
+    grammar: &[u32],
+    rows: &[u64],
+    n: usize,
+    store: &[u8],
+    out: &[u8],
+    index: usize,
+) -> RouteAnswer
+    ensures { λ r. ⌜ r ≡ answerOf (map previewValues (previewOf (now (grammar .entry)) (now (rows .entry)) n (now (store .entry)) (now (out .entry)) index)) ⌝ }
+{
+    of_previewed(previewing::preview(grammar, rows, n, store, out, index))
 }
 
 #[no_mangle]
