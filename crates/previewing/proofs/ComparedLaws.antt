@@ -1,6 +1,5 @@
--- The laws of what is compared: of bytes one behind the other, of a row by the words that were read of it, and of the loop over rows.
-use mathlib.Core.Path.{_≡_, refl, ap, sym, _∙_}
-use mathlib.Core.Bool.{true}
+-- The laws of what is compared: of bytes one behind the other, and of the loop over rows.
+use mathlib.Core.Path.{_≡_, ap, sym, _∙_}
 use mathlib.Core.List.{List, [], _++_}
 use Prim.Native.Nat.{ℕ, _+_, _≤_, _<_}
 use native.Mathlib.Nat.{add-zero, add-assoc}
@@ -9,11 +8,9 @@ use lib.ListN.{length, drop, length-append}
 use lib.Seq.{drop-drop}
 use Rattle.packed.specs.Packed.{packLittleEndian}
 use Rattle.packed.proofs.Laws.{length-pack}
-use Rattle.value.specs.Kinds.{Kind, kindOf}
-use Rattle.tables.specs.Row.{Row, rowAt}
-use Rattle.rows.specs.Walk.{withinStore}
-use Rattle.rows.specs.Size.{ownBytes, ownSize, sizeAt, bytesFrom, sizeFrom}
-use Rattle.rows.proofs.Laws.{row-eq}
+use Rattle.value.specs.Kinds.{kindOf}
+use Rattle.tables.specs.Row.{rowAt}
+use Rattle.rows.specs.Size.{bytesFrom, sizeFrom}
 use Rattle.rows.proofs.Size.{length-ownBytes, size-next}
 use Rattle.writing.specs.Put.{RowHolds, ownBytesAt}
 use Rattle.writing.proofs.Put.{bytes-next, put-length}
@@ -42,29 +39,6 @@ module _ (out : List ℕ) (c : Compared) where
   -- where the bytes of a number end
   pub number-compared : (w n : ℕ) {r : Compared} → c .changed ≤ c .at → r ≡ comparedWith out c (packLittleEndian w n) → (r .at ≡ c .at + w) × (r .changed ≤ r .at)
   number-compared w n h e = rw e (omega (arith, length-pack w n), compared-below (packLittleEndian w n) h)
-
--- ---- a row by the words that were read of it
-
-module _ (t s : List ℕ) (i : ℕ) {kind word2 word3 : ℕ} (k0 : kind ≡ rowAt t i .kind) (k2 : word2 ≡ rowAt t i .word2) (k3 : word3 ≡ rowAt t i .word3) where
-  abbrev pub words : Row
-  words = record { kind = kind; span = rowAt t i .span; word2 = word2; word3 = word3 }
-
-  of-words : rowAt t i ≡ words
-  of-words = row-eq (rowAt t i) (sym k0) refl (sym k2) (sym k3)
-
-  -- of class k
-  module _ {k : Kind} (e : kindOf kind ≡ k) where
-    by-words : {A : Type 0} (f : Kind → Row → A) → f k words ≡ f (kindOf (rowAt t i .kind)) (rowAt t i)
-    by-words f = ap (λ (x : Kind). f x words) (sym e) ∙ ap (λ (r : Row). f (kindOf (r .kind)) r) (sym of-words)
-
-    pub own-words : ownBytes k words s ≡ ownBytesAt t s i
-    own-words = by-words (λ x r. ownBytes x r s)
-
-    pub size-words : ownSize k words ≡ sizeAt t i
-    size-words = by-words ownSize
-
-    pub within-words : RowHolds t s i → withinStore k words (length s) ≡ true
-    within-words h = by-words (λ x r. withinStore x r (length s)) ∙ h .within
 
 -- ---- the loop over rows
 

@@ -1,22 +1,23 @@
--- What the packers put where there is room, and the own bytes of rows put one behind the other.
+-- What the packers put where there is room, a row by the words that were read of it, and the own bytes of rows put one behind the other.
 use mathlib.Core.Path.{_≡_, refl, ap, sym, _∙_}
 use mathlib.Core.Bool.{true}
 use mathlib.Core.List.{List, [], _++_, append-nil}
-use Prim.Native.Nat.{ℕ, zero, suc, _+_, _-_, _≤_, _<_}
+use Prim.Native.Nat.{ℕ, zero, suc, _+_, _-_, _*_, _^_, _≤_, _<_}
 use native.Mathlib.Nat.{zero-add}
 use native.Mathlib.Omega.{arith}
 use lib.ListN.{length, length-append}
-use borrow.Author.Tests.{le-leb}
+use borrow.Author.Tests.{le-leb, leb-true}
 use Rattle.refusal.specs.Outcome.{Outcome, map, contents, Fills, Reason}
 use Rattle.refusal.proofs.Outcome.{test-true}
 use Rattle.packed.specs.Packed.{packLittleEndian, put, putAt}
 use Rattle.packed.proofs.Laws.{length-pack}
 use Rattle.packed.proofs.Put.{length-put, put-more}
 use Rattle.packed.proofs.Calls.{room-test}
-use Rattle.value.specs.Kinds.{kindOf}
-use Rattle.tables.specs.Row.{rowAt}
-use Rattle.rows.specs.Walk.{withinStore}
-use Rattle.rows.specs.Size.{sizeAt, bytesFrom, sizeFrom}
+use Rattle.value.specs.Kinds.{Number, width, Elements, elementWidth, Kind, kindOf, number, elements}
+use Rattle.tables.specs.Row.{Row, rowAt}
+use Rattle.rows.specs.Walk.{keepsRule, withinStore}
+use Rattle.rows.specs.Size.{ownBytes, ownSize, sizeAt, bytesFrom, sizeFrom}
+use Rattle.rows.proofs.Laws.{row-eq, number-below}
 use Rattle.rows.proofs.Size.{length-ownBytes, size-join, size-next, bytes-join}
 use Rattle.writing.specs.Put.{RowHolds, ownBytesAt}
 
@@ -35,6 +36,28 @@ count-put out mid index at n bs h a m f =
     let l : length (packLittleEndian 8 n) ≡ 8 = length-pack 8 n in
     let k : length mid ≡ length out = ap length m ∙ length-put out index (packLittleEndian 8 n) (omega arith) in
     fills-put mid at bs (omega arith) f ∙ ap (λ (x : List ℕ). put x at bs) m ∙ put-more out index (packLittleEndian 8 n) bs at (omega arith) (omega arith)
+
+-- ---- a row by the words that were read of it
+
+module _ (t s : List ℕ) (i : ℕ) {kind word2 word3 : ℕ} (k0 : kind ≡ rowAt t i .kind) (k2 : word2 ≡ rowAt t i .word2) (k3 : word3 ≡ rowAt t i .word3) where
+  abbrev pub words : Row
+  words = record { kind = kind; span = rowAt t i .span; word2 = word2; word3 = word3 }
+
+  -- what goes by class and row
+  by-words : {A : Type 0} {k : Kind} (f : Kind → Row → A) → kindOf kind ≡ k → f k words ≡ f (kindOf (rowAt t i .kind)) (rowAt t i)
+  by-words f e = ap (λ (x : Kind). f x words) (sym e) ∙ ap (λ (r : Row). f (kindOf (r .kind)) r) (sym (row-eq (rowAt t i) (sym k0) refl (sym k2) (sym k3)))
+
+  pub own-words : {k : Kind} → kindOf kind ≡ k → ownBytes k words s ≡ ownBytesAt t s i
+  own-words e = by-words (λ x r. ownBytes x r s) e
+
+  pub size-words : {k : Kind} → kindOf kind ≡ k → ownSize k words ≡ sizeAt t i
+  size-words e = by-words ownSize e
+
+  pub number-fits : (k : Number) → kindOf kind ≡ number k → RowHolds t s i → word2 < 256 ^ width k
+  number-fits k e h = number-below k words (by-words keepsRule e ∙ h .rule)
+
+  pub elements-fit : (k : Elements) → kindOf kind ≡ elements k → RowHolds t s i → word3 + elementWidth k * word2 ≤ length s
+  elements-fit k e h = leb-true (word3 + elementWidth k * word2) (length s) (by-words (λ x r. withinStore x r (length s)) e ∙ h .within)
 
 -- ---- the loop over rows
 

@@ -3,15 +3,15 @@ use mathlib.Core.Path.{_≡_, ap, _∙_}
 use Prim.Native.Nat.{_+_, _*_, _≤_}
 use native.Mathlib.Omega.{arith}
 use lib.ListN.{length}
-use borrow.Author.Tests.{leb-true}
 use Rattle.value.specs.Kinds.{Elements, bytes, uint32s, uint64s, elementWidth, Kind, kinds, kindOf, elements}
 use Rattle.value.proofs.KindLaws.{none-of}
 use Rattle.tables.specs.Row.{Row}
 use Rattle.rows.specs.Size.{ownBytes, ownSize}
 use Rattle.writing.specs.Put.{ownBytesAt}
+use Rattle.writing.proofs.Put.{words, own-words, size-words, elements-fit}
 use Rattle.previewing.specs.declared.Compared.{Compared}
 use Rattle.previewing.specs.Compared.{comparedWith}
-use Rattle.previewing.proofs.ComparedLaws.{compared-nothing, words, own-words, size-words, within-words}
+use Rattle.previewing.proofs.ComparedLaws.{compared-nothing}
 use borrow.Author.Needs.{needs}
 use Rattle.previewing.proofs.compare_row.Statement.{statement}
 use Rattle.previewing.proofs.compare_row.Tie as tie
@@ -34,12 +34,11 @@ room c e =
     let a = s .args in
     omega (arith, s .pre .1, size-words (a .rows .now) (a .store .now) (a .row) (c .before .before .kind-at .ensures) (c .before .word2-at .ensures) (c .word3-at .ensures) e)
 
-elements-fit : (c : tie.After-word3-at) (k : Elements) → kindOf (this c .kind) ≡ elements k → let a = c .before .before .before .before .before .before .args in (this c .word3 + elementWidth k * this c .word2 ≤ length (a .store .now)) × (a .before .at + (8 + elementWidth k * this c .word2) ≤ length (a .out .now)) × (a .before .changed ≤ a .before .at)
-elements-fit c k e =
+array-words : (c : tie.After-word3-at) (k : Elements) → kindOf (this c .kind) ≡ elements k → let a = c .before .before .before .before .before .before .args in (this c .word3 + elementWidth k * this c .word2 ≤ length (a .store .now)) × (a .before .at + (8 + elementWidth k * this c .word2) ≤ length (a .out .now)) × (a .before .changed ≤ a .before .at)
+array-words c k e =
     let s = c .before .before .before .before .before .before in
     let a = s .args in
-    let h = within-words (a .rows .now) (a .store .now) (a .row) (c .before .before .kind-at .ensures) (c .before .word2-at .ensures) (c .word3-at .ensures) e (s .pre .0) in
-    (leb-true (this c .word3 + elementWidth k * this c .word2) (length (a .store .now)) h, room c e, s .pre .2)
+    (elements-fit (a .rows .now) (a .store .now) (a .row) (c .before .before .kind-at .ensures) (c .before .word2-at .ensures) (c .word3-at .ensures) k e (s .pre .0), room c e, s .pre .2)
 
 kind-at-requires : tie.Need-kind-at-requires
 kind-at-requires c κs = search needs
@@ -64,15 +63,15 @@ compare-number-requires-3 c κs = (omega arith, room (c .before) (ap kindOf (c .
 
 compare-elements-requires : tie.Need-compare-elements-requires
 unfolding kindOf kinds
-compare-elements-requires c κs = elements-fit (c .before) bytes (ap kindOf (c .match .keys6))
+compare-elements-requires c κs = array-words (c .before) bytes (ap kindOf (c .match .keys6))
 
 compare-elements-requires-2 : tie.Need-compare-elements-requires-2
 unfolding kindOf kinds
-compare-elements-requires-2 c κs = elements-fit (c .before) uint32s (ap kindOf (c .match .keys7))
+compare-elements-requires-2 c κs = array-words (c .before) uint32s (ap kindOf (c .match .keys7))
 
 compare-elements-requires-3 : tie.Need-compare-elements-requires-3
 unfolding kindOf kinds
-compare-elements-requires-3 c κs = elements-fit (c .before) uint64s (ap kindOf (c .match .keys8))
+compare-elements-requires-3 c κs = array-words (c .before) uint64s (ap kindOf (c .match .keys8))
 
 compare-number-requires-4 : tie.Need-compare-number-requires-4
 unfolding kindOf kinds

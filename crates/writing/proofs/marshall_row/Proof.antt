@@ -1,66 +1,55 @@
 -- Each arm cites its kind's class; the last arm's word is none of 0 to 10.
-use mathlib.Core.Path.{_≡_, refl, ap, sym, subst, _∙_}
-use mathlib.Core.Bool.{true}
+use mathlib.Core.Path.{_≡_, ap, sym, _∙_}
 use mathlib.Core.List.{List, []}
 use Prim.Native.Nat.{ℕ, _+_, _*_, _^_, _≤_, _<_}
 use native.Mathlib.Nat.{add-zero}
 use native.Mathlib.Omega.{arith}
 use lib.ListN.{length}
-use borrow.Author.Tests.{leb-true}
 use Rattle.packed.specs.Packed.{put}
 use Rattle.packed.proofs.Put.{put-nothing}
 use Rattle.value.specs.Kinds.{Number, uint32, int32, width, Elements, bytes, uint32s, uint64s, elementWidth, Kind, kinds, kindOf, number, elements}
-use Rattle.tables.specs.Row.{Row, rowAt}
-use Rattle.rows.specs.Walk.{keepsRule, withinStore}
-use Rattle.rows.specs.Size.{ownBytes, ownSize}
+use Rattle.tables.specs.Row.{Row}
+use Rattle.rows.specs.Size.{ownBytes, ownSize, sizeAt}
 use Rattle.value.proofs.KindLaws.{none-of}
-use Rattle.rows.proofs.Laws.{row-eq, number-below}
+use Rattle.writing.specs.Put.{ownBytesAt}
+use Rattle.writing.proofs.Put.{words, own-words, size-words, number-fits, elements-fit}
 use borrow.Author.Needs.{needs}
 use Rattle.writing.proofs.marshall_row.Statement.{statement}
 use Rattle.writing.proofs.marshall_row.Tie as tie
 
--- the row as read, behind the reads
+-- the row as read
 abbrev this : tie.After-word3-at → Row
-this c = record {
-  kind = c .before .before .kind-at .result;
-  span = rowAt (c .before .before .before .before .before .before .args .rows .now) (c .before .before .before .before .before .before .args .row) .span;
-  word2 = c .before .word2-at .result;
-  word3 = c .word3-at .result;
-}
-
-read : (c : tie.After-word3-at) → this c ≡ rowAt (c .before .before .before .before .before .before .args .rows .now) (c .before .before .before .before .before .before .args .row)
-read c = sym (row-eq (rowAt (c .before .before .before .before .before .before .args .rows .now) (c .before .before .before .before .before .before .args .row)) (sym (c .before .before .kind-at .ensures)) refl (sym (c .before .word2-at .ensures)) (sym (c .word3-at .ensures)))
-
--- what is to be put where a row is of class k
-abbrev Put : tie.After-word3-at → Row → Kind → ℕ → List ℕ → Type 0
-Put c x k r exit =
+this c =
     let a = c .before .before .before .before .before .before .args in
-    (r ≡ a .index + ownSize k x) × (exit ≡ put (a .out .now) (a .index) (ownBytes k x (a .store .now)))
+    words (a .rows .now) (a .store .now) (a .row) (c .before .before .kind-at .ensures) (c .before .word2-at .ensures) (c .word3-at .ensures)
 
-arm : (c : tie.After-word3-at) {k : Kind} → kindOf (this c .kind) ≡ k → {r : ℕ} {exit : List ℕ} → Put c (this c) k r exit → Put c (rowAt (c .before .before .before .before .before .before .args .rows .now) (c .before .before .before .before .before .before .args .row)) (kindOf (rowAt (c .before .before .before .before .before .before .args .rows .now) (c .before .before .before .before .before .before .args .row) .kind)) r exit
-arm c e {r} {exit} h = subst (λ (x : Row). Put c x (kindOf (x .kind)) r exit) (read c) (subst (λ (k : Kind). Put c (this c) k r exit) (sym e) h)
+-- what is put of a row of class k
+arm : (c : tie.After-word3-at) {k : Kind} {r : ℕ} {exit : List ℕ} → kindOf (this c .kind) ≡ k → let a = c .before .before .before .before .before .before .args in (r ≡ a .index + ownSize k (this c)) × (exit ≡ put (a .out .now) (a .index) (ownBytes k (this c) (a .store .now))) → (r ≡ a .index + sizeAt (a .rows .now) (a .row)) × (exit ≡ put (a .out .now) (a .index) (ownBytesAt (a .rows .now) (a .store .now) (a .row)))
+arm c e h =
+    let a = c .before .before .before .before .before .before .args in
+    (h .0 ∙ ap (λ (n : ℕ). a .index + n) (size-words (a .rows .now) (a .store .now) (a .row) (c .before .before .kind-at .ensures) (c .before .word2-at .ensures) (c .word3-at .ensures) e), h .1 ∙ ap (put (a .out .now) (a .index)) (own-words (a .rows .now) (a .store .now) (a .row) (c .before .before .kind-at .ensures) (c .before .word2-at .ensures) (c .word3-at .ensures) e))
 
 -- a row without bytes of its own
 nothing : (c : tie.After-word3-at) → let a = c .before .before .before .before .before .before .args in (a .index ≡ a .index + 0) × (a .out .now ≡ put (a .out .now) (a .index) [])
 nothing c = let a = c .before .before .before .before .before .before .args in (sym (add-zero (a .index)), sym (put-nothing (a .out .now) (a .index)))
 
-room : (c : tie.After-word3-at) {k : Kind} → kindOf (this c .kind) ≡ k → c .before .before .before .before .before .before .args .index + ownSize k (this c) ≤ length (c .before .before .before .before .before .before .args .out .now)
+room : (c : tie.After-word3-at) {k : Kind} → kindOf (this c .kind) ≡ k → let a = c .before .before .before .before .before .before .args in a .index + ownSize k (this c) ≤ length (a .out .now)
 room c e =
     let s = c .before .before .before .before .before .before in
-    subst (λ (k : Kind). s .args .index + ownSize k (this c) ≤ length (s .args .out .now)) e (subst (λ (x : Row). s .args .index + ownSize (kindOf (x .kind)) x ≤ length (s .args .out .now)) (sym (read c)) (s .pre .1))
+    let a = s .args in
+    omega (arith, s .pre .1, size-words (a .rows .now) (a .store .now) (a .row) (c .before .before .kind-at .ensures) (c .before .word2-at .ensures) (c .word3-at .ensures) e)
 
-number-fits : (c : tie.After-word3-at) (k : Number) → kindOf (this c .kind) ≡ number k → this c .word2 < 256 ^ width k
-number-fits c k e =
-    let r = this c in
-    let h : keepsRule (number k) r ≡ true = sym (ap (λ (x : Kind). keepsRule x r) e) ∙ ap (λ (x : Row). keepsRule (kindOf (x .kind)) x) (read c) ∙ c .before .before .before .before .before .before .pre .0 .rule in
-    number-below k r h
+number-word : (c : tie.After-word3-at) (k : Number) → kindOf (this c .kind) ≡ number k → this c .word2 < 256 ^ width k
+number-word c k e =
+    let s = c .before .before .before .before .before .before in
+    let a = s .args in
+    number-fits (a .rows .now) (a .store .now) (a .row) (c .before .before .kind-at .ensures) (c .before .word2-at .ensures) (c .word3-at .ensures) k e (s .pre .0)
 
-elements-fit : (c : tie.After-word3-at) (k : Elements) → kindOf (this c .kind) ≡ elements k → (this c .word3 + elementWidth k * this c .word2 ≤ length (c .before .before .before .before .before .before .args .store .now)) × (c .before .before .before .before .before .before .args .index + (8 + elementWidth k * this c .word2) ≤ length (c .before .before .before .before .before .before .args .out .now))
-elements-fit c k e =
-    let r = this c in
-    let len = length (c .before .before .before .before .before .before .args .store .now) in
-    let h : withinStore (elements k) r len ≡ true = sym (ap (λ (x : Kind). withinStore x r len) e) ∙ ap (λ (x : Row). withinStore (kindOf (x .kind)) x len) (read c) ∙ c .before .before .before .before .before .before .pre .0 .within in
-    (leb-true (r .word3 + elementWidth k * r .word2) len h, room c e)
+array-words : (c : tie.After-word3-at) (k : Elements) → kindOf (this c .kind) ≡ elements k → let a = c .before .before .before .before .before .before .args in (this c .word3 + elementWidth k * this c .word2 ≤ length (a .store .now)) × (a .index + (8 + elementWidth k * this c .word2) ≤ length (a .out .now))
+array-words c k e =
+    let s = c .before .before .before .before .before .before in
+    let a = s .args in
+    (elements-fit (a .rows .now) (a .store .now) (a .row) (c .before .before .kind-at .ensures) (c .before .word2-at .ensures) (c .word3-at .ensures) k e (s .pre .0), room c e)
 
 kind-at-requires : tie.Need-kind-at-requires
 kind-at-requires c κs = search needs
@@ -73,7 +62,7 @@ word3-at-requires c κs = search needs
 
 cast-marshall-uint32 : tie.Need-cast-marshall-uint32
 unfolding kindOf kinds ownBytes
-cast-marshall-uint32 c = omega (arith, number-fits (c .before) uint32 (ap kindOf (c .match .keys2)))
+cast-marshall-uint32 c = omega (arith, number-word (c .before) uint32 (ap kindOf (c .match .keys2)))
 
 marshall-uint32-requires : tie.Need-marshall-uint32-requires
 unfolding kindOf kinds ownBytes
@@ -89,15 +78,15 @@ marshall-uint64-requires-2 c κs = room (c .before .before) (ap kindOf (c .befor
 
 marshall-elements-requires : tie.Need-marshall-elements-requires
 unfolding kindOf kinds ownBytes
-marshall-elements-requires c κs = elements-fit (c .before .before) bytes (ap kindOf (c .before .match .keys6))
+marshall-elements-requires c κs = array-words (c .before .before) bytes (ap kindOf (c .before .match .keys6))
 
 marshall-elements-requires-2 : tie.Need-marshall-elements-requires-2
 unfolding kindOf kinds ownBytes
-marshall-elements-requires-2 c κs = elements-fit (c .before .before) uint32s (ap kindOf (c .before .match .keys7))
+marshall-elements-requires-2 c κs = array-words (c .before .before) uint32s (ap kindOf (c .before .match .keys7))
 
 marshall-elements-requires-3 : tie.Need-marshall-elements-requires-3
 unfolding kindOf kinds ownBytes
-marshall-elements-requires-3 c κs = elements-fit (c .before .before) uint64s (ap kindOf (c .before .match .keys8))
+marshall-elements-requires-3 c κs = array-words (c .before .before) uint64s (ap kindOf (c .before .match .keys8))
 
 marshall-uint64-requires-3 : tie.Need-marshall-uint64-requires-3
 unfolding kindOf kinds ownBytes
@@ -105,7 +94,7 @@ marshall-uint64-requires-3 c κs = room (c .before .before) (ap kindOf (c .befor
 
 cast-marshall-uint32-2 : tie.Need-cast-marshall-uint32-2
 unfolding kindOf kinds ownBytes
-cast-marshall-uint32-2 c = omega (arith, number-fits (c .before) int32 (ap kindOf (c .match .keys10)))
+cast-marshall-uint32-2 c = omega (arith, number-word (c .before) int32 (ap kindOf (c .match .keys10)))
 
 marshall-uint32-requires-2 : tie.Need-marshall-uint32-requires-2
 unfolding kindOf kinds ownBytes
