@@ -30,7 +30,10 @@ impl fmt::Display for Difference {
         let (model, library) = (&self.model, &self.library);
         writeln!(f, "{}", line("by the model", model))?;
         write!(f, "{}", line("by the library", library))?;
-        if model.answer == library.answer && model.after() == library.after() {
+        if let Some(answer) = library.contradiction() {
+            let outcome = Outcome::with(answer.clone(), &self.case);
+            write!(f, "\n{}", line("by the library's writing", &outcome))?;
+        } else if model.answer == library.answer && model.after() == library.after() {
             write!(f, "\nthe lent buffers differ around the part lent")?;
         }
         Ok(())

@@ -11,7 +11,7 @@ const LEAVES: [u64; 10] = [0, 1, 2, 3, 4, 5, 6, 7, 9, 10];
 const PARENTS: [u64; 3] = [3, 4, 8];
 
 /// The bytes of an element, if the kind is that of an array in the store.
-fn element_width(kind: u64) -> Option<usize> {
+pub(crate) fn element_width(kind: u64) -> Option<usize> {
     match kind {
         5 => Some(1),
         6 => Some(4),

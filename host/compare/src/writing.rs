@@ -1,10 +1,10 @@
-//! The cases of the writing calls.
+//! The cases of the writing calls and of preview.
 
 use route_record::{Refusal, MAX_ROWS, ROW_WORDS};
 
 use crate::Case;
 
-/// What the writing calls are given, but for the output.
+/// What the writing calls and preview are given, but for the output and the index.
 #[derive(Clone, Debug, PartialEq)]
 pub struct Value {
     /// The words of the grammar.
@@ -32,9 +32,58 @@ impl Value {
         }
     }
 
+    /// The value, the output and the index of a case of a writing call or of preview.
+    pub fn of(case: &Case) -> Option<(Value, Vec<u8>, usize)> {
+        let (grammar, rows, n, store, out, index) = match case {
+            Case::MarshallVal {
+                grammar,
+                rows,
+                n,
+                store,
+                out,
+                index,
+            }
+            | Case::Preview {
+                grammar,
+                rows,
+                n,
+                store,
+                out,
+                index,
+            } => (grammar, rows, n, store, out, *index),
+            Case::Marshall {
+                grammar,
+                rows,
+                n,
+                store,
+                out,
+            } => (grammar, rows, n, store, out, 0),
+            _ => return None,
+        };
+        let value = Value {
+            grammar: grammar.clone(),
+            rows: rows.clone(),
+            n: *n,
+            store: store.clone(),
+        };
+        Some((value, out.clone(), index))
+    }
+
     /// The writing at `index` to this output.
     pub fn marshall_val_case(self, out: Vec<u8>, index: usize) -> Case {
         Case::MarshallVal {
+            grammar: self.grammar,
+            rows: self.rows,
+            n: self.n,
+            store: self.store,
+            out,
+            index,
+        }
+    }
+
+    /// The preview of the writing at `index` to this output.
+    pub fn preview_case(self, out: Vec<u8>, index: usize) -> Case {
+        Case::Preview {
             grammar: self.grammar,
             rows: self.rows,
             n: self.n,

@@ -5,7 +5,8 @@ use std::collections::HashSet;
 use compare::{Random, Record, Table};
 use route_record::calls::{locate_array, signed_number};
 use route_record::{
-    Builder, Class, Contents, Grammar, GrammarError, Kind, Position, Refusal, Row, Value, KINDS,
+    Builder, Class, Contents, Grammar, GrammarError, Kind, Position, Preview, Refusal, Row, Value,
+    KINDS,
 };
 
 /// A random table of `n` nodes that the root reaches, with up to `shared` more child words than
@@ -122,6 +123,12 @@ fn assert_round_trip(grammar: &Grammar, record: &Record) -> Vec<u32> {
         assert_eq!(read.elements(), built.elements());
     }
     assert_eq!(grammar.marshall_vec(&built).as_ref(), Ok(&record.bytes));
+    let others: Vec<u8> = record.bytes.iter().map(|byte| !byte).collect();
+    for (out, changed) in [(&record.bytes, 0), (&others, others.len())] {
+        let size = out.len();
+        let expected = Preview { size, changed };
+        assert_eq!(grammar.preview(&built, out, 0), Ok(expected));
+    }
     let kinds = value.rows().map(|(_, row)| row.kind().number).collect();
     assert_eq!(
         grammar.marshall_vec(&value.into_owned()).as_ref(),

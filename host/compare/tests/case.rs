@@ -2,7 +2,8 @@
 
 use std::collections::BTreeSet;
 
-use compare::{Answer, Case, Field, Outcome};
+use compare::{leaf, Answer, Case, Field, Outcome, Value};
+use route_record::{Place, Refusal};
 
 /// The packing of 7 in 4 bytes at index 1 of 6.
 fn packing() -> Case {
@@ -24,7 +25,7 @@ fn output(case: &mut Case) -> &mut Vec<u8> {
 #[test]
 fn each_call_has_one() {
     let calls: BTreeSet<&str> = Case::blanks().iter().map(Case::call).collect();
-    assert_eq!(calls.len(), 19);
+    assert_eq!(calls.len(), 20);
     for mut blank in Case::blanks() {
         let answer = blank.compare().answer;
         if let Answer::Accepted(given) = answer {
@@ -59,6 +60,49 @@ fn bytes_outside_the_lent_part_are_compared() {
         assert_ne!(touched, sound);
         assert_eq!(touched.after(), sound.after());
     }
+}
+
+/// The preview of writing the uint32 7 at index 1 of 6 bytes 00.
+fn previewing() -> Case {
+    let value = Value {
+        grammar: leaf(1),
+        rows: vec![1, 1, 7, 0],
+        n: 1,
+        store: vec![],
+    };
+    value.preview_case(vec![0; 6], 1)
+}
+
+/// A preview beside a writing that gives another size, changes a byte more or less, or is refused,
+/// is not the sound one, though it gives the sound answer.
+#[test]
+fn a_preview_is_compared_with_the_writing() {
+    let sound = previewing().compare();
+    assert_eq!(sound.answer, Answer::Accepted(vec![4, 1]));
+    let writing = previewing().previewed().expect("the writing").of_model();
+    assert_eq!(sound.clone().beside(&writing), sound);
+    let refusal = Refusal {
+        number: 17,
+        place: Place::Byte(6),
+    };
+    let refused = Answer::Refused { refusal, record: 0 };
+    let mut more = writing.after();
+    output(&mut more)[5] = 1;
+    let mut less = writing.after();
+    output(&mut less)[1] = 0;
+    let size = Answer::Accepted(vec![4]);
+    for (answer, after) in [
+        (Answer::Accepted(vec![5]), writing.after()),
+        (size.clone(), more),
+        (size, less),
+        (refused, writing.after()),
+    ] {
+        let other = sound.clone().beside(&Outcome::with(answer, &after));
+        assert_eq!(other.answer, sound.answer);
+        assert_ne!(other, sound);
+        assert!(other.contradiction().is_some());
+    }
+    assert_eq!(sound.contradiction(), None);
 }
 
 #[test]

@@ -1,21 +1,21 @@
-//! The deepest writings, on a thread with a small stack. They have a program of their own, since a
-//! stack that overflows ends it.
+//! The deepest writings and previews, on a thread with a small stack. They have a program of their
+//! own, since a stack that overflows ends it.
 
 use std::thread;
 
 use compare::{chain, Value};
-use route_record::{Place, Refusal};
+use route_record::{Place, Preview, Refusal};
 
 type Answer = Result<Vec<u8>, Refusal>;
 
-/// The bytes of stack within which a writing stays. The walk over the rows needs it: before the
+/// The bytes of stack within which a call stays. The walk over the rows needs it: before the
 /// grammar's nodes are looked at it goes as deep as the rows do, 4,096 at most. What comes behind
 /// it goes no deeper than the grammar, 256 nodes at most.
 const STACK: usize = 1 << 20;
 
-/// The library's answers of both calls, at byte 0 of an output of this length, on a thread with
-/// the small stack.
-fn on_small_stack(value: &Value, length: usize) -> [Answer; 2] {
+/// The library's answer on a thread with the small stack: both writers give it at byte 0 of an
+/// output of this length, and the preview over zeros agrees with it.
+fn on_small_stack(value: &Value, length: usize) -> Answer {
     let Value {
         grammar,
         rows,
@@ -26,23 +26,30 @@ fn on_small_stack(value: &Value, length: usize) -> [Answer; 2] {
         let (mut first, mut second) = (vec![0; length], vec![0; length]);
         let size = route_record::calls::marshall_val(&grammar, &rows, n, &store, &mut first, 0);
         let other = route_record::calls::marshall(&grammar, &rows, n, &store, &mut second);
-        [
+        let zeros = vec![0; length];
+        let preview = route_record::calls::preview(&grammar, &rows, n, &store, &zeros, 0);
+        let answers = [
             size.map(|size| first[..size].to_vec()),
             other.map(|size| second[..size].to_vec()),
-        ]
+        ];
+        (answers, preview)
     };
     let thread = thread::Builder::new().stack_size(STACK).spawn(calls);
     let thread = thread.expect("a thread with a small stack");
-    thread.join().expect("both calls return")
+    let ([answer, other], preview) = thread.join().expect("all calls return");
+    assert_eq!(answer, other);
+    let expected = answer.clone().map(|record| Preview {
+        size: record.len(),
+        changed: record.iter().filter(|&&byte| byte != 0).count(),
+    });
+    assert_eq!(preview, expected);
+    answer
 }
 
 /// The answer on the small stack, which is the model's too.
 fn answer(value: &Value, length: usize) -> Answer {
     let answer = value.marshall(length);
-    assert_eq!(
-        on_small_stack(value, length),
-        [answer.clone(), answer.clone()]
-    );
+    assert_eq!(on_small_stack(value, length), answer);
     answer
 }
 
@@ -79,11 +86,9 @@ fn deepest_rows(kind: u64) {
     if kind == 8 {
         (0..4_095).for_each(|row| value.rows[4 * row + 2] = 0);
     }
-    let expected = refusal(15, Place::Row(255));
-    assert_eq!(on_small_stack(&value, 0), [expected.clone(), expected]);
+    assert_eq!(on_small_stack(&value, 0), refusal(15, Place::Row(255)));
     value.rows[4 * 4_095] = 11;
-    let expected = refusal(13, Place::Row(4_095));
-    assert_eq!(on_small_stack(&value, 0), [expected.clone(), expected]);
+    assert_eq!(on_small_stack(&value, 0), refusal(13, Place::Row(4_095)));
 }
 
 #[test]

@@ -1,7 +1,7 @@
 //! Cases as lines of JSON: what is written is read back, and what is not such a line is refused.
 
 use compare::json::Json;
-use compare::{Case, Line};
+use compare::{leaf, Case, Line, Value};
 
 /// The line of a case.
 fn line(case: Case) -> Line {
@@ -42,6 +42,17 @@ fn signed_number(pattern: u64) -> Case {
     }
 }
 
+/// The preview of writing the uint32 7 at byte 1 of these bytes.
+fn preview(out: &[u8]) -> Case {
+    let value = Value {
+        grammar: leaf(1),
+        rows: vec![1, 1, 7, 0],
+        n: 1,
+        store: vec![],
+    };
+    value.preview_case(out.to_vec(), 1)
+}
+
 #[test]
 fn texts() {
     assert_eq!(
@@ -61,6 +72,10 @@ fn texts() {
         text(signed_number(4_294_967_293)),
         r#"{"name": "a name", "call": "signed_number", "rows": ["9 1 4294967293 0"], "n": "1", "store": [], "row": "0", "accepted": {"number": "-3"}}"#
     );
+    assert_eq!(
+        text(preview(&[0; 6])),
+        r#"{"name": "a name", "call": "preview", "grammar": ["1", "1 0 0", "0"], "rows": ["1 1 7 0"], "n": "1", "store": [], "out": ["000000000000"], "index": "1", "accepted": {"size": "4", "changed": "1"}}"#
+    );
     let refused = Case::SameRoute {
         grammar: vec![1, 2, 0, 0, 0],
         first: vec![0; 8],
@@ -75,7 +90,8 @@ fn texts() {
 #[test]
 fn read_back() {
     let signed = [0, 1, (1 << 31) - 1, 1 << 31, (1 << 32) - 1].map(signed_number);
-    let others = [packing()].into_iter().chain(signed);
+    let previews = [preview(&[0; 6]), preview(&[0; 4])];
+    let others = [packing()].into_iter().chain(signed).chain(previews);
     for case in Case::blanks().into_iter().chain(others) {
         let line = line(case);
         assert_eq!(read(&line.to_json().to_string()), Ok(line));
@@ -154,6 +170,11 @@ fn fields_are_exactly_those_of_the_call() {
     assert_eq!(
         error(r#", "accepted": {}, "out_after": ["EE07000000"]"#, ""),
         "`refused` is missing"
+    );
+    let (given, after) = (r#""changed": "1"}"#, r#", "out_after": ["000700000000"]"#);
+    assert_eq!(
+        error_in(preview(&[0; 6]), given, &format!("{given}{after}")),
+        "`out_after` is unknown here"
     );
 }
 

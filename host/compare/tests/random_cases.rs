@@ -2,7 +2,7 @@
 
 use std::process::{Command, Output};
 
-use compare::{run, Answer, Answers, Case, Outcome};
+use compare::{run, Answer, Answers, Case, Outcome, Value};
 
 /// The answers of a run of so many cases.
 fn run_cases(seed: u64, cases: u64) -> Answers {
@@ -89,6 +89,83 @@ fn a_false_comparison_of_routes_is_found_out() {
         assert_eq!(difference.case.call(), "same_route");
         assert!(answers.total() < 1_000);
     }
+}
+
+/// A preview's `changed` by the output before and after the writing, the index and the size.
+type Count = fn(&[u8], &[u8], usize, usize) -> usize;
+
+/// How many bytes are not the same.
+fn others(before: &[u8], after: &[u8]) -> usize {
+    let bytes = before.iter().zip(after);
+    bytes.filter(|(before, after)| before != after).count()
+}
+
+/// Counts that are not what a writing changes: of all bytes written, of those that are not 0, of
+/// one for any, of those that differ from the output's first bytes, and of all but the last.
+const FALSE_COUNTS: [Count; 5] = [
+    |_, _, _, size| size,
+    |_, after, index, size| others(&vec![0; size], &after[index..]),
+    |before, after, _, _| others(before, after).min(1),
+    |before, after, index, size| others(before, &after[index..index + size]),
+    |before, after, index, size| others(before, &after[..(index + size).saturating_sub(1)]),
+];
+
+/// What the output of a preview holds after the writing.
+fn written(preview: &Case) -> Vec<u8> {
+    let writing = preview.previewed().expect("a preview").of_model();
+    Value::of(&writing.after()).expect("a writing").1
+}
+
+#[test]
+fn a_false_count_of_changed_bytes_is_found_out() {
+    for count in FALSE_COUNTS {
+        let library = |case: &Case| {
+            let outcome = case.of_library();
+            match (case, &outcome.answer) {
+                (Case::Preview { out, index, .. }, Answer::Accepted(given)) => {
+                    let size = given[0] as usize;
+                    let changed = count(out, &written(case), *index, size);
+                    Outcome::with(Answer::Accepted(vec![given[0], changed as u64]), case)
+                }
+                _ => outcome,
+            }
+        };
+        let mut answers = Answers::default();
+        let difference = run(8, library, || true, &mut answers).expect_err("a difference");
+        assert_eq!(difference.case.call(), "preview");
+        assert!(answers.total() < 2_000);
+    }
+}
+
+/// A library whose preview is the model's, but whose writing gives the size and writes nothing, is
+/// found out.
+#[test]
+fn a_preview_unlike_the_writing_is_found_out() {
+    let library = |case: &Case| match case {
+        Case::Preview { .. } => {
+            let sound = case.of_model().answer;
+            Outcome::by(case, |called| match (called, &sound) {
+                (Case::MarshallVal { .. }, Answer::Accepted(given)) => {
+                    Answer::Accepted(given[..1].to_vec())
+                }
+                _ => sound.clone(),
+            })
+        }
+        _ => case.of_library(),
+    };
+    let mut answers = Answers::default();
+    let difference = run(9, library, || true, &mut answers).expect_err("a difference");
+    assert_eq!(difference.case.call(), "preview");
+    assert_eq!(difference.model.answer, difference.library.answer);
+    assert!(difference.library.contradiction().is_some());
+    let text = difference.to_string();
+    assert_eq!(text.lines().count(), 3, "{text}");
+    let last = text.lines().last().expect("a line");
+    assert!(
+        last.starts_with(r#"{"name": "by the library's writing""#),
+        "{last}"
+    );
+    assert!(answers.total() < 2_000);
 }
 
 /// What the program does with these arguments.

@@ -171,6 +171,35 @@ fn values_and_outputs() {
     }
 }
 
+/// The error of counting each byte that would be written.
+fn counts_equal_bytes(case: &Case) -> Outcome {
+    let outcome = case.of_model();
+    match (case, &outcome.answer) {
+        (Case::Preview { .. }, Answer::Accepted(given)) => {
+            Outcome::with(Answer::Accepted(vec![given[0]; 2]), case)
+        }
+        _ => outcome,
+    }
+}
+
+#[test]
+fn previews() {
+    for seed in 0..3 {
+        let (grammar, record) = large_record(&mut Random::new(seed));
+        let value = Value::read(&grammar, &record);
+        let out = [vec![0xee; 50], record, vec![0xee; 50]].concat();
+        let large = value.preview_case(out, 50);
+        let smallest = smallest(counts_equal_bytes, &large);
+        let Some((value, out, 0)) = Value::of(&smallest) else {
+            panic!("a preview at index 0");
+        };
+        // A value of one row that has bytes, or a case of a constant, over zeros.
+        assert!(value.n <= 2 && value.rows.len() == ROW_WORDS * value.n);
+        assert!(value.grammar.len() <= 9 && value.store.is_empty());
+        assert!(out.len() <= 8 && out.iter().all(|&byte| byte == 0));
+    }
+}
+
 /// An error at an index of 5 or more when 3 numbers or more are packed.
 fn errs_behind_index_5(case: &Case) -> Outcome {
     match case {

@@ -8,6 +8,7 @@
 
 mod grammar;
 mod packed;
+mod preview;
 mod reading;
 mod refusal;
 mod rows;
@@ -18,6 +19,7 @@ mod writing;
 
 pub use grammar::check_grammar;
 pub use packed::{pack, pack_seq, unpack, unpack_seq};
+pub use preview::{preview, Preview};
 pub use reading::{capacity, check_val, check_whole, demarshall, parse_val, Reading};
 pub use refusal::{Place, Refusal};
 pub use rows::{compute_size_of, locate_array};

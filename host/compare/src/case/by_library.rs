@@ -102,6 +102,18 @@ pub fn marshall(grammar: &[u32], rows: &[u64], n: usize, store: &[u8], out: &mut
     Answer::of(size.map(|size| [size as u64]))
 }
 
+pub fn preview(
+    grammar: &[u32],
+    rows: &[u64],
+    n: usize,
+    store: &[u8],
+    out: &[u8],
+    index: usize,
+) -> Answer {
+    let preview = calls::preview(grammar, rows, n, store, out, index);
+    Answer::of(preview.map(|preview| [preview.size as u64, preview.changed as u64]))
+}
+
 pub fn same_route(grammar: &[u32], first: &[u8], second: &[u8]) -> Answer {
     let (refusal, record) = match calls::same_route(grammar, first, second) {
         Ok(same) => return Answer::Accepted(vec![same.into()]),

@@ -140,6 +140,18 @@ pub fn marshall(grammar: &[u32], rows: &[u64], n: usize, store: &[u8], out: &mut
     write(out, writing)
 }
 
+pub fn preview(
+    grammar: &[u32],
+    rows: &[u64],
+    n: usize,
+    store: &[u8],
+    out: &[u8],
+    index: usize,
+) -> Answer {
+    let preview = model::preview(grammar, rows, n, store, out, index);
+    answer(preview.map(|preview| [preview.size as u64, preview.changed as u64]))
+}
+
 pub fn same_route(grammar: &[u32], first: &[u8], second: &[u8]) -> Answer {
     let (of_model, record) = match model::same_route(grammar, first, second) {
         Ok(same) => return Answer::Accepted(vec![same.into()]),

@@ -11,7 +11,7 @@ pub use outcome::{Answer, Outcome};
 
 use field::Given;
 
-use crate::Difference;
+use crate::{Difference, Value};
 
 /// Defines the cases: a variant for each call, with the call's name, what it is given, the buffer
 /// that is lent to it and the numbers that it gives when it is accepted.
@@ -124,6 +124,9 @@ cases! {
     Marshall marshall {
         grammar: Vec<u32>, rows: Vec<u64>, n: usize, store: Vec<u8>, out: Vec<u8>
     } lends [out] gives [size];
+    Preview preview {
+        grammar: Vec<u32>, rows: Vec<u64>, n: usize, store: Vec<u8>, out: Vec<u8>, index: usize
+    } lends [] gives [size, changed];
     SameRoute same_route { grammar: Vec<u32>, first: Vec<u8>, second: Vec<u8> }
         lends [] gives [same];
 }
@@ -151,7 +154,7 @@ impl Case {
             Case::Demarshall { .. } | Case::CheckWhole { .. } | Case::SameRoute { .. } => {
                 &[0, 1, 2, 3, 4, 5, 6, 8, 9, 10, 11]
             }
-            Case::MarshallVal { .. } | Case::Marshall { .. } => {
+            Case::MarshallVal { .. } | Case::Marshall { .. } | Case::Preview { .. } => {
                 &[0, 1, 2, 3, 4, 5, 6, 12, 13, 14, 15, 16, 17]
             }
         }
@@ -164,7 +167,16 @@ impl Case {
 
     /// What comes of the case by the library.
     pub fn of_library(&self) -> Outcome {
-        Outcome::of(self, Case::call_library)
+        Outcome::by(self, Case::call_library)
+    }
+
+    /// The writing that a preview is about, to a copy of the output.
+    pub fn previewed(&self) -> Option<Case> {
+        let Case::Preview { .. } = self else {
+            return None;
+        };
+        let (value, out, index) = Value::of(self)?;
+        Some(value.marshall_val_case(out, index))
     }
 
     /// What comes of the case, by both. Panics with the case where they differ.

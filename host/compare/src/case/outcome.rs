@@ -65,13 +65,16 @@ impl Answer {
 
 /// What comes of a case: the answer, and everything that the call was given as it is afterwards,
 /// the margins around the lent buffer included. So two outcomes are equal only if the buffers are,
-/// and if nothing outside them and nothing that is only read was changed differently.
+/// and if nothing outside them and nothing that is only read was changed differently. Outcomes
+/// of previews are equal only if the writings beside them answer and change alike, too.
 #[derive(Clone, Debug, PartialEq, Eq)]
 pub struct Outcome {
     /// The answer.
     pub answer: Answer,
     /// The case after the call, with margins around the lent buffer.
     after: Case,
+    /// Of a preview, the answer that is right by the writing beside it; its own, if there is none.
+    by_writing: Option<Answer>,
 }
 
 impl Outcome {
@@ -82,7 +85,48 @@ impl Outcome {
             lent.add_margins();
         }
         let answer = call(&mut after);
-        Outcome { answer, after }
+        let by_writing = matches!(case, Case::Preview { .. }).then(|| answer.clone());
+        Outcome {
+            answer,
+            after,
+            by_writing,
+        }
+    }
+
+    /// The outcome by an implementation of the calls: of a preview, beside what the implementation's
+    /// writing does to a copy of the output.
+    pub fn by(case: &Case, call: impl Fn(&mut Case) -> Answer) -> Outcome {
+        let outcome = Outcome::of(case, &call);
+        match case.previewed() {
+            Some(writing) => outcome.beside(&Outcome::of(&writing, &call)),
+            None => outcome,
+        }
+    }
+
+    /// The outcome of a preview beside that of the writing that it is about. A sound preview gives
+    /// the writing's refusal, or its size and how many bytes of the output it changes.
+    pub fn beside(self, writing: &Outcome) -> Outcome {
+        let (Case::Preview { out: before, .. }, Case::MarshallVal { out: after, .. }) =
+            (&self.after, writing.after())
+        else {
+            panic!("a preview and a writing");
+        };
+        let bytes = before.iter().zip(&after);
+        let changed = bytes.filter(|(before, after)| before != after).count();
+        let by_writing = match &writing.answer {
+            Answer::Accepted(size) => Answer::Accepted([&size[..], &[changed as u64]].concat()),
+            refused => refused.clone(),
+        };
+        Outcome {
+            by_writing: Some(by_writing),
+            ..self
+        }
+    }
+
+    /// The answer that is right by the writing beside a preview, if the preview gives another.
+    pub fn contradiction(&self) -> Option<&Answer> {
+        let by_writing = self.by_writing.as_ref();
+        by_writing.filter(|&answer| *answer != self.answer)
     }
 
     /// The outcome of a call with this answer that leaves the case like this.

@@ -1,5 +1,6 @@
 //! Random cases of every call: sound ones, and ones with a fault or with several.
 
+mod preview;
 mod reading;
 mod same_route;
 mod writing;
@@ -12,13 +13,14 @@ impl Case {
     /// A random case of any call. The calls on grammars, rows and records come more often than the
     /// packers and unpackers, which have fewer answers.
     pub fn random(random: &mut Random) -> Case {
-        match random.below(39) {
+        match random.below(43) {
             0..4 => packed(random, &U32),
             4..8 => packed(random, &U64),
             8..11 => check_grammar(random),
             11..20 => on_rows(random),
             20..29 => reading::case(random),
             29..35 => writing::case(random),
+            35..39 => preview::case(random),
             _ => same_route::case(random),
         }
     }

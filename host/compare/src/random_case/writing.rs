@@ -82,8 +82,15 @@ fn spoil(random: &mut Random, input: &mut Input) {
     }
 }
 
+/// What a writing is given, but for the output, and the size of the value when it is sound.
+pub(super) struct Writing {
+    pub(super) value: Value,
+    pub(super) index: usize,
+    pub(super) size: usize,
+}
+
 /// A length of output for a value of this size at an index: near the need, or not.
-fn length(random: &mut Random, size: usize, index: usize) -> usize {
+pub(super) fn length(random: &mut Random, size: usize, index: usize) -> usize {
     let need = index.saturating_add(size).min(2 * size + 100);
     match random.below(8) {
         0 => random.within(0..=size),
@@ -92,8 +99,8 @@ fn length(random: &mut Random, size: usize, index: usize) -> usize {
     }
 }
 
-/// A case of a writer.
-pub(super) fn case(random: &mut Random) -> Case {
+/// A writing, sound or with faults.
+pub(super) fn writing(random: &mut Random) -> Writing {
     let mut input = match random.below(100) {
         0 => large_value(random),
         _ => any_value(random),
@@ -113,7 +120,17 @@ pub(super) fn case(random: &mut Random) -> Case {
         0 => index_near(random, input.size),
         _ => random.below(20),
     };
-    let length = length(random, input.size, index);
+    Writing {
+        value,
+        index,
+        size: input.size,
+    }
+}
+
+/// A case of a writer.
+pub(super) fn case(random: &mut Random) -> Case {
+    let Writing { value, index, size } = writing(random);
+    let length = length(random, size, index);
     let out = lent(random, length);
     match random.below(2) {
         0 => value.marshall_case(out),
