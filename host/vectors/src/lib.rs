@@ -30,7 +30,7 @@ pub struct File {
 }
 
 /// All files.
-pub const FILES: [File; 8] = [
+pub const FILES: [File; 9] = [
     File {
         name: "packed.jsonl",
         vectors: || of_cases(cases::packed(), vec![]),
@@ -54,6 +54,10 @@ pub const FILES: [File; 8] = [
     File {
         name: "writing.jsonl",
         vectors: || of_cases(cases::writing(), cases::borders::writing()),
+    },
+    File {
+        name: "preview.jsonl",
+        vectors: || of_cases(cases::preview(), vec![]),
     },
     File {
         name: "same_route.jsonl",

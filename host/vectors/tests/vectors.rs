@@ -204,16 +204,58 @@ fn same_route_of_refused_records() {
     assert_eq!(other_lengths, (0..=10).collect());
 }
 
+/// Each line of preview says what the model's writing to a copy of the output gives and changes.
+#[test]
+fn preview_is_a_writing_to_a_copy() {
+    let mut previews = 0;
+    on_large_stack(|| {
+        for line in calls() {
+            if let Some(writing) = line.case.previewed() {
+                let beside = line.outcome.beside(&writing.of_model());
+                assert_eq!(beside.contradiction(), None, "{}", line.name);
+                previews += 1;
+            }
+        }
+    });
+    let file = FILES.iter().find(|file| file.name == "preview.jsonl");
+    let lines = committed(file.expect("the file")).lines().count();
+    assert_eq!(previews, lines);
+}
+
+/// Preview counts no byte, one and all bytes of roots of each kind; a constant has none.
+#[test]
+fn preview_of_each_kind() {
+    let (mut none, mut one, mut all) = (BTreeSet::new(), BTreeSet::new(), BTreeSet::new());
+    for line in calls() {
+        let (Case::Preview { grammar, .. }, Answer::Accepted(given)) =
+            (&line.case, &line.outcome.answer)
+        else {
+            continue;
+        };
+        let (root, _) = root_kinds(grammar);
+        let (size, changed) = (given[0], given[1]);
+        none.extend((changed == 0).then_some(root));
+        one.extend((changed == 1).then_some(root));
+        all.extend((changed == size && size > 1).then_some(root));
+    }
+    assert_eq!(none, (0..=10).collect());
+    assert_eq!(one, (1..=10).collect());
+    assert_eq!(all, (1..=10).collect());
+}
+
 /// Refusals with their borders: the number, the call, what the line shows that just passes its test,
 /// and what the one that just does not.
 #[rustfmt::skip]
-const BORDERS: [(u64, &str, &str, &str); 80] = [
+const BORDERS: [(u64, &str, &str, &str); 93] = [
     (1, "check_grammar", "example F, N 256", "example F, N 257"),
     (1, "check_grammar", "example B, constant", "N 0"),
+    (1, "preview", "N 256", "N 257"),
     (2, "check_grammar", "M 1,024", "M 1,025"),
     (2, "check_grammar", "1,794 words", "1,793 words, one missing"),
     (2, "check_grammar", "1,794 words", "1,795 words, one too many"),
+    (2, "preview", "M 1,024", "M 1,025"),
     (3, "check_grammar", "int64", "kind 11"),
+    (3, "preview", "int64 -3 over its record", "kind 11 in the grammar"),
     (4, "check_grammar", "example C, array of constants", "array with count 0"),
     (4, "check_grammar", "example C, array of constants", "array with count 2"),
     (4, "check_grammar", "array with the last child word", "array with its child at M"),
@@ -223,9 +265,11 @@ const BORDERS: [(u64, &str, &str, &str); 80] = [
     (4, "check_grammar", "a tuple of 1,024 fields", "first+count 1,025"),
     (4, "check_grammar", "int32", "int32 with first 1"),
     (4, "check_grammar", "int64", "int64 with count 1"),
+    (4, "preview", "first at M", "first above M"),
     (5, "check_grammar", "child that is the next node", "child that is its node"),
     (5, "check_grammar", "child that is the next node", "child number N"),
     (5, "check_grammar", "node 255 as the last child word", "child number 256 of N 256"),
+    (5, "preview", "child that is the next node", "child that is its node"),
     (6, "demarshall", "a record of 1,048,576 bytes", "a record of 1,048,577 bytes"),
     (6, "check_whole", "a record of 1,048,576 bytes", "a record of 1,048,577 bytes"),
     (6, "parse_val", "the end of 1,048,576 bytes", "the end of 1,048,577 bytes"),
@@ -234,6 +278,7 @@ const BORDERS: [(u64, &str, &str, &str); 80] = [
     (6, "locate_array", "a store of 1,048,576 bytes", "a store of 1,048,577 bytes"),
     (6, "signed_number", "a store of 1,048,576 bytes", "a store of 1,048,577 bytes"),
     (6, "marshall", "a store of 1,048,576 bytes", "a store of 1,048,577 bytes"),
+    (6, "preview", "a store of 1,048,576 bytes", "a store of 1,048,577 bytes"),
     (6, "same_route", "records of 1,048,576 bytes", "6 of both records"),
     (7, "unpack_u32", "index at the length", "index above the length, 7 before 9"),
     (7, "unpack_u64_seq", "no numbers at the length", "no numbers above the length"),
@@ -269,19 +314,26 @@ const BORDERS: [(u64, &str, &str, &str); 80] = [
     (12, "compute_size_of", "constant", "n 0"),
     (12, "compute_size_of", "constant", "a word missing for n"),
     (12, "signed_number", "row 4,095 of 4,096", "n 4,097"),
+    (12, "preview", "n 4,096", "n 4,097"),
     (13, "compute_size_of", "int64 pattern 2^64-1", "kind 11"),
     (13, "compute_size_of", "example H, number 4,294,967,295", "example H, number 4,294,967,296"),
     (13, "compute_size_of", "int32 pattern 4,294,967,295", "example I, int32 pattern 4,294,967,296"),
     (13, "signed_number", "example I, -1 of an int32", "example I, 2^32 is no pattern of an int32"),
+    (13, "preview", "example H, number 4,294,967,295", "example H, number 4,294,967,296"),
     (14, "compute_size_of", "byte array up to the store's end", "byte array a byte beyond the store"),
     (14, "compute_size_of", "uint32 array up to the store's end", "uint32 array a byte beyond the store"),
     (14, "compute_size_of", "uint64 array up to the store's end", "uint64 array a byte beyond the store"),
     (14, "signed_number", "the int32 -3 in a tuple", "14 of another row"),
+    (14, "preview", "example A over its record", "the store of example A without its last byte"),
     (15, "marshall", "case 1, a uint32", "tag at the case count"),
     (15, "marshall", "int32", "a uint32 where an int32 is wanted"),
     (15, "marshall", "int64", "a uint64 where an int64 is wanted"),
+    (15, "preview", "case of a uint32 over its record", "tag at the case count"),
     (16, "marshall", "size 1,048,576", "size 1,048,577"),
+    (16, "preview", "1,048,568 bytes over bytes 00", "1,048,569 bytes"),
     (17, "marshall", "example G, 14 bytes", "example G, 13 bytes"),
+    (17, "preview", "room up to the end", "a byte of room is missing"),
+    (17, "preview", "no bytes at the end of 2", "no bytes behind the end of 2"),
     (17, "pack_u32", "the last 4 bytes", "3 bytes of room"),
     (18, "locate_array", "example A, the byte array", "row number n"),
     (18, "locate_array", "example A, the byte array", "example A, the uint32"),

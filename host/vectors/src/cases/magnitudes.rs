@@ -693,6 +693,54 @@ pub fn writing() -> Cases {
     list.0
 }
 
+/// A value of one row, or of two.
+fn small_value(grammar: &str, rows: &[u64]) -> Value {
+    Value {
+        grammar: numbers(grammar),
+        rows: rows.to_vec(),
+        n: rows.len() / ROW_WORDS,
+        store: vec![],
+    }
+}
+
+/// The cases of preview: indices, row counts, tags, sizes and numbers of changed bytes.
+pub fn preview() -> Cases {
+    let mut list = List::default();
+    let mut add = |name: String, value: &Value, out: Vec<u8>, index: usize| {
+        list.add(&name, value.clone().preview_case(out, index));
+    };
+    let one = small_value(U32, &[1, 1, 7, 0]);
+    for (step, more) in STEPS {
+        let next = more as usize + 1;
+        add(format!("index {step} + 1"), &one, vec![0xee; 9], next);
+        let rows = Value {
+            n: next,
+            ..one.clone()
+        };
+        add(format!("n {step} + 1"), &rows, vec![0xee; 4], 0);
+        let case = small_value(UNI, &[8, 2, more + 1, 0, 1, 1, 7, 0]);
+        add(format!("tag {step} + 1"), &case, vec![0xee; 12], 0);
+    }
+    for count in [200, 300, 40_000, MANY] {
+        let array = Value {
+            store: vec![0x5a; count],
+            ..small_value(BYT, &[5, 1, count as u64, 0])
+        };
+        let name = |over: &str| format!("{count} bytes over {over}");
+        add(name("bytes 00"), &array, vec![0; count + 8], 0);
+        let record = counted(count as u64, &vec![0x5a; count]);
+        add(name("their record"), &array, record, 0);
+        let held = [&vec![0; count][..], &[7, 0, 0, 0]].concat();
+        add(
+            format!("a uint32 at {count}, over its record"),
+            &one,
+            held,
+            count,
+        );
+    }
+    list.0
+}
+
 /// Indexes and counts of the packers and unpackers.
 pub fn packed() -> Cases {
     let mut list = List::default();

@@ -5,6 +5,7 @@ pub mod borders;
 mod grammar;
 mod magnitudes;
 mod packed;
+mod preview;
 mod reading;
 mod rows;
 mod same_route;
@@ -14,6 +15,7 @@ mod writing;
 
 pub use grammar::grammar;
 pub use packed::packed;
+pub use preview::preview;
 pub use reading::reading;
 pub use rows::rows;
 pub use same_route::same_route;

@@ -8,7 +8,7 @@ use super::{A, A64, ARR, A_RECORD, B, BYT, C, D, E, MIX, MIX_RECORD, MIX_ROWS, P
 use super::{I32, I64, NUMBERS, REFUSED_GRAMMARS, TUP0, U32, U64, UNI};
 
 /// A value of as many rows as are given.
-fn value(grammar: &str, rows: &str, store: &[u8]) -> Value {
+pub(super) fn value(grammar: &str, rows: &str, store: &[u8]) -> Value {
     let rows: Vec<u64> = numbers(rows);
     Value {
         grammar: numbers(grammar),
@@ -132,7 +132,7 @@ const ACCEPTED: [(&str, &str, &str, &str, usize); 26] = [
 ];
 
 /// The rows of example A.
-const A_ROWS: &str = "4 3 2 0, 1 1 7 0, 5 1 2 12";
+pub(super) const A_ROWS: &str = "4 3 2 0, 1 1 7 0, 5 1 2 12";
 
 /// Adds each accepted value to both calls: at byte 0 of an output of its size, and between other
 /// bytes.
@@ -229,10 +229,13 @@ const ORDER: [(&str, &str, &str, usize); 16] = [
     ("15 before 17, an int32", U32, "9 1 5 0", 1),
 ];
 
-fn refused(list: &mut List) {
+fn not_in_grammar(list: &mut List) {
     for (name, grammar, rows) in NOT_IN_GRAMMAR {
         list.add(name, marshall(&value(grammar, rows, &[]), 40));
     }
+}
+
+fn refused(list: &mut List) {
     for (name, grammar, rows, n) in ORDER {
         let mut value = value(grammar, rows, &[]);
         value.n = n;
@@ -381,16 +384,24 @@ fn many_rows(list: &mut List) {
     list.add("n 4,097", marshall(&constants(4_097), 8));
 }
 
-/// The cases of the writers.
-pub fn writing() -> Cases {
+/// Refused writings, those with 15 alone left out, and those that just pass.
+pub(super) fn refusals() -> Cases {
     let mut list = List::default();
-    accepted(&mut list);
     refused(&mut list);
     room(&mut list);
     sizes(&mut list);
     stores(&mut list);
     grammars(&mut list);
     many_rows(&mut list);
+    list.0
+}
+
+/// The cases of the writers.
+pub fn writing() -> Cases {
+    let mut list = List::default();
+    accepted(&mut list);
+    not_in_grammar(&mut list);
+    list.0.extend(refusals());
     list.0.extend(magnitudes::writing());
     list.0
 }

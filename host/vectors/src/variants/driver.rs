@@ -1,6 +1,6 @@
 //! The calls of the vectors, made of the model.
 
-use model::{Place, Reading, Refusal, SameRouteRefusal, Writing};
+use model::{Place, Preview, Reading, Refusal, SameRouteRefusal, Writing};
 
 use super::flat::{Call, Given, Outcome};
 
@@ -72,6 +72,12 @@ fn read(reading: Result<Reading, Refusal>, lent: Option<&[u64]>) -> Outcome {
 /// The outcome of a writing.
 fn written(writing: Result<Writing, Refusal>) -> Outcome {
     outcome(writing.map(|writing| (vec![writing.size as u64], Some(Given::Bytes(writing.out)))))
+}
+
+/// The outcome of a preview.
+fn previewed(preview: Result<Preview, Refusal>) -> Outcome {
+    let numbers = |preview: Preview| vec![preview.size as u64, preview.changed as u64];
+    outcome(preview.map(|preview| (numbers(preview), None)))
 }
 
 /// The outcome of packing.
@@ -156,6 +162,11 @@ pub fn of_model(call: &Call) -> Outcome {
         ("marshall", [grammar, rows, n, store, out]) => {
             let (grammar, rows, n) = (short_words(grammar), words(rows), size(n));
             written(model::marshall(&grammar, rows, n, bytes(store), bytes(out)))
+        }
+        ("preview", [grammar, rows, n, store, out, index]) => {
+            let (grammar, rows, n) = (short_words(grammar), words(rows), size(n));
+            let (store, out, index) = (bytes(store), bytes(out), size(index));
+            previewed(model::preview(&grammar, rows, n, store, out, index))
         }
         ("same_route", [grammar, first, second]) => {
             same_route(&short_words(grammar), bytes(first), bytes(second))

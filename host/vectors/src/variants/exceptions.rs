@@ -32,7 +32,7 @@ const ROWS: u64 = 4_097;
 pub const LONG: &str = "only a slice of 2^31 or more elements can tell";
 
 /// The bounds. A number that is written down is below the next one; those are not listed.
-const BOUNDS: [Bound; 54] = [
+const BOUNDS: [Bound; 55] = [
     Bound {
         file: "grammar.rs",
         functions: &["~"],
@@ -137,6 +137,13 @@ const BOUNDS: [Bound; 54] = [
         texts: &["rest#1"],
         below: 1,
         why: "nothing is left",
+    },
+    Bound {
+        file: "preview.rs",
+        functions: &["preview"],
+        texts: &["writing.size", "changed"],
+        below: BYTES,
+        why: "what is written is at most 1,048,576 bytes long",
     },
     Bound {
         file: "reading.rs",
@@ -904,7 +911,7 @@ const EXCEPTIONS: [Exception; 58] = [
 ];
 
 /// Variants by hand: file, pieces of its text with what stands for each, what is broken.
-pub(super) const BY_HAND: [(&str, &[(&str, &str)], &str); 9] = [
+pub(super) const BY_HAND: [(&str, &[(&str, &str)], &str); 21] = [
     (
         "rows.rs",
         &[
@@ -1021,6 +1028,91 @@ pub(super) const BY_HAND: [(&str, &[(&str, &str)], &str); 9] = [
         "same_route.rs",
         &[("if !fields.is_empty() =>", "if fields.len() > 1 =>")],
         "the only field of a tuple counts",
+    ),
+    (
+        "preview.rs",
+        &[("        changed,", "        changed: writing.size,")],
+        "each byte of the value counts",
+    ),
+    (
+        "preview.rs",
+        &[(".count()", ".count().min(1)")],
+        "the first difference ends the count",
+    ),
+    (
+        "preview.rs",
+        &[("bytes.filter(", "bytes.skip(index).take_while(")],
+        "the first equal byte ends the count",
+    ),
+    (
+        "preview.rs",
+        &[(
+            "bytes.filter(|&(before, after)| before != after).count()",
+            "{
+        let is_other: Vec<bool> = bytes.map(|(before, after)| before != after).collect();
+        let first = is_other.iter().position(|is_other| *is_other);
+        let last = is_other.iter().rposition(|is_other| *is_other);
+        first.zip(last).map_or(0, |(first, last)| last - first + 1)
+    }",
+        )],
+        "each byte from the first difference to the last counts",
+    ),
+    (
+        "preview.rs",
+        &[
+            (
+                "    let bytes = out.iter().zip(&writing.out);",
+                "    let end = index + writing.size;
+    let bytes = out[index..end].chunks(4).zip(writing.out[index..end].chunks(4));",
+            ),
+            (".count()", ".map(|(before, _)| before.len()).sum::<usize>()"),
+        ],
+        "each of 4 bytes counts where one differs",
+    ),
+    (
+        "preview.rs",
+        &[(".zip(&writing.out)", ".zip(&writing.out[index..index + writing.size])")],
+        "the value is compared with the output from byte 0 on",
+    ),
+    (
+        "preview.rs",
+        &[("out.iter().zip(&writing.out)", "out[index..].iter().zip(store)")],
+        "the store is compared with the output",
+    ),
+    (
+        "preview.rs",
+        &[("before != after)", "before != after && *before != 0)")],
+        "a byte 0 of the output does not count",
+    ),
+    (
+        "preview.rs",
+        &[("before != after)", "before != after && *after != 0)")],
+        "a byte 0 of the value does not count",
+    ),
+    (
+        "preview.rs",
+        &[("before != after)", "(before ^ after) & 0x7f != 0)")],
+        "the highest bit of a byte does not count",
+    ),
+    (
+        "preview.rs",
+        &[(
+            "    let writing = ",
+            "    crate::rows::check_length(out)?;
+    let writing = ",
+        )],
+        "an output of more than 1,048,576 bytes is refused",
+    ),
+    (
+        "preview.rs",
+        &[(
+            "    let writing = ",
+            "    if index > out.len() {
+        return Err(crate::refusal::at_byte(17, out.len()));
+    }
+    let writing = ",
+        )],
+        "an index above the output's length is refused first",
     ),
 ];
 
