@@ -1,5 +1,5 @@
-/* example.c: writes a route as a record, reads it back with a trim below zero, compares it with
- * another box's records, and shows a refusal.
+/* example.c: previews and writes a route as a record, reads it back with a trim below zero,
+ * compares it with another box's records, previews a save over one of them, and shows a refusal.
  *
  *     cc -std=c11 -Wall -Wextra -Werror -Ihost/c host/c/example.c target/staticlib/libroute_c.a */
 
@@ -24,7 +24,7 @@ static const uint32_t grammar[] = {
     5, 3, 4,                       /* of node 2 */
 };
 
-/* The gain steps of both channels, packed: route_pack_u64_seq fills it. */
+/* The gain steps of both channels, packed: pack_steps fills it. */
 static uint8_t store[24];
 
 /* The value: serial number 7, channel 1 with trim -3 and two steps, channel 2 with trim 4 and one
@@ -57,8 +57,8 @@ static void print_refusal(const char *call, route_answer answer)
            places[answer.place_kind], answer.place, route_refusal_meaning(answer.number));
 }
 
-/* Writes the route to out and gives its length, 0 if the library refuses. */
-static size_t write_route(uint8_t *out, size_t out_len)
+/* Puts the gain steps into the store. Gives whether that was accepted. */
+static int pack_steps(void)
 {
     const uint64_t steps[] = {3, 5, 8};
     route_answer answer = route_pack_u64_seq(steps, 3, store, sizeof store, 0);
@@ -66,8 +66,29 @@ static size_t write_route(uint8_t *out, size_t out_len)
         print_refusal("pack", answer);
         return 0;
     }
-    answer = route_marshall(grammar, GRAMMAR_WORDS, rows, WORDS, ROWS, store, sizeof store, out,
-                            out_len);
+    return 1;
+}
+
+/* Prints what saving the route over the bytes of out, which are named, would do, as a panel shows
+ * it before a save. Gives whether writing would be accepted. */
+static int print_preview(const char *what, const uint8_t *out, size_t out_len)
+{
+    route_answer answer = route_preview(grammar, GRAMMAR_WORDS, rows, WORDS, ROWS, store,
+                                        sizeof store, out, out_len, 0);
+    if (answer.number != 0) {
+        print_refusal("preview", answer);
+        return 0;
+    }
+    printf("a save over %s: %" PRIu64 " bytes, %" PRIu64 " would differ\n", what, answer.first,
+           answer.second);
+    return 1;
+}
+
+/* Writes the route to out and gives its length, 0 if the library refuses. */
+static size_t write_route(uint8_t *out, size_t out_len)
+{
+    route_answer answer = route_marshall(grammar, GRAMMAR_WORDS, rows, WORDS, ROWS, store,
+                                         sizeof store, out, out_len);
     if (answer.number != 0) {
         print_refusal("write", answer);
         return 0;
@@ -115,7 +136,9 @@ static int print_same(const char *what, const uint8_t *first, const uint8_t *sec
 
 int main(void)
 {
-    uint8_t record[128];
+    uint8_t record[128] = {0};
+    if (!pack_steps() || !print_preview("zeros", record, sizeof record))
+        return 1;
     size_t length = write_route(record, sizeof record);
     printf("record of %zu bytes\n", length);
     if (length == 0 || !print_rows(record, length))
@@ -130,7 +153,8 @@ int main(void)
 
     /* That box on another route: the last gain step, the record's last 8 bytes, is 9. */
     other[length - 8] = 9;
-    if (!print_same("another gain step", record, other, length))
+    if (!print_same("another gain step", record, other, length) ||
+        !print_preview("that box's record", other, length))
         return 1;
 
     /* The last byte is missing, so the last channel's steps are cut short. */

@@ -92,6 +92,11 @@ static int gives(route_answer answer, uint64_t first)
     return equal(answer, (route_answer){0, 0, 0, first, 0});
 }
 
+static int gives_two(route_answer answer, uint64_t first, uint64_t second)
+{
+    return equal(answer, (route_answer){0, 0, 0, first, second});
+}
+
 /* An argument of a call: a number, or an array. */
 typedef struct argument {
     uint64_t number;
@@ -120,6 +125,7 @@ typedef struct argument {
     CALL(check_whole, "wb", ARRAY(0), ARRAY(1))                                                \
     CALL(marshall_val, "wrnbBn", ARRAY(0), ARRAY(1), NUMBER(2), ARRAY(3), ARRAY(4), NUMBER(5)) \
     CALL(marshall, "wrnbB", ARRAY(0), ARRAY(1), NUMBER(2), ARRAY(3), ARRAY(4))                 \
+    CALL(preview, "wrnbbn", ARRAY(0), ARRAY(1), NUMBER(2), ARRAY(3), ARRAY(4), NUMBER(5))      \
     CALL(same_route, "wbb", ARRAY(0), ARRAY(1), ARRAY(2))
 
 #define NUMBER(i) a[i].number
@@ -349,27 +355,56 @@ static void test_lengths(void)
     }
 }
 
+/* Lengths of outputs that no memory holds: a preview that is refused, or of no bytes, does not touch
+ * the output. */
+static void test_preview_lengths(void)
+{
+    static const uint32_t constant[] = {1, 0, 0, 0, 0}, number[] = {1, 1, 0, 0, 0};
+    static const uint64_t constant_row[] = {0, 1, 0, 0}, number_row[] = {1, 1, 7, 0};
+    const uint8_t *forbidden = pages[0] + PAGES_SIZE;
+    const size_t lengths[] = {SIZE_MAX / 2, SIZE_MAX};
+
+    subject = "lengths of a previewed output";
+    for (int i = 0; i < 2; i++) {
+        size_t length = lengths[i];
+        CHECK(gives_two(
+            route_preview(constant, 5, constant_row, 4, 1, NULL, 0, forbidden, length, length), 0,
+            0));
+        CHECK(refused(
+            route_preview(number, 5, number_row, 4, 1, NULL, 0, forbidden, length, length - 3), 17,
+            2, length));
+    }
+}
+
 /* The longest record, of bytes that are not all the same, through every call that takes one. */
 static void test_longest(void)
 {
     enum { COUNT = ROUTE_MAX_BYTES - 8, OUT = ROUTE_MAX_BYTES + 14 };
     static const uint32_t grammar[] = {1, ROUTE_KIND_BYTE_ARRAY, 0, 0, 0};
     static uint8_t record[ROUTE_MAX_BYTES] = {0xf8, 0xff, 0x0f}, other[ROUTE_MAX_BYTES], out[OUT];
-    uint64_t rows[ROUTE_ROW_WORDS];
+    uint64_t rows[ROUTE_ROW_WORDS], different = 8;
 
     subject = "the longest record";
-    for (size_t i = 8; i < ROUTE_MAX_BYTES; i++)
+    for (size_t i = 8; i < ROUTE_MAX_BYTES; i++) {
         record[i] = (uint8_t)(i % 251);
-    CHECK(equal(route_demarshall(grammar, 5, record, ROUTE_MAX_BYTES, rows, ROUTE_ROW_WORDS),
-                (route_answer){0, 0, 0, 1, ROUTE_MAX_BYTES}));
+        different += record[i] != FILL;
+    }
+    CHECK(gives_two(route_demarshall(grammar, 5, record, ROUTE_MAX_BYTES, rows, ROUTE_ROW_WORDS), 1,
+                    ROUTE_MAX_BYTES));
     CHECK(rows[0] == ROUTE_KIND_BYTE_ARRAY && rows[1] == 1 && rows[2] == COUNT && rows[3] == 8);
     memset(out, FILL, OUT);
+    CHECK(gives_two(
+        route_preview(grammar, 5, rows, ROUTE_ROW_WORDS, 1, record, ROUTE_MAX_BYTES, out, OUT, 5),
+        ROUTE_MAX_BYTES, different));
     CHECK(gives(route_marshall_val(grammar, 5, rows, ROUTE_ROW_WORDS, 1, record, ROUTE_MAX_BYTES,
                                    out, OUT, 5),
                 ROUTE_MAX_BYTES));
     CHECK(memcmp(out + 5, record, ROUTE_MAX_BYTES) == 0);
     for (size_t i = 0; i < 5; i++)
         CHECK(out[i] == FILL && out[OUT - 1 - i] == FILL);
+    CHECK(gives_two(
+        route_preview(grammar, 5, rows, ROUTE_ROW_WORDS, 1, record, ROUTE_MAX_BYTES, out, OUT, 5),
+        ROUTE_MAX_BYTES, 0));
     memcpy(other, record, ROUTE_MAX_BYTES);
     CHECK(gives(route_same_route(grammar, 5, record, ROUTE_MAX_BYTES, other, ROUTE_MAX_BYTES), 1));
     other[ROUTE_MAX_BYTES - 1] ^= 1;
@@ -381,6 +416,7 @@ static void test_overlapping(void)
 {
     static const uint32_t bytes[] = {1, ROUTE_KIND_BYTE_ARRAY, 0, 0, 0};
     static const uint8_t record[] = {2, 0, 0, 0, 0, 0, 0, 0, 0, 0, 0, 0, 0, 0, 0, 0};
+    static const uint64_t row[] = {ROUTE_KIND_BYTE_ARRAY, 1, 2, 8};
 
     subject = "records that overlap";
     CHECK(gives(route_same_route(bytes, 5, record, 10, record, 10), 1));
@@ -388,6 +424,11 @@ static void test_overlapping(void)
     CHECK(gives(route_same_route(bytes, 5, record + 1, 8, record + 2, 8), 1));
     CHECK(
         equal(route_same_route(bytes, 5, record + 1, 8, record, 9), (route_answer){9, 2, 0, 0, 2}));
+
+    subject = "a store and an output that overlap";
+    CHECK(gives_two(route_preview(bytes, 5, row, 4, 1, record, 10, record, 10, 0), 10, 0));
+    CHECK(gives_two(route_preview(bytes, 5, row, 4, 1, record, 10, record + 1, 10, 0), 10, 1));
+    CHECK(gives_two(route_preview(bytes, 5, row, 4, 1, record + 1, 10, record, 16, 6), 10, 1));
 }
 
 /* A signed number by the casts of the header: its pattern in the row, and `first` of the answer. */
@@ -424,6 +465,7 @@ int main(void)
     map_pages();
     run_vectors();
     test_lengths();
+    test_preview_lengths();
     test_longest();
     test_overlapping();
     test_casts();

@@ -69,4 +69,6 @@ call!(route_marshall_val = marshall_val(grammar: &[u32], rows: &[u64], n: usize,
     out: &mut [u8], index: usize));
 call!(route_marshall = marshall(grammar: &[u32], rows: &[u64], n: usize, store: &[u8],
     out: &mut [u8]));
+call!(route_preview = preview(grammar: &[u32], rows: &[u64], n: usize, store: &[u8], out: &[u8],
+    index: usize));
 call!(route_same_route = same_route(grammar: &[u32], first: &[u8], second: &[u8]));

@@ -1,7 +1,8 @@
-//! Grammars that passed their check, and what is done under one: reading, writing, comparing.
+//! Grammars that passed their check, and what is done under one: reading, writing, previewing a
+//! write, comparing.
 
 use crate::value::Value;
-use crate::{calls, Parsed, Refusal, SameRouteRefusal, MAX_BYTES, ROW_WORDS};
+use crate::{calls, Parsed, Preview, Refusal, SameRouteRefusal, MAX_BYTES, ROW_WORDS};
 
 /// A grammar table that passed its check. A text gives one too, by [`str::parse`].
 ///
@@ -256,6 +257,39 @@ impl Grammar {
         let mut out = vec![0; length];
         self.marshall(value, &mut out)?;
         Ok(out)
+    }
+
+    /// What writing a value at byte `index` of the output would do: the size of its record, and how
+    /// many bytes of the output would differ afterwards. Changes nothing. Refused by 15 to 17 as
+    /// [`calls::preview`] refuses.
+    ///
+    /// It says what writing to a copy gives and changes:
+    ///
+    /// ```
+    /// use route_record::{Grammar, Preview, Value};
+    ///
+    /// let grammar = "tuple(u32, u32)".parse::<Grammar>().unwrap();
+    /// let value = Value::build(|value| {
+    ///     value.tuple(|fields| {
+    ///         fields.uint32(7);
+    ///         fields.uint32(6);
+    ///     });
+    /// })?;
+    /// let out = [0xff, 7, 0, 0, 0, 5, 0, 0, 0, 0xff];
+    /// let preview = grammar.preview(&value, &out, 1)?;
+    /// assert_eq!(preview, Preview { size: 8, changed: 1 });
+    ///
+    /// let mut copy = out;
+    /// assert_eq!(grammar.marshall_val(&value, &mut copy, 1)?, preview.size);
+    /// let changed = out.iter().zip(&copy).filter(|(before, after)| before != after);
+    /// assert_eq!(changed.count(), preview.changed);
+    ///
+    /// assert_eq!(grammar.preview(&value, &out, 3).unwrap_err().number, 17);
+    /// # Ok::<(), route_record::Refusal>(())
+    /// ```
+    pub fn preview(&self, value: &Value, out: &[u8], index: usize) -> Result<Preview, Refusal> {
+        let (rows, n, store) = value.parts();
+        calls::preview(&self.words, rows, n, store, out, index)
     }
 
     /// Whether two records are of the same route: whether their values are equal, but for the first

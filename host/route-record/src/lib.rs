@@ -3,8 +3,9 @@
 //! and a grammar's text becomes words that the library checks.
 //!
 //! A [`Grammar`] is a table of words that passed its check. It reads a record into a [`Value`],
-//! whose [`Row`]s are a tree, and writes a value as its record. [`Value::build`] makes a value
-//! that was not read. What is refused is refused by a [`Refusal`] with number, place and meaning.
+//! whose [`Row`]s are a tree, writes a value as its record, and says by a [`Preview`] what writing
+//! would change. [`Value::build`] makes a value that was not read. What is refused is refused by a
+//! [`Refusal`] with number, place and meaning.
 //!
 //! ```
 #![doc = include_str!("../examples/first_use.rs")]
@@ -31,8 +32,8 @@
 //!
 //! On x86-64 Linux, which the archive is built for; a build for another target stops and says so.
 //! Firmware is kept out by that, and by the stack: reading and comparing take less than 64 KiB, but
-//! what walks rows, so writing, up to 1 MiB. The library itself needs no allocator and no operating
-//! system; these bindings use `std`.
+//! what walks rows, so writing and its preview, up to 1 MiB. The library itself needs no allocator
+//! and no operating system; these bindings use `std`.
 
 #![deny(missing_docs, unsafe_code)]
 
@@ -44,6 +45,7 @@ mod grammar;
 mod kind;
 mod limits;
 mod parsed;
+mod preview;
 mod refusal;
 mod text;
 mod value;
@@ -53,6 +55,7 @@ pub use grammar::Grammar;
 pub use kind::{Class, Kind, KINDS};
 pub use limits::{MAX_BYTES, MAX_GRAMMAR_WORDS, MAX_ROWS, ROW_WORDS};
 pub use parsed::Parsed;
+pub use preview::Preview;
 pub use refusal::{Place, Refusal, SameRouteRefusal, REFUSALS};
 pub use text::{GrammarError, Position, TextError};
 pub use value::{Children, Contents, Elements, Row, Rows, Value};

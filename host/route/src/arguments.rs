@@ -21,9 +21,11 @@ pub enum Request {
 pub struct Arguments {
     pub grammar: Source,
     pub records: Vec<Source>,
-    /// Whether the records are hexadecimal digits.
+    /// Where a record would be written, for a command that takes it.
+    pub output: Option<Source>,
+    /// Whether the records and the output are hexadecimal digits.
     pub hex: bool,
-    /// Where the value starts, if that was given.
+    /// Where the value starts, or would in the output, if that was given.
     pub index: Option<usize>,
     /// Whether all elements are to be shown.
     pub all: bool,
@@ -39,6 +41,12 @@ impl Arguments {
     /// The record with this number among those given.
     pub fn record(&self, number: usize) -> Result<Vec<u8>, Stop> {
         self.records[number].record(self.hex)
+    }
+
+    /// The content of the output, for a command that takes it.
+    pub fn output(&self) -> Result<Vec<u8>, Stop> {
+        let output = self.output.as_ref().expect("the command takes an output");
+        output.output(self.hex, self.index.unwrap_or(0))
     }
 }
 
@@ -149,28 +157,38 @@ impl<'a> Given<'a> {
         Ok(())
     }
 
+    /// The first option that only other commands take.
+    fn stray_option(&self, command: &Command) -> Option<&'a str> {
+        let is_stray = |option: &&str| {
+            let is_of = |command: &Command| command.options.contains(option);
+            COMMANDS.iter().any(is_of) && !is_of(command)
+        };
+        self.options.iter().copied().find(is_stray)
+    }
+
     /// What the command is given, if it takes this.
     fn arguments_of(self, command: &Command) -> Result<Arguments, Stop> {
         let fault = |fault: &str| Err(misused(&format!("{fault}: {}", command.usage())));
+        let stray = self.stray_option(command);
         let mut sources = self.names.into_iter().map(|name| Source::of(name));
         let text = self.grammar.map(|text| Source::Text(text.to_string()));
         let Some(grammar) = text.or_else(|| sources.next()) else {
             return fault("the grammar is missing");
         };
-        let records: Vec<Source> = sources.collect();
-        let is_stdin = |source: &&Source| **source == Source::StandardInput;
-        let stdin_uses = records.iter().chain([&grammar]).filter(is_stdin).count();
-        let (count, (least, most)) = (records.len(), command.count.clone().into_inner());
-        let is_stray = |option: &&&str| {
-            let is_of = |command: &Command| command.options.contains(option);
-            COMMANDS.iter().any(is_of) && !is_of(command)
-        };
-        if let Some(option) = self.options.iter().find(is_stray) {
+        if let Some(option) = stray {
             return fault(&format!("{option} is for another command"));
         }
+        let mut records: Vec<Source> = sources.collect();
+        let (least, most) = command.count.clone().into_inner();
+        let has_output = command.takes_output && records.len() > most;
+        let output = has_output.then(|| records.pop()).flatten();
+        let is_stdin = |source: &&Source| **source == Source::StandardInput;
+        let sources = records.iter().chain(&output).chain([&grammar]);
+        let (count, stdin_uses) = (records.len(), sources.filter(is_stdin).count());
         let faults = [
             (count < least, "a record is missing"),
             (count > most, "there are too many arguments"),
+            (command.takes_output && !has_output, "the output is missing"),
             (self.hex && count == 0, "--hex is for records"),
             (stdin_uses > 1, "standard input can be only one of them"),
         ];
@@ -180,6 +198,7 @@ impl<'a> Given<'a> {
         Ok(Arguments {
             grammar,
             records,
+            output,
             hex: self.hex,
             index: self.index,
             all: self.all,

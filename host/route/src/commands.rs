@@ -11,6 +11,8 @@ pub struct Command {
     pub name: &'static str,
     /// How many records it takes.
     pub count: RangeInclusive<usize>,
+    /// Whether an output stands behind the records.
+    pub takes_output: bool,
     /// The options that not every command takes.
     pub options: &'static [&'static str],
     /// What it takes behind the grammar, as the help writes it.
@@ -34,10 +36,11 @@ impl Command {
 }
 
 /// All commands, in the order of the help.
-pub static COMMANDS: [Command; 5] = [
+pub static COMMANDS: [Command; 6] = [
     Command {
         name: "check",
         count: 0..=1,
+        takes_output: false,
         options: &[],
         records: "[RECORD]",
         summary: "Says whether the grammar is accepted, or the whole record under it.",
@@ -48,6 +51,7 @@ pub static COMMANDS: [Command; 5] = [
     Command {
         name: "tree",
         count: 1..=1,
+        takes_output: false,
         options: &["--index", "--all"],
         records: "RECORD [--index I] [--all]",
         summary: "Shows a line for each row of the value, and where each value starts.",
@@ -58,6 +62,7 @@ pub static COMMANDS: [Command; 5] = [
     Command {
         name: "same",
         count: 2..=2,
+        takes_output: false,
         options: &[],
         records: "FIRST SECOND",
         summary: "Says whether two records are of the same route, and so does the status.\n\
@@ -70,6 +75,7 @@ pub static COMMANDS: [Command; 5] = [
     Command {
         name: "size",
         count: 1..=1,
+        takes_output: false,
         options: &["--index"],
         records: "RECORD [--index I]",
         summary: "Gives the size of the value that starts at byte I. Bytes may follow it.",
@@ -78,8 +84,22 @@ pub static COMMANDS: [Command; 5] = [
         run: size,
     },
     Command {
+        name: "preview",
+        count: 1..=1,
+        takes_output: true,
+        options: &["--index"],
+        records: "RECORD OUTPUT [--index I]",
+        summary: "Says how many bytes writing the record at byte I of the output would write,\n\
+                  and how many bytes of the output would be different then. Changes nothing.",
+        example: "echo 07000000 05000000 >record.hex; echo 07000000 06000000 ff | \
+                  route preview -g 'tuple(u32, u32)' --hex record.hex -",
+        printed: "bytes 8, different 1\n",
+        run: preview,
+    },
+    Command {
         name: "words",
         count: 0..=0,
+        takes_output: false,
         options: &["--c"],
         records: "[--c NAME]",
         summary: "Prints the words of the grammar's table, or with --c an array in C of them.",
@@ -131,6 +151,17 @@ fn size(arguments: &Arguments) -> Result<String, Stop> {
         "rows {}, bytes {}\n",
         value.row_count(),
         value.size()
+    ))
+}
+
+fn preview(arguments: &Arguments) -> Result<String, Stop> {
+    let grammar = arguments.grammar()?;
+    let (record, output) = (arguments.record(0)?, arguments.output()?);
+    let value = grammar.demarshall_vec(&record)?;
+    let preview = grammar.preview(&value, &output, arguments.index.unwrap_or(0))?;
+    Ok(format!(
+        "bytes {}, different {}\n",
+        preview.size, preview.changed
     ))
 }
 

@@ -16,9 +16,11 @@ space or commas.
 Options:
     -g, --grammar TEXT    the grammar itself; there is no argument GRAMMAR then.
                           Also -gTEXT and --grammar=TEXT
-    --hex                 records are hexadecimal digits; white space is ignored
-    --index I             the byte where the value starts; bytes may follow it.
-                          Without it size starts at 0 and tree reads it whole
+    --hex                 records and outputs are hexadecimal digits; white
+                          space is ignored
+    --index I             the byte where the value starts, for preview in the
+                          output; bytes may follow it. Without it size and
+                          preview start at 0 and tree reads it whole
     --all                 all elements of arrays, not the first 16 of each
     --c NAME              the definition of an array in C
     -h, --help            this help; behind a command, the help for it
@@ -44,10 +46,11 @@ pub fn text(command: Option<&Command>) -> String {
     let forms = format!("{},\n    {}", without.join(", "), with_children.join(", "));
     format!(
         "\
-Checks, shows and compares route records.
+Checks, shows and compares route records, and previews writing them.
 
 {commands}\
-Arguments are files; one may be -, standard input. A record is raw bytes.
+Arguments are files; one may be -, standard input. Records and outputs are raw
+bytes.
 A grammar is a type, where T is again a type:
     {forms}
 {NOTES}"

@@ -1,4 +1,4 @@
-//! The command line tool: checks, shows and compares route records.
+//! The command line tool: checks, shows and compares route records, and previews writing them.
 
 #![forbid(unsafe_code)]
 

@@ -1,4 +1,4 @@
-//! Where a grammar or a record comes from, and how it is read.
+//! Where a grammar, a record or an output comes from, and how it is read.
 
 use std::ffi::OsStr;
 use std::fmt;
@@ -11,7 +11,7 @@ use route_record::{Grammar, GrammarError, TextError, MAX_BYTES};
 use crate::answer::Stop;
 use crate::hex::{decode, parse_hex};
 
-/// Where a grammar or a record comes from.
+/// Where a grammar, a record or an output comes from.
 #[derive(PartialEq)]
 pub enum Source {
     File(PathBuf),
@@ -53,14 +53,27 @@ impl Source {
 
     /// The record that the source holds, as its bytes or in hexadecimal digits.
     pub fn record(&self, hex: bool) -> Result<Vec<u8>, Stop> {
+        // One more than the library accepts, so that it refuses them.
+        self.content(hex, MAX_BYTES as u64 + 1)
+    }
+
+    /// The output that the source holds, as its bytes or in hexadecimal digits, for a record to be
+    /// written at byte `index`.
+    pub fn output(&self, hex: bool, index: usize) -> Result<Vec<u8>, Stop> {
+        // No record reaches further: bytes behind these change neither an answer nor a refusal.
+        self.content(hex, (index as u64).saturating_add(MAX_BYTES as u64))
+    }
+
+    /// The first bytes that the source holds, at most so many, or all that its hexadecimal digits
+    /// give.
+    fn content(&self, hex: bool, most: u64) -> Result<Vec<u8>, Stop> {
         match hex {
             true => {
                 let bytes = self.bytes(u64::MAX)?;
-                let record = decode(&bytes).and_then(parse_hex);
-                record.map_err(|error| self.wrong(error))
+                let content = decode(&bytes).and_then(parse_hex);
+                content.map_err(|error| self.wrong(error))
             }
-            // One more than the library accepts, so that it refuses them.
-            false => self.bytes(MAX_BYTES as u64 + 1),
+            false => self.bytes(most),
         }
     }
 

@@ -29,4 +29,4 @@ pub use packed::{
 pub use reading::{check_val, check_whole, demarshall, parse_val};
 pub use rows::{compute_size_of, locate_array, signed_number};
 pub use same_route::same_route;
-pub use writing::{marshall, marshall_val};
+pub use writing::{marshall, marshall_val, preview};

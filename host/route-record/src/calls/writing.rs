@@ -1,4 +1,4 @@
-//! Writing the record of the value that rows stand for, by its grammar.
+//! Writing the record of the value that rows stand for, by its grammar, and what that would change.
 //!
 //! The bytes of a constant are none, of a uint32 or int32 4, of a uint64 or int64 8, of a tuple its
 //! fields in order, of an array an 8-byte element count and the elements, of a case an 8-byte tag
@@ -9,12 +9,16 @@
 //! A call uses less than 1 MiB of stack, on values as deep as 4,096 rows can be.
 
 use crate::ffi::{self, Answer};
-use crate::Refusal;
+use crate::{Preview, Refusal};
+
+/// A number of bytes that are written, or would be.
+fn within_output(word: u64) -> usize {
+    usize::try_from(word).expect("the library writes within the output")
+}
 
 /// The number of bytes written.
 fn size(answer: Answer) -> Result<usize, Refusal> {
-    let answer = answer.into_result()?;
-    Ok(usize::try_from(answer.first).expect("the library writes within the output"))
+    Ok(within_output(answer.into_result()?.first))
 }
 
 /// Writes the record of the value that rows 0 to `n - 1` stand for, a value of the grammar's root,
@@ -86,4 +90,42 @@ pub fn marshall(
     out: &mut [u8],
 ) -> Result<usize, Refusal> {
     size(ffi::marshall(grammar, rows, n, store, out))
+}
+
+/// What [`marshall_val`] with the same arguments would do, the output lent for reading: the size
+/// that it would give, and how many bytes of the output it would change. A byte that it would write
+/// over with what is there already does not count. Changes nothing.
+///
+/// Refused as [`marshall_val`] refuses.
+///
+/// ```
+/// use route_record::calls::preview;
+/// use route_record::{Place, Preview, Refusal};
+///
+/// let tuple_of_u32_and_bytes = [3, 4, 0, 2, 1, 0, 0, 5, 0, 0, 2, 1, 2];
+/// let rows = [4, 3, 2, 0, 1, 1, 7, 0, 5, 1, 2, 12];
+/// let record = [7, 0, 0, 0, 2, 0, 0, 0, 0, 0, 0, 0, 0x41, 0x42];
+/// let over = |out: &[u8], index| {
+///     preview(&tuple_of_u32_and_bytes, &rows, 3, &record, out, index)
+/// };
+/// assert_eq!(over(&record, 0), Ok(Preview { size: 14, changed: 0 }));
+/// assert_eq!(over(&[0; 20], 3), Ok(Preview { size: 14, changed: 4 }));
+/// assert_eq!(over(&[0xff; 20], 3), Ok(Preview { size: 14, changed: 14 }));
+///
+/// let refusal = Refusal { number: 17, place: Place::Byte(14) };
+/// assert_eq!(over(&record, 1), Err(refusal));
+/// ```
+pub fn preview(
+    grammar: &[u32],
+    rows: &[u64],
+    n: usize,
+    store: &[u8],
+    out: &[u8],
+    index: usize,
+) -> Result<Preview, Refusal> {
+    let answer = ffi::preview(grammar, rows, n, store, out, index).into_result()?;
+    Ok(Preview {
+        size: within_output(answer.first),
+        changed: within_output(answer.second),
+    })
 }

@@ -1,8 +1,8 @@
-//! The bench examples A to F, with the grammar as words and as types.
+//! The bench examples A to G, with the grammar as words and as types.
 
 use route_record::Place;
 
-use crate::run::{printed, refused, refused_grammar, route, Run};
+use crate::run::{file, folder, printed, refused, refused_grammar, route, Run};
 
 const A: [&str; 2] = ["3, 4 0 2, 1 0 0, 5 0 0, 2, 1 2", "tuple(u32, bytes)"];
 const B: [&str; 2] = ["1, 0 0 0, 0", "constant"];
@@ -70,4 +70,19 @@ fn f() {
     let count = "word 0 is the node count: 257 (table length 773)";
     let got = route(&["check", "-"], constants(257).as_bytes());
     assert_eq!(got, refused_grammar(1, 0, count));
+}
+
+#[test]
+fn g() {
+    let folder = folder("bench_example_g");
+    let record = &file(&folder, "record.hex", "07000000 0200000000000000 4142");
+    for grammar in A {
+        let preview = |bytes| {
+            let output = "00".repeat(bytes);
+            let arguments = ["preview", "-g", grammar, "--hex", record, "-"];
+            route(&arguments, output.as_bytes())
+        };
+        assert_eq!(preview(14), printed(0, "bytes 14, different 4\n"));
+        assert_eq!(preview(13), refused(17, Place::Byte(13)));
+    }
 }

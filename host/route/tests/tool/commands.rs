@@ -1,10 +1,11 @@
 //! Every command, with files, standard input and both forms of grammar and record.
 
+use std::fs;
 use std::process::Command;
 
-use route_record::Place;
+use route_record::{Place, MAX_BYTES};
 
-use crate::run::{file, folder, printed, refused, route, run};
+use crate::run::{file, folder, printed, refused, route, run, Run};
 
 const TYPES: &str = "# case A\nroute = tuple(u32, bytes)\nroute\n";
 const WORDS: &str = "3,\n4, 0, 2,\n1, 0, 0,\n5, 0, 0,\n2,\n1, 2,\n";
@@ -204,6 +205,107 @@ fn tree_starts_at_the_index_and_ignores_what_follows() {
     assert_eq!(tree("--index=114"), refused(7, Place::Byte(114)));
     let whole = route(&["tree", "-g", TYPES, "-"], &record[98..]);
     assert_eq!(whole, refused(11, Place::Byte(14)));
+}
+
+/// What a preview prints of so many bytes, of which so many would differ.
+fn previewed(bytes: usize, different: usize) -> Run {
+    printed(0, &format!("bytes {bytes}, different {different}\n"))
+}
+
+#[test]
+fn preview_counts_the_bytes_that_would_differ() {
+    let folder = folder("preview");
+    let record = &file(&folder, "record", RECORD);
+    let constant = &file(&folder, "constant", "");
+    let shifted = [&RECORD[..], &[0]].concat();
+    let last = [&RECORD[..13], &[0x43]].concat();
+    for (output, index, different) in [
+        (&[0; 14][..], "0", 4),
+        (&[0; 20], "3", 4),
+        (&[0xee; 14], "0", 14),
+        (&[0xee; 17], "1", 14),
+        (&RECORD, "0", 0),
+        (&last, "0", 1),
+        (&shifted, "1", 6),
+    ] {
+        let arguments = ["preview", "-g", TYPES, record, "-", "--index", index];
+        assert_eq!(route(&arguments, output), previewed(14, different));
+    }
+    let got = route(&["preview", "-g", TYPES, record, "-"], &last);
+    assert_eq!(got, previewed(14, 1));
+    let got = route(
+        &["preview", "-gconstant", constant, "-", "--index=2"],
+        &[7; 2],
+    );
+    assert_eq!(got, previewed(0, 0));
+}
+
+#[test]
+fn preview_takes_files_standard_input_and_digits_and_changes_no_file() {
+    let folder = folder("preview_sources");
+    let grammar = &file(&folder, "grammar", WORDS);
+    let record = &file(&folder, "record", RECORD);
+    let hex = &file(&folder, "record.hex", HEX);
+    let output = &file(&folder, "output", [0xee; 15]);
+    let preview = |arguments: &[&str], stdin: &[u8]| {
+        let got = route(&[&["preview"], arguments].concat(), stdin);
+        assert_eq!(got, previewed(14, 14), "{arguments:?}");
+    };
+    preview(&[grammar, record, output], b"");
+    preview(&["-", record, output, "--index", "1"], WORDS.as_bytes());
+    preview(&[grammar, "-", output], &RECORD);
+    preview(&["--index=1", record, "-", "-g", TYPES], &[0xee; 15]);
+    let digits = "ee ".repeat(14);
+    preview(&[grammar, "--hex", hex, "-"], digits.as_bytes());
+    assert_eq!(fs::read(output).unwrap(), [0xee; 15]);
+    assert_eq!(fs::read(record).unwrap(), RECORD);
+}
+
+#[test]
+fn preview_is_refused_by_the_reading_then_by_the_writing() {
+    let folder = folder("preview_refused");
+    let record = &file(&folder, "record", RECORD);
+    let constant = &file(&folder, "constant", "");
+    let preview = |grammar, record, index: u64, output| {
+        let index = &format!("--index={index}");
+        route(&["preview", "-g", grammar, record, "-", index], output)
+    };
+    let too_short = |byte| refused(17, Place::Byte(byte));
+    assert_eq!(preview(TYPES, record, 0, &[0; 13]), too_short(13));
+    assert_eq!(preview(TYPES, record, 1, &RECORD), too_short(14));
+    assert_eq!(preview(TYPES, record, u64::MAX, &RECORD), too_short(14));
+    assert_eq!(preview("constant", constant, 3, &[0; 2]), too_short(2));
+
+    let cut = &file(&folder, "cut", &RECORD[..13]);
+    assert_eq!(preview(TYPES, cut, 0, &[]), refused(9, Place::Byte(4)));
+    let longer = &file(&folder, "longer", [&RECORD[..], &[0]].concat());
+    assert_eq!(preview(TYPES, longer, 0, &[]), refused(11, Place::Byte(14)));
+}
+
+#[test]
+fn preview_of_the_longest_record_and_in_longer_outputs() {
+    const COUNT: usize = MAX_BYTES - 8;
+    let folder = folder("preview_long");
+    let longest = [&COUNT.to_le_bytes()[..], &[1; COUNT]].concat();
+    let longest = &file(&folder, "longest", longest);
+    let got = route(&["preview", "-gbytes", longest, "-"], &[0; MAX_BYTES]);
+    assert_eq!(got, previewed(MAX_BYTES, 1_048_571));
+    let got = route(&["preview", "-gbytes", longest, "/dev/zero"], b"");
+    assert_eq!(got, previewed(MAX_BYTES, 1_048_571));
+
+    let record = &file(&folder, "record", RECORD);
+    let output = [&[0; 2 * MAX_BYTES][..], &RECORD].concat();
+    let preview = |index: usize| {
+        let index = &format!("--index={index}");
+        route(&["preview", "-g", TYPES, record, "-", index], &output)
+    };
+    assert_eq!(preview(0), previewed(14, 4));
+    assert_eq!(preview(2 * MAX_BYTES), previewed(14, 0));
+    let end = 2 * MAX_BYTES + 14;
+    assert_eq!(
+        preview(2 * MAX_BYTES + 1),
+        refused(17, Place::Byte(end as u64))
+    );
 }
 
 #[test]

@@ -25,6 +25,7 @@ fn every_command_refuses_a_refused_grammar() {
         ("tree", &[record]),
         ("same", &[record, record]),
         ("size", &[record]),
+        ("preview", &[record, record]),
         ("words", &[]),
     ] {
         let arguments = ["-g", grammar]

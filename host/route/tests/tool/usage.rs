@@ -55,12 +55,18 @@ fn arguments_that_a_command_does_not_take() {
     let check = "route check GRAMMAR [RECORD]";
     let tree = "route tree GRAMMAR RECORD [--index I] [--all]";
     let same = "route same GRAMMAR FIRST SECOND";
+    let preview = "route preview GRAMMAR RECORD OUTPUT [--index I]";
     let words = "route words GRAMMAR [--c NAME]";
     for (line, fault, usage) in [
         ("check", "the grammar is missing", check),
         ("tree g", "a record is missing", tree),
         ("tree -g u32", "a record is missing", tree),
         ("same g r", "a record is missing", same),
+        ("preview", "the grammar is missing", preview),
+        ("preview -g u32", "a record is missing", preview),
+        ("preview g r", "the output is missing", preview),
+        ("preview --hex -g u32 r", "the output is missing", preview),
+        ("preview g r o o", "there are too many arguments", preview),
         ("tree g r r", "there are too many arguments", tree),
         ("words -g u32 g", "there are too many arguments", words),
         ("words g --hex", "--hex is for records", words),
@@ -68,11 +74,26 @@ fn arguments_that_a_command_does_not_take() {
         ("check g --index 0", "--index is for another command", check),
         ("same g r r --all", "--all is for another command", same),
         ("tree g r --c n", "--c is for another command", tree),
+        (
+            "preview g r o --all",
+            "--all is for another command",
+            preview,
+        ),
         ("tree - -", "standard input can be only one of them", tree),
         (
             "same -g u32 - -",
             "standard input can be only one of them",
             same,
+        ),
+        (
+            "preview -g u32 - -",
+            "standard input can be only one of them",
+            preview,
+        ),
+        (
+            "preview - r -",
+            "standard input can be only one of them",
+            preview,
         ),
     ] {
         assert_misused(line, &format!("{fault}: {usage}"));
@@ -85,8 +106,13 @@ fn files_that_cannot_be_read() {
     let grammar = &file(&folder, "grammar", "u32");
     let missing = &folder.join("missing").display().to_string();
     let directory = &folder.display().to_string();
-    for arguments in [["tree", missing, grammar], ["tree", grammar, missing]] {
-        let got = route(&arguments, b"");
+    for arguments in [
+        &["tree", missing, grammar][..],
+        &["tree", grammar, missing],
+        &["preview", grammar, missing, grammar],
+        &["preview", grammar, grammar, missing],
+    ] {
+        let got = route(arguments, b"");
         let start = format!("route: cannot read {missing}: ");
         assert!(got.stderr.starts_with(&start), "{got:?}");
         assert_eq!((got.status, got.stdout.as_str()), (Some(2), ""));
@@ -112,6 +138,9 @@ fn a_wrong_text_is_said_with_its_source_line_and_column() {
     let digit = "expected a hexadecimal digit, found";
     let got = route(&["check", "-g", "u32", "--hex", "-"], b"0700\n0 000x");
     assert_eq!(got, failed(&format!("standard input:2:6: {digit} 'x'\n")));
+    let record = &file(&folder, "record.hex", "07000000");
+    let got = route(&["preview", "-g", "u32", "--hex", record, "-"], b"0g");
+    assert_eq!(got, failed(&format!("standard input:1:2: {digit} 'g'\n")));
 }
 
 #[test]
