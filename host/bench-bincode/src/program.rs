@@ -37,7 +37,7 @@ impl Program for Bincode {
     }
 }
 
-/// The call of bincode on a record of a type. It has no check and no same route.
+/// The call of bincode on a record of a type. It has no check, no preview and no same route.
 fn contender<'a, T>(call: Call, record: &'a [u8]) -> Option<Contender<'a>>
 where
     T: Deserialize<'a> + Serialize + 'a,

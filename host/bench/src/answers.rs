@@ -64,6 +64,17 @@ pub fn of_rust(case: &Case) -> Outcome {
             let size = peer::marshall_val(grammar, rows, *n, store, out, *index);
             answer(size.map(|size| [size as u64]))
         }
+        Case::Preview {
+            grammar,
+            rows,
+            n,
+            store,
+            out,
+            index,
+        } => {
+            let preview = peer::preview(grammar, rows, *n, store, out, *index);
+            answer(preview.map(|preview| [preview.size as u64, preview.changed as u64]))
+        }
         Case::SameRoute {
             grammar,
             first,
@@ -101,6 +112,17 @@ pub fn case_of(call: Call, input: &Input) -> Case {
                 n,
                 out: vec![0xa5; record.len()],
                 store: record,
+            }
+        }
+        Call::Preview => {
+            let (rows, n) = input.rows();
+            Case::Preview {
+                grammar,
+                rows,
+                n,
+                store: record,
+                out: input.output(),
+                index: 0,
             }
         }
         Call::Size => {

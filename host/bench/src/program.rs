@@ -16,6 +16,8 @@ pub enum Call {
     Read,
     /// Writing the record's value from its rows.
     Write,
+    /// What that writing would change in the input's output.
+    Preview,
     /// The size of the value, from its rows.
     Size,
     /// Whether the record and the input's other one are the same route.
@@ -30,6 +32,7 @@ impl Call {
             Call::Check => "check",
             Call::Read => "read",
             Call::Write => "write",
+            Call::Preview => "preview",
             Call::Size => "size",
             Call::SameRoute => "same route",
         }
@@ -74,6 +77,13 @@ macro_rules! contender {
                     calls::marshall(black_box(grammar), rows, n, black_box(record), out)
                 })
             }
+            Call::Preview => {
+                let ((rows, n), out) = (input.rows(), input.output());
+                Contender::new(move || {
+                    let (rows, out) = (black_box(&rows), black_box(&out));
+                    calls::preview(black_box(grammar), rows, n, black_box(record), out, 0)
+                })
+            }
             Call::Size => {
                 let (rows, n) = input.rows();
                 Contender::new(move || {
@@ -115,7 +125,7 @@ impl Program for Rust {
 
 /// The model's calls with the library's parameters.
 mod of_model {
-    pub use model::{check_grammar, check_whole, compute_size_of, marshall, same_route};
+    pub use model::{check_grammar, check_whole, compute_size_of, marshall, preview, same_route};
     use model::{Reading, Refusal};
 
     pub fn demarshall(grammar: &[u32], record: &[u8], rows: &[u64]) -> Result<Reading, Refusal> {

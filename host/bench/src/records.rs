@@ -37,6 +37,16 @@ impl Input {
         rows.truncate(ROW_WORDS * n);
         (rows, n)
     }
+
+    /// The bytes of an output over which the record is previewed, as near to it as an older one of
+    /// the same length: the last byte of each 64 differs.
+    pub fn output(&self) -> Vec<u8> {
+        let mut out = self.record.clone();
+        for part in out.chunks_exact_mut(64) {
+            part[63] ^= 1;
+        }
+        out
+    }
 }
 
 /// A record of `rows` rows: an array of cases, in which four stand over and over, 15 rows together:

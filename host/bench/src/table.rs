@@ -20,10 +20,11 @@ const ROW_COUNTS: [usize; 5] = [16, 64, 256, 1_024, 4_096];
 const SPREAD: f64 = 1.3;
 
 /// The calls in the table, but for the check of the grammar.
-const CALLS: [Call; 5] = [
+const CALLS: [Call; 6] = [
     Call::Check,
     Call::Read,
     Call::Write,
+    Call::Preview,
     Call::Size,
     Call::SameRoute,
 ];
@@ -40,9 +41,8 @@ pub fn calls(report: &mut Report, programs: &[&dyn Program]) {
     for (size, input) in sizes {
         for call in CALLS {
             let limit = match (call, size) {
-                (Call::Check | Call::Read | Call::Write, "300 rows") => {
-                    Some(Limit::Beside("Rust", RATIO))
-                }
+                (Call::Check | Call::Read | Call::Write | Call::Preview, "300 rows")
+                | (Call::Preview, "1 MiB") => Some(Limit::Beside("Rust", RATIO)),
                 (Call::Write, "1 MiB") => Some(Limit::Beside("copy", RATIO)),
                 _ => None,
             };

@@ -51,6 +51,8 @@ fn assert_accepted(input: &Input, rows: usize) {
     for call in [Call::Write, Call::Size] {
         assert_eq!(answer(call, input), Answer::Accepted(vec![size]));
     }
+    let given = vec![size, size / 64];
+    assert_eq!(answer(Call::Preview, input), Answer::Accepted(given));
     assert_eq!(answer(Call::SameRoute, input), Answer::Accepted(vec![1]));
 }
 

@@ -10,4 +10,4 @@ mod writing;
 pub use grammar::check_grammar;
 pub use reading::{check_whole, demarshall, same_route, Parsed};
 pub use refusal::{Place, Refusal};
-pub use writing::{compute_size_of, marshall, marshall_val};
+pub use writing::{compute_size_of, marshall, marshall_val, preview, Preview};

@@ -1,4 +1,5 @@
-//! Writing a value from its rows: refusals 15 to 17, behind those of the grammar and of the rows.
+//! Writing a value from its rows, and its preview: refusals 15 to 17, behind those of the grammar and
+//! of the rows.
 
 use super::grammar::Grammar;
 use super::rows::{check_rows, Row};
@@ -26,6 +27,50 @@ pub fn marshall_val(
     out: &mut [u8],
     index: usize,
 ) -> Result<usize, Refusal> {
+    let (rows, size) = admit(words, rows, n, store, out.len(), index)?;
+    let mut at = index;
+    for row in rows {
+        at += put_row(row, store, &mut out[at..]);
+    }
+    Ok(size)
+}
+
+/// What an accepted preview gives.
+#[derive(Clone, Copy, Debug, PartialEq, Eq)]
+pub struct Preview {
+    /// The number of bytes that would be written.
+    pub size: usize,
+    /// How many of them would differ from what the output holds there.
+    pub changed: usize,
+}
+
+/// What [`marshall_val`] would give and change.
+pub fn preview(
+    words: &[u32],
+    rows: &[u64],
+    n: usize,
+    store: &[u8],
+    out: &[u8],
+    index: usize,
+) -> Result<Preview, Refusal> {
+    let (rows, size) = admit(words, rows, n, store, out.len(), index)?;
+    let (mut at, mut changed) = (index, 0);
+    for row in rows {
+        changed += differing_in_row(row, store, &out[at..]);
+        at += own_size(row) as usize;
+    }
+    Ok(Preview { size, changed })
+}
+
+/// The rows and the size of a value that may be written at `index` of an output of this length.
+fn admit<'a>(
+    words: &[u32],
+    rows: &'a [u64],
+    n: usize,
+    store: &[u8],
+    length: usize,
+    index: usize,
+) -> Result<(&'a [Row], usize), Refusal> {
     let grammar = Grammar::of(words)?;
     let rows = check_rows(rows, n, store)?;
     check_value(grammar, rows, 0, 0)?;
@@ -33,16 +78,12 @@ pub fn marshall_val(
     if size > MAX_BYTES as u64 {
         return Err(Refusal::at_row(16, 0));
     }
-    let (size, length) = (size as usize, out.len());
+    let size = size as usize;
     let fits = index.checked_add(size).is_some_and(|end| end <= length);
     if !fits {
         return Err(Refusal::at_byte(17, length));
     }
-    let mut at = index;
-    for row in rows {
-        at += put_row(row, store, &mut out[at..]);
-    }
-    Ok(size)
+    Ok((rows, size))
 }
 
 /// The size in bytes of the value that `n` rows stand for.
@@ -126,4 +167,24 @@ fn put_row(&[kind, _, word2, place]: &Row, store: &[u8], out: &mut [u8]) -> usiz
             8 + length
         }
     }
+}
+
+/// How many of a row's own bytes differ from those that the output begins with.
+fn differing_in_row(&[kind, _, word2, place]: &Row, store: &[u8], out: &[u8]) -> usize {
+    match kind {
+        0 | 4 => 0,
+        1 | 9 => differing(&(word2 as u32).to_le_bytes(), out),
+        2 | 3 | 8 | 10 => differing(&word2.to_le_bytes(), out),
+        _ => {
+            let length = (element_width(kind) * word2) as usize;
+            let elements = &store[place as usize..][..length];
+            differing(&word2.to_le_bytes(), out) + differing(elements, &out[8..])
+        }
+    }
+}
+
+/// How many of these bytes differ from those that the output begins with.
+fn differing(bytes: &[u8], out: &[u8]) -> usize {
+    let pairs = bytes.iter().zip(out);
+    pairs.filter(|(byte, held)| byte != held).count()
 }
