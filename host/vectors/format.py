@@ -1,8 +1,9 @@
 """Runs the Python text of docs/FORMAT.md over the test vectors: `python3 host/vectors/format.py`.
 
-The readings, the check of row tables, the signed number and same route answer as each line says,
-and same route as each row of the page's own table says. Prints a line for each failure, the number
-of lines of each call and, last, 'N passed, M failed'.
+The readings, the check of row tables, the size, the signed number, the writers, preview and same
+route answer as each line says. Preview also answers as each line of `marshall_val` says that
+writing does, and preview and same route as each row of the page's own tables says. Prints a line
+for each failure, the number of lines of each call and, last, 'N passed, M failed'.
 """
 
 import collections
@@ -57,7 +58,11 @@ def read(line):
     return line.get("accepted") == {"row_count": str(len(rows)), "rest_index": str(rest_index)}
 
 
-def check_rows(line):
+def compute_size_of(line):
+    return line.get("accepted") == {"size": str(page["compute_size_of"](*table(line)))}
+
+
+def locate_array(line):
     page["check_rows"](*table(line))
     return "accepted" in line
 
@@ -65,6 +70,28 @@ def check_rows(line):
 def signed_number(line):
     number = page["signed_number"](*table(line), int(line["row"]))
     return line.get("accepted") == {"number": str(number)}
+
+
+def marshall(line):
+    out, index = bytearray(data(line, "out")), int(line.get("index", 0))
+    size = page["write"](words(line, "grammar"), *table(line), out, index)
+    return line.get("accepted") == {"size": str(size)} and out == data(line, "out_after")
+
+
+def preview(line):
+    given = words(line, "grammar"), *table(line)
+    out, index = data(line, "out"), int(line["index"])
+    size, changed = page["preview"](*given, out, index)
+    written = bytearray(out)
+    page["write"](*given, written, index)
+    if changed != differing(out, written):
+        return False
+    return line.get("accepted") == {"size": str(size), "changed": str(changed)}
+
+
+def differing(before, after):
+    """The number of bytes that are another one afterwards."""
+    return sum(old != new for old, new in zip(before, after))
 
 
 def same_route(line):
@@ -78,9 +105,14 @@ CALLS = {
     "demarshall": read,
     "check_val": read,
     "check_whole": read,
-    "compute_size_of": check_rows,
-    "locate_array": check_rows,
+    "compute_size_of": compute_size_of,
+    "locate_array": locate_array,
     "signed_number": signed_number,
+    "marshall_val": marshall,
+    "marshall": marshall,
+    "preview": preview,
+    "preview of marshall_val": preview,
+    "preview on the page": preview,
     "same_route": same_route,
     "same_route on the page": same_route,
 }
@@ -90,27 +122,64 @@ def vectors(name):
     return map(json.loads, (ROOT / "vectors" / f"{name}.jsonl").read_text().splitlines())
 
 
-def examples():
-    """The rows of the page's table of same route, as lines."""
+def previews_of_writing():
+    """The lines of `marshall_val` as lines of preview."""
+    for line in vectors("writing"):
+        if line["call"] == "marshall_val":
+            line["call"] = "preview of marshall_val"
+            if "accepted" in line:
+                changed = differing(data(line, "out"), data(line, "out_after"))
+                line["accepted"]["changed"] = str(changed)
+            yield line
+
+
+def page_table(title, call):
+    """Each row of the page's table with this title: a line, and the cells behind its grammar."""
     grammars = dict(re.findall(r"\*\*([A-E])\. [^`]*`([^`]*)`", text))
     grammars.update(re.findall(r"^\| (\w+) \| `([^`]*)` \| [^|]* \|$", text, re.M))
-    rows = re.search(r"^\*\*Same route\.\*\*\n\n\|.*\n\|.*\n((?:\|.*\n)+)", text, re.M)[1]
+    rows = re.search(rf"^\*\*{title}\.\*\*.*\n\n\|.*\n\|.*\n((?:\|.*\n)+)", text, re.M)[1]
     for row in rows.splitlines():
-        grammar, first, second, answer = [cell.strip() for cell in row.split("|")][1:5]
+        grammar, *cells = [cell.strip() for cell in row.split("|")][1:-1]
         if not grammar.startswith("`"):
             grammar = grammars[grammar]
-        line = {"name": row, "call": "same_route on the page"}
-        line["grammar"] = grammar.strip("`").split(", ")
-        line["first"], line["second"] = parts(first), parts(second)
+        yield {"name": row, "call": call, "grammar": listed(grammar)}, cells
+
+
+def previews_on_page():
+    for line, cells in page_table("Preview", "preview on the page"):
+        rows, n, store, out, index, answer, _ = cells
+        line |= {"rows": listed(rows), "n": n, "index": index}
+        line |= {"store": parts(store), "out": parts(out)}
+        numbers = re.fullmatch(r"size (?P<size>\d+), changed (?P<changed>\d+)", answer)
+        if numbers:
+            line["accepted"] = numbers.groupdict()
+        else:
+            line["refused"] = refused_in(answer)
+        yield line
+
+
+def same_routes_on_page():
+    for line, cells in page_table("Same route", "same_route on the page"):
+        first, second, answer, _ = cells
+        line |= {"first": parts(first), "second": parts(second)}
         if answer in ("yes", "no"):
             line["accepted"] = {"same": "1" if answer == "yes" else "0"}
         else:
-            number, place, at, record = re.fullmatch(
-                r"(\d+) at (\w+) (\d+), (\w+) record", answer
-            ).groups()
+            refusal, record = re.fullmatch(r"(.*), (\w+) record", answer).groups()
             record = ("neither", "first", "second").index(record)
-            line["refused"] = {"number": int(number), "place": place, "at": at, "record": record}
+            line["refused"] = refused_in(refusal) | {"record": record}
         yield line
+
+
+def refused_in(cell):
+    """The refusal of a cell, as a line has it."""
+    number, place, at = re.fullmatch(r"(\d+) at (\w+) (\d+)", cell).groups()
+    return {"number": int(number), "place": place, "at": at}
+
+
+def listed(cell):
+    """The words of a cell, as a line has them."""
+    return cell.strip("`").split(", ")
 
 
 def parts(cell):
@@ -127,8 +196,12 @@ SOURCES = [
     (vectors("reading"), GRAMMAR_CHECK),
     (vectors("rows"), (18,)),
     (vectors("signed"), ()),
+    (vectors("writing"), GRAMMAR_CHECK),
+    (vectors("preview"), GRAMMAR_CHECK),
+    (previews_of_writing(), GRAMMAR_CHECK),
+    (previews_on_page(), GRAMMAR_CHECK),
     (vectors("same_route"), GRAMMAR_CHECK),
-    (examples(), GRAMMAR_CHECK),
+    (same_routes_on_page(), GRAMMAR_CHECK),
 ]
 
 
