@@ -3,11 +3,10 @@ use mathlib.Core.Path.{_≡_, refl, ap, sym, _∙_}
 use mathlib.Core.Bool.{Bool, true, false, cond}
 use mathlib.Core.List.{List, [], _∷_, _++_}
 use Prim.Native.Nat.{ℕ, zero, suc, _+_, _≤_, _<_}
-use native.Mathlib.Numerals.{add-one}
 use native.Mathlib.Omega.{arith}
 use lib.ListN.{length, getD, take, drop, length-take, length-drop}
 use lib.Dec.{eqb}
-use lib.Seq.{take-length, take-suc, drop-cons, drop-drop, length-take-le, getD-drop}
+use lib.Seq.{take-length, drop-cons, drop-drop, take-add, length-take-le}
 use borrow.Author.Tests.{eq-eqb, ne-eqb, eqb-true}
 use Rattle.packed.specs.Packed.{put}
 use Rattle.previewing.specs.Preview.{differing, CountsPlaces}
@@ -69,13 +68,17 @@ differing-put out index bs h =
 
 -- ---- the loop that counts
 
--- one place more of a, from i on, and of b, from j on
+-- n places more of a, from i on, and of b, from j on
+pub next-block : (a : List ℕ) (i : ℕ) (b : List ℕ) (j k n : ℕ) → j + k ≤ length b → differing (drop i a) (take (k + n) (drop j b)) ≡ differing (drop i a) (take k (drop j b)) + differing (drop (i + k) a) (take n (drop (j + k) b))
+next-block a i b j k n q =
+    let l : length (take k (drop j b)) ≡ k = length-take-le k (drop j b) (rw length-drop (omega arith)) in
+    rw (take-add, differing-join, l, drop-drop, drop-drop)
+
+-- one place more
 module _ (a : List ℕ) (i : ℕ) (b : List ℕ) (j k : ℕ) (p : i + k < length a) (q : j + k < length b) where
   next : differing (drop i a) (take (k + 1) (drop j b)) ≡ differing (drop i a) (take k (drop j b)) + cond (eqb (getD a (i + k) 0) (getD b (j + k) 0)) 0 1
   unfolding differing
-  next =
-      let l : length (take k (drop j b)) ≡ k = length-take-le k (drop j b) (rw length-drop (omega arith)) in
-      rw (add-one, take-suc (drop j b) k 0 (rw length-drop (omega arith)), differing-join, l, drop-drop, getD-drop, drop-cons a (i + k) 0 p) (omega (arith, differing-none (drop (suc (i + k)) a)))
+  next = next-block a i b j k 1 (omega arith) ∙ rw (drop-cons a (i + k) 0 p, drop-cons b (j + k) 0 q) (omega (arith, differing-none (drop (suc (i + k)) a)))
 
   pub next-equal : getD a (i + k) 0 ≡ getD b (j + k) 0 → differing (drop i a) (take (k + 1) (drop j b)) ≡ differing (drop i a) (take k (drop j b))
   next-equal e = next ∙ rw (eq-eqb _ _ e) (omega arith)

@@ -23,8 +23,27 @@ struct Compared {
     changed: u64,
 }
 
-// At how many places count bytes of a, from i on, differ from those of b, from j on. The loop has one end and no branch but that which
-// counts, so that it is compiled to several bytes at a time.
+// The most places that a byte can count.
+const BLOCK: usize = 255;
+
+// At how many places count bytes of a, from i on, differ from those of b, from j on: so few that a byte counts them. The loop runs to the
+// end, so that it is compiled to many bytes at a time, with a byte of the sum for each.
+fn count_block(a: &[u8], i: usize, b: &[u8], j: usize, count: usize) -> u8
+    requires { ⌜ (count ≤ 255) × (i + count ≤ length (now a)) × (j + count ≤ length (now b)) ⌝ }
+    ensures { λ r. ⌜ r ≡ differing (drop i (now (a .entry))) (take count (drop j (now (b .entry)))) ⌝ }
+{
+    let mut changed: u8 = 0;
+    let mut k: usize = 0;
+    while k < count {
+        if a[i + k] != b[j + k] {
+            changed += 1;
+        }
+        k += 1;
+    }
+    changed
+}
+
+// The same of any count, block by block.
 fn count_differing(a: &[u8], i: usize, b: &[u8], j: usize, count: usize) -> u64
     requires { ⌜ (i + count ≤ length (now a)) × (j + count ≤ length (now b)) ⌝ }
     ensures { λ r. ⌜ r ≡ differing (drop i (now (a .entry))) (take count (drop j (now (b .entry)))) ⌝ }
@@ -32,10 +51,12 @@ fn count_differing(a: &[u8], i: usize, b: &[u8], j: usize, count: usize) -> u64
     let mut changed: u64 = 0;
     let mut k: usize = 0;
     while k < count {
-        if a[i + k] != b[j + k] {
-            changed += 1;
+        let mut size = count - k;
+        if BLOCK < size {
+            size = BLOCK;
         }
-        k += 1;
+        changed += count_block(a, i + k, b, j + k, size) as u64;
+        k += size;
     }
     changed
 }
