@@ -1,19 +1,16 @@
 -- The laws of what is compared: of bytes one behind the other, and of the loop over rows.
 use mathlib.Core.Path.{_≡_, ap, sym, _∙_}
 use mathlib.Core.List.{List, [], _++_}
-use Prim.Native.Nat.{ℕ, _+_, _≤_, _<_}
+use Prim.Native.Nat.{ℕ, _+_, _≤_}
 use native.Mathlib.Nat.{add-zero, add-assoc}
 use native.Mathlib.Omega.{arith}
 use lib.ListN.{length, drop, length-append}
 use lib.Seq.{drop-drop}
 use Rattle.packed.specs.Packed.{packLittleEndian}
 use Rattle.packed.proofs.Laws.{length-pack}
-use Rattle.value.specs.Kinds.{kindOf}
-use Rattle.tables.specs.Row.{rowAt}
-use Rattle.rows.specs.Size.{bytesFrom, sizeFrom}
-use Rattle.rows.proofs.Size.{length-ownBytes, size-next}
-use Rattle.writing.specs.Put.{RowHolds, ownBytesAt}
-use Rattle.writing.proofs.Put.{bytes-next, put-length}
+use Rattle.rows.specs.Size.{bytesFrom}
+use Rattle.writing.specs.Put.{ownBytesAt}
+use Rattle.writing.proofs.Put.{bytes-next, bytes-none}
 use Rattle.previewing.specs.declared.Compared.{Compared}
 use Rattle.previewing.specs.Preview.{differing}
 use Rattle.previewing.specs.Compared.{comparedWith}
@@ -36,25 +33,26 @@ module _ (out : List ℕ) (c : Compared) where
   pub compared-below : (bs : List ℕ) → c .changed ≤ c .at → comparedWith out c bs .changed ≤ comparedWith out c bs .at
   compared-below bs h = omega (arith, differing-most (drop (c .at) out) bs .1)
 
-  -- where the bytes of a number end
+  -- where the bytes of a number end, and that no more differ
   pub number-compared : (w n : ℕ) {r : Compared} → c .changed ≤ c .at → r ≡ comparedWith out c (packLittleEndian w n) → (r .at ≡ c .at + w) × (r .changed ≤ r .at)
   number-compared w n h e = rw e (omega (arith, length-pack w n), compared-below (packLittleEndian w n) h)
 
 -- ---- the loop over rows
 
-module _ (t s : List ℕ) (n : ℕ) (out : List ℕ) (index : ℕ) (h : (j : ℕ) → j < n → RowHolds t s j) (f : index + sizeFrom t 0 n ≤ length out) where
-  -- the rows below i are compared
-  abbrev pub Below : ℕ → Compared → Type 0
-  Below i c = (c .at ≡ index + sizeFrom t 0 i) × (c .changed ≡ differing (drop index out) (bytesFrom t s 0 i))
+module _ (t s out : List ℕ) (index : ℕ) where
+  abbrev start : Compared
+  start = record { at = index; changed = 0 }
 
-  pub rows-below : (i : ℕ) (c : Compared) → i ≤ n → Below i c → c .changed ≤ c .at
-  rows-below i c l b = omega (arith, b .0, b .1, differing-most (drop index out) (bytesFrom t s 0 i) .1, put-length t s n out index h f i l)
+  -- after i rows
+  abbrev pub rowsCompared : ℕ → Compared
+  rowsCompared i = comparedWith out start (bytesFrom t s 0 i)
 
-  pub rows-next : (i : ℕ) (c r : Compared) → i < n → Below i c → r ≡ comparedWith out c (ownBytesAt t s i) → Below (i + 1) r
-  rows-next i c r l b e =
-      let own = ownBytesAt t s i in
-      let p : c .at ≡ index + length (bytesFrom t s 0 i) = omega (arith, b .0, put-length t s n out index h f i (omega arith)) in
-      let q : differing (drop (c .at) out) own ≡ differing (drop (length (bytesFrom t s 0 i)) (drop index out)) own = ap (λ (x : List ℕ). differing x own) (ap (λ (k : ℕ). drop k out) p ∙ sym (drop-drop (length (bytesFrom t s 0 i)) index out)) in (
-        ap (λ (x : Compared). x .at) e ∙ omega (arith, b .0, length-ownBytes (kindOf (rowAt t i .kind)) (rowAt t i) s (h i l .within), size-next t i),
-        ap (λ (x : Compared). x .changed) e ∙ rw (b .1, q) (sym (differing-join (drop index out) (bytesFrom t s 0 i) own)) ∙ ap (differing (drop index out)) (bytes-next t s i),
-      )
+  pub rows-none : start ≡ rowsCompared 0
+  rows-none = compared-nothing out start ∙ ap (comparedWith out start) (sym (bytes-none t s 0))
+
+  pub rows-next : (i : ℕ) {c r : Compared} → c ≡ rowsCompared i → r ≡ comparedWith out c (ownBytesAt t s i) → r ≡ rowsCompared (i + 1)
+  rows-next i b e =
+      e
+      ∙ ap (λ (x : Compared). comparedWith out x (ownBytesAt t s i)) b
+      ∙ compared-more out start (bytesFrom t s 0 i) (ownBytesAt t s i)
+      ∙ ap (comparedWith out start) (bytes-next t s i)

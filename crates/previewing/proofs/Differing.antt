@@ -43,7 +43,7 @@ differing-front zero a = differing-none a
 differing-front (suc n) [] = refl
 differing-front (suc n) (x ∷ a) = rw (eq-eqb x x refl) (omega (arith, differing-front n a))
 
-pub differing-self : (a : List ℕ) → differing a a ≡ 0
+differing-self : (a : List ℕ) → differing a a ≡ 0
 differing-self a = ap (differing a) (sym (take-length a)) ∙ differing-front (length a) a
 
 -- ---- two lists joined

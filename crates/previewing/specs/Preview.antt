@@ -18,7 +18,7 @@ use Rattle.writing.specs.Marshall.{Marshalls}
 use Rattle.previewing.specs.declared.Previewed.{Previewed}
 use Rattle.previewing.specs.declared.Previewed.the-variants as Previewed
 
--- at how many places two lists differ, up to the end of the shorter
+-- at how many places two lists differ, up to the end of the shorter: of lists of one length their Hamming distance
 unfoldable pub differing : List ℕ → List ℕ → ℕ
 differing [] b = 0
 differing (x ∷ a) [] = 0
@@ -29,7 +29,7 @@ pub record Preview : Type 0 where
   pub size : ℕ
   pub changed : ℕ
 
--- the outcome is the writers', so its refusals and their order are; `put` gives the output that they leave
+-- the outcome is the writers', so its refusals and their order are theirs; `put` gives the output that they leave
 unfoldable pub previewOf : List ℕ → List ℕ → ℕ → List ℕ → List ℕ → ℕ → Outcome Reason Preview
 previewOf g t n s out index = map (λ v. record { size = SizeOfV v; changed = differing out (put out index (bytesOf v)) }) (marshallValOf g t n s (length out) index)
 
@@ -47,9 +47,18 @@ EqualsWriting =
     → Marshalls (marshallValOf g t n s (length out) index) index w out exit
     → previewedOf p ≡ map (λ size. record { size = size; changed = differing out exit }) (sizeOf w)
 
--- what `differing` counts, without its text: it is none exactly of equal lists, and each place counts once
+-- what `differing` counts, without its text: of lists of one length none exactly where they are equal, and each place counts once
 pub record CountsPlaces : Type 0 where
   pub none : (a b : List ℕ) → length a ≡ length b → (differing a b ≡ 0) ↔ (a ≡ b)
   pub equal : (x : ℕ) (a b : List ℕ) → differing (x ∷ a) (x ∷ b) ≡ differing a b
   pub different : (x y : ℕ) (a b : List ℕ) → ¬ (x ≡ y) → differing (x ∷ a) (y ∷ b) ≡ suc (differing a b)
   pub most : (a b : List ℕ) → differing a b ≤ length a
+
+-- what a caller may take from a preview
+pub record Consequences : Type 0 where
+  -- no more bytes would differ than would be written, and these are at most 1,048,576
+  pub most : (g t s out : List ℕ) (n index : ℕ) (p : Preview) → previewOf g t n s out index ≡ accepted p → (p .changed ≤ p .size) × (p .size ≤ 1048576)
+  -- none would exactly where the writing leaves the output as it is
+  pub none : (g t s out exit : List ℕ) (n index : ℕ) (p : Preview) (w : SizeOf) → previewOf g t n s out index ≡ accepted p → Marshalls (marshallValOf g t n s (length out) index) index w out exit → (p .changed ≡ 0) ↔ (exit ≡ out)
+  -- after the writing none would
+  pub again : (g t s out exit : List ℕ) (n index size : ℕ) (w : SizeOf) → Marshalls (marshallValOf g t n s (length out) index) index w out exit → sizeOf w ≡ accepted size → previewOf g t n s exit index ≡ accepted (record { size = size; changed = 0 })

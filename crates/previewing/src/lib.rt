@@ -17,7 +17,8 @@ pub enum Previewed {
     Refused(Refusal),
 }
 
-// How far a value's bytes are compared with the output: the output's byte behind the last one compared, and how many differ.
+// How far a value's bytes are compared with the output: the output's byte behind the last one compared, and how many differ. These are
+// not more than lie before that byte, so that their sum fits.
 struct Compared {
     at: usize,
     changed: u64,

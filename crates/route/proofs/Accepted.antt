@@ -1,20 +1,19 @@
 -- Number 0 of a C answer says that the call is accepted (specs/Accepted.antt): no refusal of the tables has number 0.
-use mathlib.Core.Path.{_≡_, refl, sym, _∙_}
+use mathlib.Core.Path.{_≡_, refl}
 use mathlib.Core.Logic.{_↔_}
 use mathlib.Core.Bool.{Bool, true, false}
-use mathlib.Core.List.{List}
 use Prim.Native.Nat.{ℕ, _<_}
 use native.Mathlib.Omega.{arith}
 use lib.ListN.{length}
 use lib.IntN.{ℤ}
-use Rattle.refusal.specs.Outcome.{Outcome, accepted, refused, map, Location, Reason, reason}
+use Rattle.refusal.specs.Outcome.{Outcome, accepted, refused, Location, Reason, reason}
 use Rattle.value.specs.Kinds.{Number, uint32, uint64, int32, int64, width}
 use Rattle.value.specs.Signed.{InRange}
 use Rattle.value.specs.Tree.{SizeOfV}
 use Rattle.value.proofs.Signed.{pattern-signed}
 use Rattle.signed.proofs.Rule.{signed-exactly}
 use Rattle.reading.specs.Calls.{countsOf}
-use Rattle.comparing.specs.SameRoute.{NamedReason, ofGrammar, ofFirst, ofSecond, Compares}
+use Rattle.comparing.specs.SameRoute.{NamedReason, ofGrammar, ofFirst, ofSecond}
 use Rattle.answer_c.specs.Answer.{Values, values, answerOf, sameAnswerOf}
 use Rattle.route.specs.Refusals.{Refuses, Listed, ofWord, ofByte, ofOutput, ofRow, ofLocator, ofSigned, Lists, unnamed}
 use Rattle.route.specs.Accepted.{IsAccepted, isAccepted, ZeroIsAccepted, NumberZero, WordIsNumber}

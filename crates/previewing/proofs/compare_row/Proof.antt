@@ -1,5 +1,6 @@
 -- Each arm cites its kind's class; the last arm's word is none of 0 to 10.
 use mathlib.Core.Path.{_≡_, ap, _∙_}
+use mathlib.Core.List.{[]}
 use Prim.Native.Nat.{_+_, _*_, _≤_}
 use native.Mathlib.Omega.{arith}
 use lib.ListN.{length}
@@ -34,6 +35,13 @@ room c e =
     let a = s .args in
     omega (arith, s .pre .1, size-words (a .rows .now) (a .store .now) (a .row) (c .before .before .kind-at .ensures) (c .before .word2-at .ensures) (c .word3-at .ensures) e)
 
+-- a row without bytes of its own
+nothing : (c : tie.After-word3-at) → let a = c .before .before .before .before .before .before .args in a .before ≡ comparedWith (a .out .now) (a .before) []
+nothing c = let a = c .before .before .before .before .before .before .args in compared-nothing (a .out .now) (a .before)
+
+number-word : (c : tie.After-word3-at) {k : Kind} → kindOf (this c .kind) ≡ k → ownSize k (this c) ≤ 8 → let a = c .before .before .before .before .before .before .args in (ownSize k (this c) ≤ 8) × (a .before .at + ownSize k (this c) ≤ length (a .out .now)) × (a .before .changed ≤ a .before .at)
+number-word c e l = (l, room c e, c .before .before .before .before .before .before .pre .2)
+
 array-words : (c : tie.After-word3-at) (k : Elements) → kindOf (this c .kind) ≡ elements k → let a = c .before .before .before .before .before .before .args in (this c .word3 + elementWidth k * this c .word2 ≤ length (a .store .now)) × (a .before .at + (8 + elementWidth k * this c .word2) ≤ length (a .out .now)) × (a .before .changed ≤ a .before .at)
 array-words c k e =
     let s = c .before .before .before .before .before .before in
@@ -51,15 +59,15 @@ word3-at-requires c κs = search needs
 
 compare-number-requires : tie.Need-compare-number-requires
 unfolding kindOf kinds
-compare-number-requires c κs = (omega arith, room (c .before) (ap kindOf (c .match .keys2)), c .before .before .before .before .before .before .before .pre .2)
+compare-number-requires c κs = number-word (c .before) (ap kindOf (c .match .keys2)) (omega arith)
 
 compare-number-requires-2 : tie.Need-compare-number-requires-2
 unfolding kindOf kinds
-compare-number-requires-2 c κs = (omega arith, room (c .before) (ap kindOf (c .match .keys3)), c .before .before .before .before .before .before .before .pre .2)
+compare-number-requires-2 c κs = number-word (c .before) (ap kindOf (c .match .keys3)) (omega arith)
 
 compare-number-requires-3 : tie.Need-compare-number-requires-3
 unfolding kindOf kinds
-compare-number-requires-3 c κs = (omega arith, room (c .before) (ap kindOf (c .match .keys4)), c .before .before .before .before .before .before .before .pre .2)
+compare-number-requires-3 c κs = number-word (c .before) (ap kindOf (c .match .keys4)) (omega arith)
 
 compare-elements-requires : tie.Need-compare-elements-requires
 unfolding kindOf kinds
@@ -75,19 +83,19 @@ compare-elements-requires-3 c κs = array-words (c .before) uint64s (ap kindOf (
 
 compare-number-requires-4 : tie.Need-compare-number-requires-4
 unfolding kindOf kinds
-compare-number-requires-4 c κs = (omega arith, room (c .before) (ap kindOf (c .match .keys9)), c .before .before .before .before .before .before .before .pre .2)
+compare-number-requires-4 c κs = number-word (c .before) (ap kindOf (c .match .keys9)) (omega arith)
 
 compare-number-requires-5 : tie.Need-compare-number-requires-5
 unfolding kindOf kinds
-compare-number-requires-5 c κs = (omega arith, room (c .before) (ap kindOf (c .match .keys10)), c .before .before .before .before .before .before .before .pre .2)
+compare-number-requires-5 c κs = number-word (c .before) (ap kindOf (c .match .keys10)) (omega arith)
 
 compare-number-requires-6 : tie.Need-compare-number-requires-6
 unfolding kindOf kinds
-compare-number-requires-6 c κs = (omega arith, room (c .before) (ap kindOf (c .match .keys11)), c .before .before .before .before .before .before .before .pre .2)
+compare-number-requires-6 c κs = number-word (c .before) (ap kindOf (c .match .keys11)) (omega arith)
 
 returns : tie.Need-returns
 unfolding kindOf kinds ownBytes
-returns c = arm (c .before) (ap kindOf (c .match .keys1)) (compared-nothing (c .before .before .before .before .before .before .before .args .out .now) (c .before .before .before .before .before .before .before .args .before))
+returns c = arm (c .before) (ap kindOf (c .match .keys1)) (nothing (c .before))
 
 returns-2 : tie.Need-returns-2
 unfolding kindOf kinds ownBytes
@@ -103,7 +111,7 @@ returns-4 c = arm (c .before .before) (ap kindOf (c .before .match .keys4)) (c .
 
 returns-5 : tie.Need-returns-5
 unfolding kindOf kinds ownBytes
-returns-5 c = arm (c .before) (ap kindOf (c .match .keys5)) (compared-nothing (c .before .before .before .before .before .before .before .args .out .now) (c .before .before .before .before .before .before .before .args .before))
+returns-5 c = arm (c .before) (ap kindOf (c .match .keys5)) (nothing (c .before))
 
 returns-6 : tie.Need-returns-6
 unfolding kindOf kinds ownBytes
@@ -131,7 +139,7 @@ returns-11 c = arm (c .before .before) (ap kindOf (c .before .match .keys11)) (c
 
 returns-12 : tie.Need-returns-12
 unfolding kindOf kinds ownBytes
-returns-12 c = arm (c .before) (none-of (this (c .before) .kind) (c .match .rest)) (compared-nothing (c .before .before .before .before .before .before .before .args .out .now) (c .before .before .before .before .before .before .before .args .before))
+returns-12 c = arm (c .before) (none-of (this (c .before) .kind) (c .match .rest)) (nothing (c .before))
 
 pub compare-row-spec : {M : Type 1} → statement M
 compare-row-spec =

@@ -1,20 +1,20 @@
 -- The loop's invariant: the own bytes of the first i rows are compared.
-use mathlib.Core.Path.{_≡_, ap, sym, _∙_}
+use mathlib.Core.Path.{_≡_, ap, _∙_}
 use Prim.Native.Nat.{ℕ, _+_, _-_, _≤_}
+use native.Mathlib.Nat.{zero-add}
 use native.Mathlib.Omega.{arith}
-use lib.ListN.{drop}
-use Rattle.rows.specs.Size.{bytesFrom, sizeFrom}
-use Rattle.rows.proofs.Size.{size-none}
-use Rattle.writing.proofs.Put.{size-within, bytes-none}
+use lib.ListN.{length, drop}
+use Rattle.rows.specs.Size.{bytesFrom}
+use Rattle.writing.proofs.Put.{size-within, put-length}
+use Rattle.previewing.specs.declared.Compared.{Compared}
 use Rattle.previewing.specs.Preview.{differing}
-use Rattle.previewing.proofs.Differing.{differing-none}
-use Rattle.previewing.proofs.ComparedLaws.{rows-below, rows-next}
+use Rattle.previewing.proofs.ComparedLaws.{compared-below, rowsCompared, rows-none, rows-next}
 use borrow.Author.Needs.{needs}
 use Rattle.previewing.proofs.compare_rows.Statement.{statement}
 use Rattle.previewing.proofs.compare_rows.Tie as tie
 
 abbrev Inv-loop : tie.InvT-loop
-Inv-loop rows n store out index compared₀ i₀ compared i = (i ≤ n) × (compared .at ≡ index + sizeFrom rows 0 i) × (compared .changed ≡ differing (drop index out) (bytesFrom rows store 0 i))
+Inv-loop rows n store out index compared₀ i₀ compared i = (i ≤ n) × (compared ≡ rowsCompared rows store out index i)
 
 abbrev μ-loop : tie.MeasureT-loop
 μ-loop rows n store out index compared₀ i₀ compared i = n - i
@@ -22,16 +22,17 @@ abbrev μ-loop : tie.MeasureT-loop
 loop-holds : tie.Need-loop-holds Inv-loop μ-loop
 loop-holds c =
     let a = c .before .before .before .args in
-    (omega arith, omega (arith, size-none (a .rows .now) 0), sym (ap (differing (drop (a .index) (a .out .now))) (bytes-none (a .rows .now) (a .store .now) 0) ∙ differing-none (drop (a .index) (a .out .now))))
+    (omega arith, rows-none (a .rows .now) (a .store .now) (a .out .now) (a .index))
 
 compare-row-requires : tie.Need-compare-row-requires Inv-loop μ-loop
 compare-row-requires c κs =
     let s = c .before .before .before .before .before in
     let a = s .args in
-    let l = c .before .loop in (
+    let l = c .before .loop in
+    let e : l .compared .at ≡ a .index + length (bytesFrom (a .rows .now) (a .store .now) 0 (l .i)) = ap (λ (x : Compared). x .at) (l .inv .1) in (
       s .pre .0 (l .i) (c .loop-test .taken),
-      omega (arith, l .inv .1, s .pre .1, size-within (a .rows .now) (a .store .now) (l .i) (a .n) (c .loop-test .taken)),
-      rows-below (a .rows .now) (a .store .now) (a .n) (a .out .now) (a .index) (s .pre .0) (s .pre .1) (l .i) (l .compared) (l .inv .0) (l .inv .1, l .inv .2),
+      omega (arith, e, s .pre .1, put-length (a .rows .now) (a .store .now) (a .n) (a .out .now) (a .index) (s .pre .0) (s .pre .1) (l .i) (l .inv .0), size-within (a .rows .now) (a .store .now) (l .i) (a .n) (c .loop-test .taken)),
+      rw (l .inv .1) (compared-below (a .out .now) (record { at = a .index; changed = 0 }) (bytesFrom (a .rows .now) (a .store .now) 0 (l .i)) (omega arith)),
     )
 
 add-i : tie.Need-add-i Inv-loop μ-loop
@@ -42,17 +43,15 @@ loop-less c = search needs
 
 loop-again : tie.Need-loop-again Inv-loop μ-loop
 loop-again c =
-    let s = c .before .before .before .before .before .before in
-    let a = s .args in
+    let a = c .before .before .before .before .before .before .args in
     let l = c .before .before .loop in
-    let r = rows-next (a .rows .now) (a .store .now) (a .n) (a .out .now) (a .index) (s .pre .0) (s .pre .1) (l .i) (l .compared) (c .compare-row .result) (c .before .loop-test .taken) (l .inv .1, l .inv .2) (c .compare-row .ensures) in
-    (omega arith, r .0, r .1)
+    (omega arith, rows-next (a .rows .now) (a .store .now) (a .out .now) (a .index) (l .i) (l .inv .1) (c .compare-row .ensures))
 
 returns : tie.Need-returns Inv-loop μ-loop
 returns c =
     let a = c .before .before .before .before .before .args in
     let e : c .before .loop .i ≡ a .n = omega arith in
-    c .before .loop .inv .2 ∙ ap (λ (i : ℕ). differing (drop (a .index) (a .out .now)) (bytesFrom (a .rows .now) (a .store .now) 0 i)) e
+    ap (λ (x : Compared). x .changed) (c .before .loop .inv .1) ∙ zero-add _ ∙ ap (λ (i : ℕ). differing (drop (a .index) (a .out .now)) (bytesFrom (a .rows .now) (a .store .now) 0 i)) e
 
 pub compare-rows-spec : {M : Type 1} → statement M
 compare-rows-spec =
