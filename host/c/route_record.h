@@ -335,10 +335,10 @@ route_answer route_marshall(const uint32_t *grammar, size_t grammar_len, const u
                             size_t rows_len, size_t n, const uint8_t *store, size_t store_len,
                             uint8_t *out, size_t out_len);
 
-/* Answers as route_marshall_val would, and changes nothing: gives in `first` the size of the value,
- * in `second` how many bytes of out would differ after that writing, at most the size. A byte that
- * would be written over with what it holds already does not count, so 0 says that out holds the
- * value's bytes at index. The arrays may overlap. It uses less than 1 MiB of stack, on values as
+/* Answers as route_marshall_val would, and changes nothing: number, place and `first`, the size, are
+ * those that it would give with the same arguments, and `second` is how many bytes of out would
+ * differ after that writing, at most the size. A byte that would be written over with what it holds
+ * already does not count, so 0 says that out holds the value's bytes at index. The arrays may overlap. It uses less than 1 MiB of stack, on values as
  * deep as 4096 rows can be.
  * Refused: as route_marshall_val. */
 ROUTE_NODISCARD

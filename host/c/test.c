@@ -355,8 +355,8 @@ static void test_lengths(void)
     }
 }
 
-/* Lengths of outputs that no memory holds: a preview that is refused, or of no bytes, does not touch
- * the output. */
+/* Lengths of outputs that no memory holds: a preview that is refused, or of no bytes, does not
+ * touch the output. */
 static void test_preview_lengths(void)
 {
     static const uint32_t constant[] = {1, 0, 0, 0, 0}, number[] = {1, 1, 0, 0, 0};

@@ -102,8 +102,8 @@ equal-lists (x ∷ a) (y ∷ b) l h = go (eqb x y) refl (equal-lists a b (omega 
 pub counts-places : CountsPlaces
 unfolding differing
 counts-places = record {
-  none = λ a b l. (equal-lists a b l, λ e. rw e (differing-self b));
+  zero = λ a b l. (equal-lists a b l, λ e. rw e (differing-self b));
   equal = λ x a b. rw (eq-eqb x x refl) (omega arith);
   different = λ x y a b n. rw (ne-eqb x y n) (omega arith);
-  most = λ a b. differing-most a b .0;
+  atMost = λ a b. differing-most a b .0;
 }

@@ -69,7 +69,7 @@ changed-none g t s out exit n index p w h m =
     let x = map-accepted (of g t n s out index) (marshallValOf g t n s (length out) index) h in
     let v = x .0 in
     let e : p .changed ≡ differing out exit = ap (λ (y : Preview). y .changed) (x .2) ∙ ap (differing out) (sym (marshall-output g t n s out exit index w m v (x .1))) in
-    let z = counts-places .none out exit (sym (marshall-length g t n s out exit index w m v (x .1))) in
+    let z = counts-places .zero out exit (sym (marshall-length g t n s out exit index w m v (x .1))) in
     (λ c. sym (z .0 (sym e ∙ c)), λ q. e ∙ z .1 (sym q))
 
 preview-again : (g t s out exit : List ℕ) (n index size : ℕ) (w : SizeOf) → Marshalls (marshallValOf g t n s (length out) index) index w out exit → sizeOf w ≡ accepted size → previewOf g t n s exit index ≡ accepted (record { size = size; changed = 0 })

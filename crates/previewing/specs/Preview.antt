@@ -47,18 +47,19 @@ EqualsWriting =
     → Marshalls (marshallValOf g t n s (length out) index) index w out exit
     → previewedOf p ≡ map (λ size. record { size = size; changed = differing out exit }) (sizeOf w)
 
--- what `differing` counts, without its text: of lists of one length none exactly where they are equal, and each place counts once
+-- what `differing` counts, without its text: of lists of one length 0 exactly where they are equal, each place counts once, and no more than
+-- there are
 pub record CountsPlaces : Type 0 where
-  pub none : (a b : List ℕ) → length a ≡ length b → (differing a b ≡ 0) ↔ (a ≡ b)
+  pub zero : (a b : List ℕ) → length a ≡ length b → (differing a b ≡ 0) ↔ (a ≡ b)
   pub equal : (x : ℕ) (a b : List ℕ) → differing (x ∷ a) (x ∷ b) ≡ differing a b
   pub different : (x y : ℕ) (a b : List ℕ) → ¬ (x ≡ y) → differing (x ∷ a) (y ∷ b) ≡ suc (differing a b)
-  pub most : (a b : List ℕ) → differing a b ≤ length a
+  pub atMost : (a b : List ℕ) → differing a b ≤ length a
 
 -- what a caller may take from a preview
 pub record Consequences : Type 0 where
-  -- no more bytes would differ than would be written, and these are at most 1,048,576
+  -- no more bytes would differ than would be written, and the size is at most 1,048,576
   pub most : (g t s out : List ℕ) (n index : ℕ) (p : Preview) → previewOf g t n s out index ≡ accepted p → (p .changed ≤ p .size) × (p .size ≤ 1048576)
-  -- none would exactly where the writing leaves the output as it is
+  -- no byte would differ exactly where the writing leaves the output as it is
   pub none : (g t s out exit : List ℕ) (n index : ℕ) (p : Preview) (w : SizeOf) → previewOf g t n s out index ≡ accepted p → Marshalls (marshallValOf g t n s (length out) index) index w out exit → (p .changed ≡ 0) ↔ (exit ≡ out)
-  -- after the writing none would
+  -- a preview over what an accepted writing left, all else the same, gives that size and no byte
   pub again : (g t s out exit : List ℕ) (n index size : ℕ) (w : SizeOf) → Marshalls (marshallValOf g t n s (length out) index) index w out exit → sizeOf w ≡ accepted size → previewOf g t n s exit index ≡ accepted (record { size = size; changed = 0 })

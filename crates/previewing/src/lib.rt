@@ -1,4 +1,4 @@
-// Previewing: what a writing would answer and change, without it.
+// Previewing: what a writing would answer and change, without writing.
 ghost use mathlib.Core.Path.{_≡_};
 ghost use mathlib.Core.List.{_++_};
 ghost use Prim.Native.Nat.{ℕ, _+_, _*_, _≤_, _<_};
@@ -17,8 +17,8 @@ pub enum Previewed {
     Refused(Refusal),
 }
 
-// How far a value's bytes are compared with the output: the output's byte behind the last one compared, and how many differ. These are
-// not more than lie before that byte, so that their sum fits.
+// How far a value's bytes are compared with the output: the output's byte behind the last one compared, and how many differ. `changed`
+// is at most `at`, so that adding to it does not overflow.
 struct Compared {
     at: usize,
     changed: u64,
@@ -27,8 +27,8 @@ struct Compared {
 // The most places that a byte can count.
 const BLOCK: usize = 255;
 
-// At how many places count bytes of a, from i on, differ from those of b, from j on: so few that a byte counts them. The loop runs to the
-// end, so that it is compiled to many bytes at a time, with a byte of the sum for each.
+// At how many of count places, from i on in a and from j on in b, the bytes differ. There are at most BLOCK, so a byte holds the number. The
+// loop has no other end and its counter is a byte, so that it is compiled to 16 places at once.
 fn count_block(a: &[u8], i: usize, b: &[u8], j: usize, count: usize) -> u8
     requires { ⌜ (count ≤ 255) × (i + count ≤ length (now a)) × (j + count ≤ length (now b)) ⌝ }
     ensures { λ r. ⌜ r ≡ differing (drop i (now (a .entry))) (take count (drop j (now (b .entry)))) ⌝ }

@@ -38,8 +38,8 @@ impl Input {
         (rows, n)
     }
 
-    /// The bytes of an output over which the record is previewed, as near to it as an older one of
-    /// the same length: the last byte of each 64 differs.
+    /// The bytes of an output over which the record is previewed: the record, but for the last byte
+    /// of each 64.
     pub fn output(&self) -> Vec<u8> {
         let mut out = self.record.clone();
         for part in out.chunks_exact_mut(64) {

@@ -1,4 +1,5 @@
-//! Preview: what writing to a copy of the output gives and changes. `host/compare` has random cases.
+//! Preview: what writing to a copy of the output gives and changes. Random cases are in
+//! `host/compare`.
 
 use route_record::calls::{marshall_val, preview};
 use route_record::{Grammar, Place, Preview, Refusal, Value, MAX_BYTES};
@@ -146,8 +147,8 @@ fn every_kind() -> (Value<'static>, Grammar) {
     (value.unwrap(), text.parse().unwrap())
 }
 
-/// At each place in and behind outputs that hold nothing of the record, all of it, all of it one byte
-/// further on, and all but one byte.
+/// At each place in and behind outputs that hold nothing of the record, all of it, all of it one
+/// byte further on, and all but one byte.
 #[test]
 fn every_index_of_several_outputs() {
     let (value, grammar) = every_kind();

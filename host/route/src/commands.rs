@@ -90,7 +90,8 @@ pub static COMMANDS: [Command; 6] = [
         options: &["--index"],
         records: "RECORD OUTPUT [--index I]",
         summary: "Says how many bytes writing the record at byte I of the output would write,\n\
-                  and how many bytes of the output would be different then. Changes nothing.",
+                  and how many bytes of the output would be different then. Changes nothing.\n\
+                  The record is read whole first; refusal 17 is at a byte of the output.",
         example: "echo 07000000 05000000 >record.hex; echo 07000000 06000000 ff | \
                   route preview -g 'tuple(u32, u32)' --hex record.hex -",
         printed: "bytes 8, different 1\n",

@@ -1,5 +1,5 @@
-//! Writing a value from its rows, and its preview: refusals 15 to 17, behind those of the grammar and
-//! of the rows.
+//! Writing a value from its rows, and its preview: refusals 15 to 17, behind those of the grammar
+//! and of the rows.
 
 use super::grammar::Grammar;
 use super::rows::{check_rows, Row};
@@ -183,8 +183,13 @@ fn differing_in_row(&[kind, _, word2, place]: &Row, store: &[u8], out: &[u8]) ->
     }
 }
 
-/// How many of these bytes differ from those that the output begins with.
+/// How many of these bytes differ from those that the output begins with. A byte counts 255 of them,
+/// so that many are compared at once.
 fn differing(bytes: &[u8], out: &[u8]) -> usize {
-    let pairs = bytes.iter().zip(out);
-    pairs.filter(|(byte, held)| byte != held).count()
+    let in_block = |(bytes, out): (&[u8], &[u8])| {
+        let pairs = bytes.iter().zip(out);
+        usize::from(pairs.map(|(byte, held)| u8::from(byte != held)).sum::<u8>())
+    };
+    let blocks = bytes.chunks(255).zip(out.chunks(255));
+    blocks.map(in_block).sum()
 }

@@ -93,8 +93,8 @@ impl Outcome {
         }
     }
 
-    /// The outcome by an implementation of the calls: of a preview, beside what the implementation's
-    /// writing does to a copy of the output.
+    /// The outcome by an implementation of the calls: of a preview, beside what its writing does to a
+    /// copy of the output.
     pub fn by(case: &Case, call: impl Fn(&mut Case) -> Answer) -> Outcome {
         let outcome = Outcome::of(case, &call);
         match case.previewed() {
