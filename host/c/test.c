@@ -156,8 +156,9 @@ static struct call *call_of(const char *name)
     return NULL;
 }
 
-/* The memory of the arrays: for each argument pages between two forbidden ones. */
-enum { PAGES_SIZE = 2 << 20, ARGUMENTS = 6 };
+/* The memory of the arrays: for each argument pages between two forbidden ones, which hold the
+ * longest slice of the vectors. */
+enum { PAGES_SIZE = 4 << 20, ARGUMENTS = 6 };
 static uint8_t *pages[ARGUMENTS];
 
 static void map_pages(void)

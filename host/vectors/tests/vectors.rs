@@ -243,6 +243,27 @@ fn preview_of_each_kind() {
     assert_eq!(all, (1..=10).collect());
 }
 
+/// Previews that count every byte have more than 32, with each remainder by 32, at indices with each
+/// remainder by 8.
+#[test]
+fn preview_of_each_length() {
+    let (mut sizes, mut indices) = (BTreeSet::new(), BTreeSet::new());
+    for line in calls() {
+        let (Case::Preview { index, .. }, Answer::Accepted(given)) =
+            (&line.case, &line.outcome.answer)
+        else {
+            continue;
+        };
+        let (size, changed) = (given[0], given[1]);
+        if size > 32 && changed == size {
+            sizes.insert(size % 32);
+            indices.insert(index % 8);
+        }
+    }
+    assert_eq!(sizes, (0..32).collect());
+    assert_eq!(indices, (0..8).collect());
+}
+
 /// Refusals with their borders: the number, the call, what the line shows that just passes its test,
 /// and what the one that just does not.
 #[rustfmt::skip]

@@ -168,7 +168,7 @@ pub fn signed() -> Cases {
 }
 
 /// A value of these rows.
-fn value(grammar: Vec<u32>, rows: &[[u64; 4]], store: &[u8]) -> Value {
+pub(super) fn value(grammar: Vec<u32>, rows: &[[u64; 4]], store: &[u8]) -> Value {
     Value {
         grammar,
         rows: rows.concat(),

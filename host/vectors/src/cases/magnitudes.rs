@@ -5,7 +5,7 @@ use compare::{Case, Value};
 
 use super::packed::{pack_u32, pack_u64};
 use super::signed::signed_number;
-use super::{counted, numbers, table, Cases, List, ROW_WORDS};
+use super::{counted, numbers, table, Cases, List, MAX_BYTES, ROW_WORDS};
 use super::{A64, ARR, B, BYT, C, E, I32, I64, U32, U64, UNI};
 
 /// What is added to a number so that its lowest 8, 16 or 32 bits stay, or its sign changes.
@@ -672,17 +672,21 @@ fn behind_kinds(list: &mut List) {
             );
         }
     }
-    let grammar = table(&[[3, 0, 1], [5, 0, 0]], &[1]);
-    let most = super::MAX_BYTES;
-    let rows = [
-        vec![3, 4_096, 4_095, 0],
-        [5, 1, most as u64, 0].repeat(4_095),
-    ]
-    .concat();
-    list.add(
-        "the greatest size, 4,293,951,488",
-        marshall(grammar, &rows, vec![0; most], 8),
-    );
+    let case = greatest_size().marshall_case(vec![0xee; 8]);
+    list.add(GREATEST_SIZE, case);
+}
+
+const GREATEST_SIZE: &str = "the greatest size, 4,293,951,488";
+
+/// The value of the greatest size.
+fn greatest_size() -> Value {
+    let arrays = [5, 1, MAX_BYTES as u64, 0].repeat(4_095);
+    Value {
+        grammar: table(&[[3, 0, 1], [5, 0, 0]], &[1]),
+        rows: [&[3, 4_096, 4_095, 0], &arrays[..]].concat(),
+        n: 4_096,
+        store: vec![0; MAX_BYTES],
+    }
 }
 
 /// The cases of the writers.
@@ -738,7 +742,20 @@ pub fn preview() -> Cases {
             count,
         );
     }
+    great_values(&mut list);
     list.0
+}
+
+/// A tag of more than 8 bits, and the greatest size.
+fn great_values(list: &mut List) {
+    let tagged = Value {
+        grammar: many_cases(),
+        ..small_value(UNI, &[8, 2, 700, 0, 1, 1, 7, 0])
+    };
+    let case = tagged.preview_case(counted(700, &[7, 0, 0, 0]), 0);
+    list.add("tag 700 of 1,024, over its record", case);
+    let case = greatest_size().preview_case(vec![0xee; 8], 0);
+    list.add(GREATEST_SIZE, case);
 }
 
 /// Indexes and counts of the packers and unpackers.

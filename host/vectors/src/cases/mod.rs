@@ -3,6 +3,7 @@
 
 pub mod borders;
 mod grammar;
+mod long;
 mod magnitudes;
 mod packed;
 mod preview;

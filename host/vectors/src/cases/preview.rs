@@ -5,7 +5,7 @@ use std::collections::BTreeSet;
 use compare::{chain, Value};
 
 use super::writing::{refusals, value, A_ROWS};
-use super::{counted, hex, magnitudes, numbers, table, Cases, List, MAX_BYTES};
+use super::{counted, hex, long, magnitudes, numbers, table, Cases, List, MAX_BYTES};
 use super::{A, A64, ARR, A_RECORD, B, BYT, C, E, I32, I64, KIND_11};
 use super::{MIX, MIX_RECORD, MIX_ROWS, NUMBERS, TUP0, U32, U64, UNI};
 
@@ -166,6 +166,58 @@ fn ones(count: usize) -> Value {
     value(BYT, &format!("5 1 {count} 0"), &vec![1; count])
 }
 
+/// Lengths near multiples of 255.
+const NEAR_255: [usize; 5] = [254, 255, 256, 510, 511];
+
+/// Records with each remainder by 32, and of lengths near multiples of 255.
+fn lengths(list: &mut List) {
+    for size in (33..62).chain(NEAR_255) {
+        let name = format!("a record of {size} bytes over bytes EE");
+        let index = size % 8;
+        let out = vec![0xee; index + size];
+        add(list, &name, &ones(size - 8), out, index);
+    }
+    for size in NEAR_255 {
+        let name = format!("a record of {size} bytes over itself, the last byte changed");
+        let array = ones(size - 8);
+        let out = with_others(&long::record(&array), [size - 1]);
+        add(list, &name, &array, out, 0);
+    }
+}
+
+/// Arrays of lengths near multiples of 255.
+fn array_lengths(list: &mut List) {
+    let arrays = NEAR_255.map(|count| [5, 1, count as u64, 0]);
+    let arrays = long::tuple(&arrays, &[1; 511]);
+    let mut record = long::record(&arrays);
+    let name = |over: &str| format!("arrays of 254, 255, 256, 510 and 511 bytes over {over}");
+    let others = vec![0xee; record.len()];
+    add(list, &name("bytes EE"), &arrays, others, 0);
+    let mut end = 0;
+    for count in NEAR_255 {
+        end += 8 + count;
+        record[end - 1] ^= 1;
+    }
+    let name = name("their record, the last byte of each changed");
+    add(list, &name, &arrays, record, 0);
+}
+
+/// Arrays of each kind whose elements hold each byte from 00 to FF.
+fn all_bytes(list: &mut List) {
+    let store: Vec<u8> = (0..=255).collect();
+    let arrays = [[5, 1, 256, 0], [6, 1, 64, 0], [7, 1, 32, 0]];
+    let arrays = long::tuple(&arrays, &store);
+    let mut record = long::record(&arrays);
+    let name = |what: &str| format!("all bytes in arrays of each kind over their record, {what}");
+    let out = with_others(&record, 0..record.len());
+    add(list, &name("a bit of each changed"), &arrays, out, 0);
+    for array in record.chunks_mut(264) {
+        array.swap(28, 29);
+    }
+    let name = name("two neighbours of each array exchanged");
+    add(list, &name, &arrays, record, 0);
+}
+
 /// The greatest sizes, the longest outputs and the deepest value.
 fn limits(list: &mut List) {
     let most = MAX_BYTES - 8;
@@ -265,8 +317,12 @@ pub fn preview() -> Cases {
     listed(&mut list);
     each_kind(&mut list);
     limits(&mut list);
+    lengths(&mut list);
+    array_lengths(&mut list);
+    all_bytes(&mut list);
     grammars(&mut list);
     of_writings(&mut list, refusals());
     list.0.extend(magnitudes::preview());
+    list.0.extend(long::preview());
     list.0
 }

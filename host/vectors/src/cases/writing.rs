@@ -2,8 +2,8 @@
 
 use compare::{Case, Value};
 
-use super::magnitudes;
 use super::{hex, numbers, table, Cases, List, MAX_BYTES, ROW_WORDS};
+use super::{long, magnitudes};
 use super::{A, A64, ARR, A_RECORD, B, BYT, C, D, E, MIX, MIX_RECORD, MIX_ROWS, PAIR};
 use super::{I32, I64, NUMBERS, REFUSED_GRAMMARS, TUP0, U32, U64, UNI};
 
@@ -190,7 +190,9 @@ const NOT_IN_GRAMMAR: [(&str, &str, &str); 21] = [
 ];
 
 /// Two faults in one writing, to an output without room: name, grammar, rows, n.
-const ORDER: [(&str, &str, &str, usize); 16] = [
+const ORDER: [(&str, &str, &str, usize); 18] = [
+    ("1 before 15", "0, 0 0 0, 0", "1 1 7 0", 1),
+    ("2 before 15", "1, 0 0 0, 1", "1 1 7 0", 1),
     ("5 before 15, example F", "1, 4 0 1, 1, 0", "1 1 7 0", 1),
     ("12 before 13", U32, "11 1 0 0", 2),
     ("12 before 15 and 17", U32, "2 1 7 0", 0),
@@ -382,6 +384,12 @@ fn many_rows(list: &mut List) {
     let constants = |rows| value(numbers(C), [3, rows, rows - 1, 0], [0, 1, 0, 0]);
     list.add("n 4,096", marshall(&constants(4_096), 8));
     list.add("n 4,097", marshall(&constants(4_097), 8));
+    let arrays = table(&[[3, 0, 1], [5, 0, 0]], &[1]);
+    let large = Value {
+        store: vec![0; MAX_BYTES],
+        ..value(arrays, [3, 4_097, 4_096, 0], [5, 1, MAX_BYTES as u64, 0])
+    };
+    list.add("12 before 16", marshall(&large, 0));
 }
 
 /// Refused writings, those with 15 alone left out, and those that just pass.
@@ -403,5 +411,6 @@ pub fn writing() -> Cases {
     not_in_grammar(&mut list);
     list.0.extend(refusals());
     list.0.extend(magnitudes::writing());
+    list.0.extend(long::writing());
     list.0
 }
