@@ -178,14 +178,19 @@ fn differing_in_row(&[kind, _, word2, place]: &Row, store: &[u8], out: &[u8]) ->
         _ => {
             let length = (element_width(kind) * word2) as usize;
             let elements = &store[place as usize..][..length];
-            differing(&word2.to_le_bytes(), out) + differing(elements, &out[8..])
+            differing(&word2.to_le_bytes(), out) + differing_elements(elements, &out[8..])
         }
     }
 }
 
-/// How many of these bytes differ from those that the output begins with. A byte counts 255 of them,
-/// so that many are compared at once.
+/// How many of these bytes differ from those that the output begins with.
 fn differing(bytes: &[u8], out: &[u8]) -> usize {
+    let pairs = bytes.iter().zip(out);
+    pairs.filter(|(byte, held)| byte != held).count()
+}
+
+/// The same of many bytes. A byte counts those of 255, so that the compiler compares many at once.
+fn differing_elements(bytes: &[u8], out: &[u8]) -> usize {
     let in_block = |(bytes, out): (&[u8], &[u8])| {
         let pairs = bytes.iter().zip(out);
         usize::from(pairs.map(|(byte, held)| u8::from(byte != held)).sum::<u8>())
