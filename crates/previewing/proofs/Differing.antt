@@ -18,6 +18,16 @@ unfolding differing
 differing-none [] = refl
 differing-none (x ∷ a) = refl
 
+-- a list differs from no front part of itself
+pub differing-front : (n : ℕ) (a : List ℕ) → differing a (take n a) ≡ 0
+unfolding differing
+differing-front zero a = differing-none a
+differing-front (suc n) [] = refl
+differing-front (suc n) (x ∷ a) = rw (eq-eqb x x refl) (omega (arith, differing-front n a))
+
+differing-self : (a : List ℕ) → differing a a ≡ 0
+differing-self a = ap (differing a) (sym (take-length a)) ∙ differing-front (length a) a
+
 -- one place is 0 or 1
 one-most : (b : Bool) → cond b 0 1 ≤ 1
 one-most true = omega arith
@@ -33,18 +43,8 @@ differing-most (x ∷ a) (y ∷ b) =
     (omega (arith, h .0), omega (arith, h .1))
 
 -- from n places
-pub front-most : (a : List ℕ) (n : ℕ) (b : List ℕ) → differing a (take n b) ≤ n
-front-most a n b = omega (arith, differing-most a (take n b) .1, length-take n b)
-
--- a list differs from no front part of itself
-pub differing-front : (n : ℕ) (a : List ℕ) → differing a (take n a) ≡ 0
-unfolding differing
-differing-front zero a = differing-none a
-differing-front (suc n) [] = refl
-differing-front (suc n) (x ∷ a) = rw (eq-eqb x x refl) (omega (arith, differing-front n a))
-
-differing-self : (a : List ℕ) → differing a a ≡ 0
-differing-self a = ap (differing a) (sym (take-length a)) ∙ differing-front (length a) a
+pub front-most : (a : List ℕ) (n : ℕ) (b : List ℕ) {r : ℕ} → r ≡ differing a (take n b) → r ≤ n
+front-most a n b e = omega (arith, e, differing-most a (take n b) .1, length-take n b)
 
 -- ---- two lists joined
 

@@ -39,7 +39,8 @@ previewedOf (Previewed.Preview size changed) = accepted (record { size = size; c
 previewedOf (Previewed.Refused r) = refused (reasonOf r)
 
 -- "It must equal what writing to a copy of the output would answer and change" (document 02): of every answer p that the contract of `preview`
--- allows and every answer w and output at exit that the contract of `marshall_val` allows, with the same arguments
+-- allows and every answer w and output at exit that the contract of `marshall_val` allows, with the same arguments. It would be empty if
+-- nothing were written: in `examples` of Examples.antt case A is, over outputs of which from no byte to all 14 differ
 abbrev pub EqualsWriting : Type 0
 EqualsWriting =
     (g t s out exit : List ℕ) (n index : ℕ) (p : Previewed) (w : SizeOf)

@@ -34,10 +34,8 @@ add-t12 c = record { fits = omega (arith, counted (c .before) .0, c .before .bef
 add-t11 : tie.Need-add-t11
 add-t11 c =
     let s = c .before .before .before .before .before in
-    let a = s .args in
     let k = counted (c .before .before) in
-    let n = c .before .before .compare-number .result in
-    let m : c .before .count-differing .result ≤ a .width * a .count = omega (arith, c .before .count-differing .ensures, front-most (drop (n .at) (a .out .now)) (a .width * a .count) (drop (a .place) (a .store .now))) in
+    let m : c .before .count-differing .result ≤ s .args .width * s .args .count = front-most _ _ _ (c .before .count-differing .ensures) in
     record { fits = omega (arith, k .0, k .1, m, s .pre .1) }
 
 returns : tie.Need-returns

@@ -32,9 +32,7 @@ add-t13 c = search needs
 add-t14 : tie.Need-add-t14
 add-t14 c =
     let s = c .before .before .before .before .before .before .before in
-    let a = s .args in
-    let d = c .before .count-differing in
-    let m : d .result ≤ a .width = omega (arith, d .ensures, front-most (drop (a .before .at) (a .out .now)) (a .width) (c .before .before .before .before .pack-little-endian-uint64-into-array .last .1 .0)) in
+    let m : c .before .count-differing .result ≤ s .args .width = front-most _ _ _ (c .before .count-differing .ensures) in
     record { fits = omega (arith, m, s .pre .1, s .pre .2) }
 
 returns : tie.Need-returns

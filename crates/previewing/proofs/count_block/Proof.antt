@@ -35,9 +35,9 @@ shared-slice-read-if1-2 c = search needs
 
 add-changed : tie.Need-add-changed Inv-loop μ-loop
 add-changed c =
-    let a = c .before .before .before .before .before .args in
     let l = c .before .before .before .before .loop in
-    omega (arith, l .inv .1, front-most (drop (a .i) (a .a .now)) (l .k) (drop (a .j) (a .b .now)))
+    let m : l .changed ≤ l .k = front-most _ _ _ (l .inv .1) in
+    omega arith
 
 add-k : tie.Need-add-k Inv-loop μ-loop
 add-k c = search needs

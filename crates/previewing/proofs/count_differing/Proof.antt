@@ -47,11 +47,10 @@ cast-changed c = search needs
 
 add-changed : tie.Need-add-changed Inv-loop μ-loop
 add-changed c =
-    let a = c .before .before .before .before .before .before .args in
     let l = c .before .before .before .loop in
-    let z = c .before .if1 .size in
-    let b = block (c .before) in
-    omega (arith, b .2, l .inv .1, c .count-block .ensures, front-most (drop (a .i) (a .a .now)) (l .k) (drop (a .j) (a .b .now)), front-most (drop (a .i + l .k) (a .a .now)) z (drop (a .j + l .k) (a .b .now)))
+    let m : l .changed ≤ l .k = front-most _ _ _ (l .inv .1) in
+    let n : c .count-block .result ≤ c .before .if1 .size = front-most _ _ _ (c .count-block .ensures) in
+    omega (arith, block (c .before) .2, m, n)
 
 add-k : tie.Need-add-k Inv-loop μ-loop
 add-k c = omega (arith, block (c .before .before) .2)
