@@ -142,7 +142,7 @@ reading-C rows =
     let d = bytesOf v in
     let short : length d ≤ 1048576 = omega (arith, length-C 4096) in
     let s = whole-short (capacityOf (length rows)) (treeOf grammarC 0) v (value-of grammar-C (record-C 4096 (lit< tt) .value)) (rows-C (length rows)) in
-    let e : demarshallOf grammarC d (capacityOf (length rows)) ≡ refused (reason 8 (byte (s .0 .at))) = demarshall-read grammarC d (capacityOf (length rows)) grammar-C short ∙ ap withoutState (s .1) in (
+    let e : demarshallOf grammarC d (capacityOf (length rows)) ≡ refused (reason 8 (byte (s .0 .at))) = demarshall-read grammarC d (capacityOf (length rows)) (grammar-C .passes) short ∙ ap withoutState (s .1) in (
       s .0 .at,
       record {
         grammar = grammar-C;

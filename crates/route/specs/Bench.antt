@@ -1,8 +1,9 @@
 -- Document 01's bench examples A to F, all their cases, and document 02's, as one list: a call with its inputs, and what the papers expect
 -- of it.
 use mathlib.Core.Path.{_≡_}
-use mathlib.Core.List.{List, [], _∷_, map}
+use mathlib.Core.List.{List, [], _∷_, _++_, map}
 use Prim.Native.Nat.{ℕ, zero, suc}
+use lib.ListN.{take}
 use lib.IntN.{ℤ, pos, negsuc}
 use Rattle.refusal.specs.Outcome.{Outcome, accepted, refused, bind, Location, word, byte, row, Reason, reason}
 use Rattle.value.specs.Tree.{Val, VConstant, VArray, VTuple, VUint32, VByteArray, VUint32Array, vnil, vcons}
@@ -58,6 +59,7 @@ pub data Source : Type 0 where
   E : Source
   F : Source
   Req01 : Source
+  Req04 : Source
 
 pub record Example : Type 0 where
   pub source : Source
@@ -97,6 +99,10 @@ grammarD = 1 ∷ 8 ∷ 0 ∷ 0 ∷ 0 ∷ []
 abbrev pub grammarE : List ℕ
 grammarE = 1 ∷ 6 ∷ 0 ∷ 0 ∷ 0 ∷ []
 
+-- a tuple of a uint32 and the empty union
+abbrev pub grammarTupleD : List ℕ
+grammarTupleD = 3 ∷ 4 ∷ 0 ∷ 2 ∷ 1 ∷ 0 ∷ 0 ∷ 8 ∷ 0 ∷ 0 ∷ 2 ∷ 1 ∷ 2 ∷ []
+
 -- N nodes 0 0 0, and M 0
 unfoldable pub constantNodes : ℕ → List ℕ
 constantNodes zero = 0 ∷ []
@@ -114,6 +120,10 @@ minusOne32 = 0xff ∷ 0xff ∷ 0xff ∷ 0xff ∷ []
 
 abbrev pub minusOne64 : List ℕ
 minusOne64 = 0xff ∷ 0xff ∷ 0xff ∷ 0xff ∷ 0xff ∷ 0xff ∷ 0xff ∷ 0xff ∷ []
+
+-- the first bytes of a record, as many as each number of the list says, are refused with 9 at the place
+abbrev pub cut : (grammar bytes : List ℕ) (capacity place : ℕ) → List ℕ → List Example
+cut grammar bytes capacity place = map (λ n. record { source = Req04; call = read grammar (take n bytes) capacity; expected = refuses 9 (byte place) })
 
 -- Document 01 gives the places of A's refusal, B's, C's at capacity 3 and F's 5. The others follow from its table: a value's 8, 9 and 10 are
 -- placed where the value starts, at byte 0 for the root, and 1 at word 0
@@ -154,7 +164,19 @@ bench =
     ∷ record { source = Req01; call = readSigned (grammarOf 9) minusOne32 1; expected = refuses 20 (row 1) }
     -- the first kind above 10
     ∷ record { source = Req01; call = check (grammarOf 11); expected = refuses 3 (word 1) }
-    ∷ []
+    -- with 2 rows A's record is not accepted, and not each of its front parts is refused with 9
+    ∷ record { source = Req04; call = read grammarA recordA 2; expected = refuses 8 (byte 4) }
+    ∷ record { source = Req04; call = read grammarA (take 4 recordA) 2; expected = refuses 8 (byte 4) }
+    ∷ record { source = Req04; call = read grammarA (take 3 recordA) 2; expected = refuses 9 (byte 0) }
+    -- no bytes are accepted, and some are refused with 9
+    ∷ record { source = Req04; call = read grammarTupleD [] 4096; expected = refuses 9 (byte 0) }
+    ∷ record { source = Req04; call = read grammarTupleD (take 4 recordA) 4096; expected = refuses 9 (byte 4) }
+    ∷ record { source = Req04; call = read grammarTupleD (take 12 recordA) 4096; expected = refuses 10 (byte 4) }
+    -- with as few rows as A's record needs, and C's: the record, and every proper front part
+    ∷ record { source = Req04; call = read grammarA recordA 3; expected = handsOut 3 (4 ∷ 3 ∷ 2 ∷ 0 ∷ 1 ∷ 1 ∷ 7 ∷ 0 ∷ 5 ∷ 1 ∷ 2 ∷ 12 ∷ []) valueA }
+    ∷ cut grammarA recordA 3 0 (0 ∷ 1 ∷ 2 ∷ 3 ∷ [])
+    ++ cut grammarA recordA 3 4 (4 ∷ 5 ∷ 6 ∷ 7 ∷ 8 ∷ 9 ∷ 10 ∷ 11 ∷ 12 ∷ 13 ∷ [])
+    ++ cut grammarC recordC 4 0 (0 ∷ 1 ∷ 2 ∷ 3 ∷ 4 ∷ 5 ∷ 6 ∷ 7 ∷ [])
 
 -- every call of the list answers as expected
 abbrev pub BenchHolds : Type 0

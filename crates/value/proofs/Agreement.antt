@@ -95,13 +95,13 @@ module _ {capacity : ℕ} {d : List ℕ} where
   agrees-number {A} {rows} {s} w q k l h c =
       let e : length (drop (q .at) d) ≡ length d - q .at = length-drop (q .at) d in
       rw (bind-test _ _ _ k, bind-test _ _ _ l, drop-drop)
-      (agrees-leb (q .at + w) (length d) w (length (drop (q .at) d)) 9 q _ _ (λ i. omega arith) (λ i. omega arith) (λ i. c (unpackLittleEndian w (take w (drop (q .at) d))) i))
+      (agrees-leb (q .at + w) (length d) w (length (drop (q .at) d)) _ q _ _ (λ i. omega arith) (λ i. omega arith) (λ i. c (unpackLittleEndian w (take w (drop (q .at) d))) i))
 
   agrees-numbers : (w : ℕ) (q : State) → q .at ≤ length d → 0 < w → Agrees capacity d (λ _. 0) q (takeNumbers d w q) (parseNumbers w (drop (q .at) d))
   unfolding takeNumbers parseNumbers
   agrees-numbers w q h pos = agrees-number 8 q _ _ h (λ n i.
       let e : length (drop (q .at + 8) d) ≡ length d - q .at - 8 = length-drop (q .at + 8) d ∙ omega arith in
-      rw (e, drop-drop) (agrees-leb n ((length d - q .at - 8) / w) n ((length d - q .at - 8) / w) 9 q _ _ (λ j. j) (λ j. j) (λ j.
+      rw (e, drop-drop) (agrees-leb n ((length d - q .at - 8) / w) n ((length d - q .at - 8) / w) _ q _ _ (λ j. j) (λ j. j) (λ j.
       same _ (move (w * n) (move 8 q)) (omega (arith, count-fits pos .0 j)) (omega arith) (omega arith))))
 
   agrees-both : {s : State} {x : Reading Val} {y : Parse Val} (k : State → Reading Vals) (l : List ℕ → Parse Vals) → Agrees capacity d rowCount s x y → ((t : State) → t .at ≤ length d → Agrees capacity d rowCounts t (k t) (l (drop (t .at) d))) → Agrees capacity d rowCounts s (both x k) (both y l)

@@ -4,4 +4,5 @@ pub mod Laws
 pub mod Source
 pub mod Agreement
 pub mod Reading
+pub mod Cut
 pub mod Examples

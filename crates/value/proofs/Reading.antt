@@ -145,7 +145,7 @@ module _ (capacity : ℕ) (d : List ℕ) (g : G) (index : ℕ) where
 
 module _ (capacity : ℕ) (d : List ℕ) (g : G) where
   -- an accepted one is a reading from byte 0 that stops at the end
-  whole-post : Post (λ t. (readVal capacity d g (start 0) ≡ accepted t) × (t .state .at ≡ length d)) (λ _. Unit {0}) (readWhole capacity d g)
+  pub whole-post : Post (λ t. (readVal capacity d g (start 0) ≡ accepted t) × (t .state .at ≡ length d)) (λ _. Unit {0}) (readWhole capacity d g)
   unfolding readWhole
   whole-post = go (readVal capacity d g (start 0)) refl
     where
