@@ -1,5 +1,6 @@
 /* example.c: previews and writes a route as a record, reads it back with a trim below zero,
- * compares it with another box's records, previews a save over one of them, and shows a refusal.
+ * compares it with another box's records, previews a save over one of them, and reads the record
+ * from a link that drops its tail, sending for it again on refusal 9 alone.
  *
  *     cc -std=c11 -Wall -Wextra -Werror -Ihost/c host/c/example.c target/staticlib/libroute_c.a */
 
@@ -47,7 +48,8 @@ enum {
     GRAMMAR_WORDS = sizeof grammar / sizeof *grammar,
     WORDS = sizeof rows / sizeof *rows,
     ROWS = WORDS / ROUTE_ROW_WORDS,
-    TRIM_ROW = 5 /* the row of the first channel's trim */
+    TRIM_ROW = 5, /* the row of the first channel's trim */
+    ATTEMPTS = 4  /* how often a record is sent for at most */
 };
 
 static void print_refusal(const char *call, route_answer answer)
@@ -134,6 +136,33 @@ static int print_same(const char *what, const uint8_t *first, const uint8_t *sec
     return 1;
 }
 
+/* Stands for a link that drops the tail of a record at the first two attempts. Gives how many of
+ * the record's bytes arrive. */
+static size_t receive(int attempt, size_t length)
+{
+    return attempt == 1 ? length / 2 : attempt == 2 ? length - 1 : length;
+}
+
+/* Reads a record from the link, in at most ATTEMPTS attempts, and sends for it again on 9 alone:
+ * route_record.h says why, at "Cut records". Gives whether the record was accepted. */
+static int read_from_link(const uint8_t *record, size_t length)
+{
+    uint64_t read[WORDS];
+    route_answer answer;
+    int attempt = 0;
+    do {
+        attempt++;
+        size_t arrived = receive(attempt, length);
+        printf("attempt %d: %zu bytes\n", attempt, arrived);
+        answer = route_demarshall(grammar, GRAMMAR_WORDS, record, arrived, read, WORDS);
+        if (answer.number != 0)
+            print_refusal("read", answer);
+    } while (answer.number == ROUTE_REFUSED_BYTES_MISSING && attempt < ATTEMPTS);
+    if (answer.number == 0)
+        printf("read: accepted, rows %" PRIu64 "\n", answer.first);
+    return answer.number == 0;
+}
+
 int main(void)
 {
     uint8_t record[128] = {0};
@@ -157,6 +186,5 @@ int main(void)
         !print_preview("that box's record", other, length))
         return 1;
 
-    /* The last byte is missing, so the last channel's steps are cut short. */
-    return print_rows(record, length - 1) ? 1 : 0;
+    return read_from_link(record, length) ? 0 : 1;
 }

@@ -273,7 +273,21 @@ route_answer route_signed_number(const uint64_t *rows, size_t rows_len, size_t n
  * an 8-byte tag and the value of that case. Each number is least byte first, a signed one in two's
  * complement. A call reads a value of node 0 of the grammar and gives in `first` its row count n,
  * in `second` the first byte behind it. It uses less than 64 KiB of stack, on grammars as deep as
- * 256 nodes can be. */
+ * 256 nodes can be.
+ *
+ * Cut records: a proper front part of a record is its first bytes, from none to all but one. The
+ * capacity is the number of rows lent, for a check 4096. It is proved of the whole reading
+ * (route_demarshall, route_check_whole) that every proper front part of a record that is accepted,
+ * with the same grammar and capacity, is refused with 9 and with nothing else. What a program may
+ * conclude: if a record that this grammar and capacity accept was cut, the answer is 9; so an
+ * answer other than 9, accepted too, is never that of such a record with its tail lost, and sending
+ * again on 9 alone misses none of them. A 9 may have another cause, so sending again should have an
+ * end.
+ *
+ * 9 does not mean a cut record: under a tagged union without cases, which has no record, the empty
+ * bytes are refused with 9. And of a reading from an index (route_parse_val, route_check_val) the
+ * statement is false: under a uint32, from byte 0 on, 9 bytes are accepted, and the first 5 of them
+ * too. */
 
 /* Reads from byte index on. The rows lent are rows_len divided by 4, rounded down, at most 4096;
  * none with rows_len 0. Changes only rows 0 to n - 1, which stand for the value, with the record as
@@ -293,7 +307,8 @@ route_answer route_parse_val(const uint32_t *grammar, size_t grammar_len, const 
                              size_t record_len, size_t index, uint64_t *rows, size_t rows_len);
 
 /* Reads the whole record. Changes only rows 0 to n - 1, which stand for the value, with the record
- * as store.
+ * as store. Every proper front part of a record that is accepted is refused with 9, with the same
+ * grammar and as many rows.
  * Refused: as route_parse_val from byte 0 on;
  * 11 at the first byte behind the value, when it is not record_len. */
 ROUTE_NODISCARD
@@ -305,7 +320,8 @@ ROUTE_NODISCARD
 route_answer route_check_val(const uint32_t *grammar, size_t grammar_len, const uint8_t *record,
                              size_t record_len, size_t index);
 
-/* Answers as route_demarshall with 4096 rows. Changes nothing. */
+/* Answers as route_demarshall with 4096 rows. Changes nothing. Every proper front part of a record
+ * that is accepted is refused with 9, with the same grammar. */
 ROUTE_NODISCARD
 route_answer route_check_whole(const uint32_t *grammar, size_t grammar_len, const uint8_t *record,
                                size_t record_len);

@@ -92,6 +92,8 @@ impl Grammar {
     }
 
     /// How many rows the value of a whole record has. Refused as [`calls::check_whole`] refuses.
+    /// Every proper front part of a record that is accepted is refused with 9, with the same
+    /// grammar ([cut records](crate#cut-records)).
     ///
     /// ```
     /// use route_record::Grammar;
@@ -132,7 +134,8 @@ impl Grammar {
     }
 
     /// Reads a whole record into the rows lent. Refused as [`calls::demarshall`] refuses; the rows
-    /// are then as they were.
+    /// are then as they were. Every proper front part of a record that is accepted is refused with
+    /// 9, with the same grammar and as many rows ([cut records](crate#cut-records)).
     ///
     /// ```
     /// use route_record::Grammar;
@@ -187,6 +190,23 @@ impl Grammar {
     /// let uint32 = Grammar::check(&[1, 1, 0, 0, 0])?;
     /// assert_eq!(uint32.demarshall_vec(&[7, 0, 0, 0])?.row_count(), 1);
     /// # Ok::<(), route_record::Refusal>(())
+    /// ```
+    ///
+    /// Every proper front part of a record that is accepted is refused with 9, with the same
+    /// grammar; the capacity of both is 4,096, however many rows the value has
+    /// ([cut records](crate#cut-records)):
+    ///
+    /// ```
+    /// use route_record::{Grammar, Refusal};
+    ///
+    /// let grammar = "tuple(u32, bytes)".parse::<Grammar>()?;
+    /// let record = [7, 0, 0, 0, 2, 0, 0, 0, 0, 0, 0, 0, 0x41, 0x42];
+    /// for k in 0..record.len() {
+    ///     let refusal = grammar.demarshall_vec(&record[..k]).unwrap_err();
+    ///     assert_eq!(refusal.number, Refusal::BYTES_MISSING);
+    /// }
+    /// assert_eq!(grammar.demarshall_vec(&record)?.row_count(), 3);
+    /// # Ok::<(), Box<dyn std::error::Error>>(())
     /// ```
     pub fn demarshall_vec<'a>(&self, record: &'a [u8]) -> Result<Value<'a>, Refusal> {
         let mut rows = vec![0; ROW_WORDS * self.check_whole(record)?.rows];

@@ -16,6 +16,35 @@
 //! The library allocates nothing, keeps nothing between calls and starts no thread: calls from
 //! several threads at once are fine. It uses less than 1 MiB of stack.
 //!
+//! # Cut records
+//!
+//! A proper front part of a record is its first bytes, from none to all but one. The capacity is
+//! the number of rows lent, for a check and for [`Grammar::demarshall_vec`] 4,096. It is proved of
+//! the library's whole reading ([`calls::demarshall`], [`calls::check_whole`]) that every proper
+//! front part of a record that is accepted, with the same grammar and capacity, is refused with 9
+//! and with nothing else. What a program may conclude: if a record that this grammar and capacity
+//! accept was cut, the answer is 9; so an answer other than 9, accepted too, is never that of such
+//! a record with its tail lost, and sending again on 9 alone misses none of them. A 9 may have
+//! another cause, so sending again should have an end.
+//!
+//! 9 does not mean a cut record: a union without cases has no record, and under it the empty bytes
+//! are refused with 9. And of a reading from an index ([`calls::parse_val`], [`calls::check_val`])
+//! the statement is false: under a uint32, from byte 0 on, 9 bytes are accepted, and the first 5 of
+//! them too.
+//!
+//! ```
+//! use route_record::{Grammar, Refusal};
+//!
+//! let no_case = "union()".parse::<Grammar>()?;
+//! assert_eq!(no_case.check_whole(&[]).unwrap_err().number, Refusal::BYTES_MISSING);
+//!
+//! let uint32 = "u32".parse::<Grammar>()?;
+//! let record = [7, 0, 0, 0, 8, 0, 0, 0, 9];
+//! assert_eq!(uint32.check_val(&record, 0)?.rest_index, 4);
+//! assert_eq!(uint32.check_val(&record[..5], 0)?.rest_index, 4);
+//! # Ok::<(), Box<dyn std::error::Error>>(())
+//! ```
+//!
 //! # In another project
 //!
 //! ```toml

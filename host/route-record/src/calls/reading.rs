@@ -78,6 +78,25 @@ pub fn parse_val(
 /// assert_eq!(demarshall(&uint32, &[8, 0, 0, 0, 0], &mut rows), Err(refusal));
 /// assert_eq!(rows, [1, 1, 7, 0, 99]);
 /// ```
+///
+/// Every proper front part of a record that is accepted is refused with 9, with the same grammar
+/// and as many rows ([cut records](crate#cut-records)):
+///
+/// ```
+/// use route_record::calls::demarshall;
+/// use route_record::{Parsed, Refusal};
+///
+/// let tuple_of_u32_and_bytes = [3, 4, 0, 2, 1, 0, 0, 5, 0, 0, 2, 1, 2];
+/// let record = [7, 0, 0, 0, 2, 0, 0, 0, 0, 0, 0, 0, 0x41, 0x42];
+/// let mut rows = [99; 12];
+/// for k in 0..record.len() {
+///     let refusal = demarshall(&tuple_of_u32_and_bytes, &record[..k], &mut rows).unwrap_err();
+///     assert_eq!(refusal.number, Refusal::BYTES_MISSING);
+///     assert_eq!(rows, [99; 12]);
+/// }
+/// let parsed = demarshall(&tuple_of_u32_and_bytes, &record, &mut rows);
+/// assert_eq!(parsed, Ok(Parsed { rows: 3, rest_index: 14 }));
+/// ```
 pub fn demarshall(grammar: &[u32], record: &[u8], rows: &mut [u64]) -> Result<Parsed, Refusal> {
     parsed(ffi::demarshall(grammar, record, rows))
 }
@@ -109,6 +128,23 @@ pub fn check_val(grammar: &[u32], record: &[u8], index: usize) -> Result<Parsed,
 ///
 /// let refusal = Refusal { number: 11, place: Place::Byte(8) };
 /// assert_eq!(check_whole(&uint64, &[0; 9]), Err(refusal));
+/// ```
+///
+/// Every proper front part of a record that is accepted is refused with 9, with the same grammar
+/// ([cut records](crate#cut-records)):
+///
+/// ```
+/// use route_record::calls::check_whole;
+/// use route_record::{Parsed, Refusal};
+///
+/// let tuple_of_u32_and_bytes = [3, 4, 0, 2, 1, 0, 0, 5, 0, 0, 2, 1, 2];
+/// let record = [7, 0, 0, 0, 2, 0, 0, 0, 0, 0, 0, 0, 0x41, 0x42];
+/// for k in 0..record.len() {
+///     let refusal = check_whole(&tuple_of_u32_and_bytes, &record[..k]).unwrap_err();
+///     assert_eq!(refusal.number, Refusal::BYTES_MISSING);
+/// }
+/// let parsed = check_whole(&tuple_of_u32_and_bytes, &record);
+/// assert_eq!(parsed, Ok(Parsed { rows: 3, rest_index: 14 }));
 /// ```
 pub fn check_whole(grammar: &[u32], record: &[u8]) -> Result<Parsed, Refusal> {
     parsed(ffi::check_whole(grammar, record))

@@ -58,6 +58,19 @@ fn refused_records() {
 }
 
 #[test]
+fn cut_records() {
+    let start_in_a = |k| if k < 4 { 0 } else { 4 };
+    let cuts_of_a = (0..14).map(|k| (A, "0700000002000000000000004142", k, start_in_a(k)));
+    let cuts_of_c = (0..8).map(|k| (C, "0300000000000000", k, 0));
+    for (grammar, record, k, byte) in cuts_of_a.chain(cuts_of_c) {
+        for command in ["tree", "check"] {
+            let refusal = refused(9, Place::Byte(byte));
+            assert_eq!(both(grammar, command, &record[..2 * k]), refusal);
+        }
+    }
+}
+
+#[test]
 fn f() {
     let child = "word 5 is child word 0: 0 (table length 6)";
     let got = route(&["check", "-g", "1, 4 0 1, 1, 0"], b"");
