@@ -4,8 +4,11 @@ use std::fmt;
 
 use crate::{Case, Line, Outcome};
 
+/// What is printed before the reading of a front part beside an accepted whole reading.
+const FRONT_PART: &str = "a front part of the record, to be refused with 9:";
+
 /// A case on which the library and the model differ.
-#[derive(Debug)]
+#[derive(Clone, Debug, PartialEq, Eq)]
 pub struct Difference {
     /// The case.
     pub case: Case,
@@ -34,7 +37,11 @@ impl fmt::Display for Difference {
             let outcome = Outcome::with(answer.clone(), &self.case);
             write!(f, "\n{}", line("by the library's writing", &outcome))?;
         } else if model.answer == library.answer && model.after() == library.after() {
-            write!(f, "\nthe lent buffers differ around the part lent")?;
+            match library.unsound_front() {
+                Some(front) => write!(f, "\n{FRONT_PART}\n{front}")?,
+                None if model == library => (),
+                None => write!(f, "\nthe lent buffers differ around the part lent")?,
+            }
         }
         Ok(())
     }

@@ -2,7 +2,7 @@
 
 use std::collections::BTreeSet;
 
-use compare::{leaf, Answer, Case, Field, Outcome, Value};
+use compare::{leaf, Answer, Case, Difference, Field, Outcome, Value};
 use route_record::{Place, Refusal};
 
 /// The packing of 7 in 4 bytes at index 1 of 6.
@@ -81,11 +81,7 @@ fn a_preview_is_compared_with_the_writing() {
     assert_eq!(sound.answer, Answer::Accepted(vec![4, 1]));
     let writing = previewing().previewed().expect("the writing").of_model();
     assert_eq!(sound.clone().beside(&writing), sound);
-    let refusal = Refusal {
-        number: 17,
-        place: Place::Byte(6),
-    };
-    let refused = Answer::Refused { refusal, record: 0 };
+    let refused = refused(17, Place::Byte(6));
     let mut more = writing.after();
     output(&mut more)[5] = 1;
     let mut less = writing.after();
@@ -103,6 +99,87 @@ fn a_preview_is_compared_with_the_writing() {
         assert!(other.contradiction().is_some());
     }
     assert_eq!(sound.contradiction(), None);
+}
+
+/// The whole reading of the uint32 7 with one row lent.
+fn whole_reading() -> Case {
+    Case::Demarshall {
+        grammar: leaf(1),
+        record: vec![7, 0, 0, 0],
+        rows: vec![99; 4],
+    }
+}
+
+/// The refusal with this number at this place.
+fn refused(number: u64, place: Place) -> Answer {
+    let refusal = Refusal { number, place };
+    Answer::Refused { refusal, record: 0 }
+}
+
+/// A whole reading has a front part that is shorter, with the same grammar and rows.
+#[test]
+fn front_parts_of_whole_readings() {
+    let Some(Case::Demarshall {
+        grammar,
+        record,
+        rows,
+    }) = whole_reading().front_part()
+    else {
+        panic!("a whole reading");
+    };
+    assert_eq!((grammar, rows), (leaf(1), vec![99; 4]));
+    assert!(record.len() < 4 && [7, 0, 0, 0].starts_with(&record));
+    // Neither an empty record nor a reading from an index has one.
+    let (grammar, record, index) = (leaf(0), vec![], 0);
+    let empty = Case::CheckWhole { grammar, record };
+    assert_eq!(empty.front_part(), None);
+    let (grammar, record) = (leaf(1), vec![7, 0, 0, 0]);
+    let from_index = Case::CheckVal {
+        grammar,
+        record,
+        index,
+    };
+    assert_eq!(from_index.front_part(), None);
+}
+
+/// A whole reading beside a front part whose rows are changed, that is refused with 9 at another byte
+/// than by the model, or that is accepted or refused otherwise, by the model too, is not the sound
+/// one, though it gives the sound answer.
+#[test]
+fn a_whole_reading_is_compared_with_a_front_part() {
+    let sound = whole_reading().compare();
+    assert_eq!(sound.answer, Answer::Accepted(vec![1, 4]));
+    let case = whole_reading().front_part().expect("a front part");
+    let beside = |model: &Answer, library: &Answer, after: &Case| {
+        sound.clone().beside_front(Difference {
+            model: Outcome::with(model.clone(), &case),
+            library: Outcome::with(library.clone(), after),
+            case: case.clone(),
+        })
+    };
+    let nine = refused(9, Place::Byte(0));
+    assert_eq!(beside(&nine, &nine, &case), sound);
+    assert_eq!(sound.unsound_front(), None);
+    let mut changed = case.clone();
+    if let Some(Field::Uint64s(rows)) = changed.lent() {
+        rows[3] = 0;
+    }
+    let elsewhere = refused(9, Place::Byte(1));
+    let mut wrong = vec![
+        beside(&nine, &nine, &changed),
+        beside(&nine, &elsewhere, &case),
+    ];
+    let numbers = [8, 10, 11].map(|number| refused(number, Place::Byte(0)));
+    let others = [Answer::Accepted(vec![1, 0]), refused(9, Place::Word(0))];
+    for other in numbers.iter().chain(&others) {
+        wrong.push(beside(&nine, other, &case));
+        wrong.push(beside(other, other, &case));
+    }
+    for outcome in wrong {
+        assert_eq!(outcome.answer, sound.answer);
+        assert_ne!(outcome, sound);
+        assert!(outcome.unsound_front().is_some());
+    }
 }
 
 #[test]

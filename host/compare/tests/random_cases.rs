@@ -3,6 +3,7 @@
 use std::process::{Command, Output};
 
 use compare::{run, Answer, Answers, Case, Outcome, Value};
+use route_record::{Place, Refusal};
 
 /// The answers of a run of so many cases.
 fn run_cases(seed: u64, cases: u64) -> Answers {
@@ -166,6 +167,58 @@ fn a_preview_unlike_the_writing_is_found_out() {
         "{last}"
     );
     assert!(answers.total() < 2_000);
+}
+
+/// Answers that are wrong of every proper front part of an accepted record: accepted, refused with
+/// another number, and with 9 at a byte that no record has.
+fn false_answers() -> [Answer; 5] {
+    let refused = |number, byte| {
+        let place = Place::Byte(byte);
+        let refusal = Refusal { number, place };
+        Answer::Refused { refusal, record: 0 }
+    };
+    [
+        Answer::Accepted(vec![1, 0]),
+        refused(8, 0),
+        refused(10, 0),
+        refused(11, 0),
+        refused(9, u64::MAX),
+    ]
+}
+
+/// A library that answers every check of a whole record as the model does, but that of the front
+/// part beside an accepted one falsely, is found out.
+#[test]
+fn a_false_answer_to_a_front_part_is_found_out() {
+    for answer in false_answers() {
+        let library = |case: &Case| match case {
+            Case::CheckWhole { record, .. } => Outcome::by(case, |called| match called {
+                Case::CheckWhole { record: part, .. } if part.len() < record.len() => {
+                    answer.clone()
+                }
+                called => called.of_model().answer,
+            }),
+            _ => case.of_library(),
+        };
+        let mut answers = Answers::default();
+        let difference = run(10, library, || true, &mut answers).expect_err("a difference");
+        let Case::CheckWhole { record, .. } = &difference.case else {
+            panic!("a check of a whole record");
+        };
+        assert!((1..=8).contains(&record.len()), "{record:?}");
+        assert_eq!(difference.model.answer, difference.library.answer);
+        let front = difference.library.unsound_front().expect("a front part");
+        assert_eq!(front.library.answer, answer);
+        assert!(front.model.is_refused_with_9(&front.case));
+        let text = difference.to_string();
+        let lines: Vec<&str> = text.lines().collect();
+        assert_eq!(lines.len(), 5, "{text}");
+        assert_eq!(
+            lines[2],
+            "a front part of the record, to be refused with 9:"
+        );
+        assert!(answers.total() < 1_000);
+    }
 }
 
 /// What the program does with these arguments.

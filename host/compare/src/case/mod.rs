@@ -9,9 +9,11 @@ mod outcome;
 pub use field::Field;
 pub use outcome::{Answer, Outcome};
 
+use std::hash::{DefaultHasher, Hash, Hasher};
+
 use field::Given;
 
-use crate::{Difference, Value};
+use crate::{Difference, Random, Value};
 
 /// Defines the cases: a variant for each call, with the call's name, what it is given, the buffer
 /// that is lent to it and the numbers that it gives when it is accepted.
@@ -177,6 +179,20 @@ impl Case {
         };
         let (value, out, index) = Value::of(self)?;
         Some(value.marshall_val_case(out, index))
+    }
+
+    /// The same reading of a proper front part of the record, if the case is a whole reading and the
+    /// record is not empty. The length is random, and the same for equal cases.
+    pub fn front_part(&self) -> Option<Case> {
+        let mut front = self.clone();
+        let (Case::Demarshall { record, .. } | Case::CheckWhole { record, .. }) = &mut front else {
+            return None;
+        };
+        let longest = record.len().checked_sub(1)?;
+        let mut hasher = DefaultHasher::new();
+        self.hash(&mut hasher);
+        record.truncate(Random::new(hasher.finish()).within(0..=longest));
+        Some(front)
     }
 
     /// What comes of the case, by both. Panics with the case where they differ.

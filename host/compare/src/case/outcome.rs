@@ -3,6 +3,7 @@
 use route_record::{Place, Refusal};
 
 use super::Case;
+use crate::Difference;
 
 /// What a call answers.
 #[derive(Clone, Debug, PartialEq, Eq)]
@@ -66,7 +67,8 @@ impl Answer {
 /// What comes of a case: the answer, and everything that the call was given as it is afterwards,
 /// the margins around the lent buffer included. So two outcomes are equal only if the buffers are,
 /// and if nothing outside them and nothing that is only read was changed differently. Outcomes
-/// of previews are equal only if the writings beside them answer and change alike, too.
+/// of previews are equal only if the writings beside them answer and change alike, too, and outcomes
+/// of accepted whole readings only if the readings of front parts beside them are sound.
 #[derive(Clone, Debug, PartialEq, Eq)]
 pub struct Outcome {
     /// The answer.
@@ -75,6 +77,9 @@ pub struct Outcome {
     after: Case,
     /// Of a preview, the answer that is right by the writing beside it; its own, if there is none.
     by_writing: Option<Answer>,
+    /// Of an accepted whole reading, the reading of a front part of the record beside it, if that is
+    /// not sound.
+    unsound_front: Option<Box<Difference>>,
 }
 
 impl Outcome {
@@ -90,15 +95,24 @@ impl Outcome {
             answer,
             after,
             by_writing,
+            unsound_front: None,
         }
     }
 
     /// The outcome by an implementation of the calls: of a preview, beside what its writing does to a
-    /// copy of the output.
+    /// copy of the output; of an accepted whole reading, beside the reading of a front part.
     pub fn by(case: &Case, call: impl Fn(&mut Case) -> Answer) -> Outcome {
         let outcome = Outcome::of(case, &call);
-        match case.previewed() {
-            Some(writing) => outcome.beside(&Outcome::of(&writing, &call)),
+        if let Some(writing) = case.previewed() {
+            return outcome.beside(&Outcome::of(&writing, &call));
+        }
+        let is_accepted = outcome.answer.number() == 0;
+        match is_accepted.then(|| case.front_part()).flatten() {
+            Some(front) => outcome.beside_front(Difference {
+                model: front.of_model(),
+                library: Outcome::of(&front, &call),
+                case: front,
+            }),
             None => outcome,
         }
     }
@@ -121,6 +135,32 @@ impl Outcome {
             by_writing: Some(by_writing),
             ..self
         }
+    }
+
+    /// The outcome of an accepted whole reading beside that of a proper front part of its record,
+    /// which is sound if both refuse it with 9 at the same byte and change nothing.
+    pub fn beside_front(self, front: Difference) -> Outcome {
+        let is_sound = front.library == front.model && front.library.is_refused_with_9(&front.case);
+        Outcome {
+            unsound_front: (!is_sound).then(|| Box::new(front)),
+            ..self
+        }
+    }
+
+    /// Whether the case was refused with 9 at a byte, and everything that the call was given is as it
+    /// was, the margins around the lent buffer included.
+    pub fn is_refused_with_9(&self, case: &Case) -> bool {
+        let Answer::Refused { refusal, record: 0 } = self.answer else {
+            return false;
+        };
+        refusal.number == Refusal::BYTES_MISSING
+            && matches!(refusal.place, Place::Byte(_))
+            && *self == Outcome::with(self.answer.clone(), case)
+    }
+
+    /// The reading of a front part beside an accepted whole reading, if it is not sound.
+    pub fn unsound_front(&self) -> Option<&Difference> {
+        self.unsound_front.as_deref()
     }
 
     /// The answer that is right by the writing beside a preview, if the preview gives another.
