@@ -5,8 +5,8 @@ use std::collections::{BTreeMap, BTreeSet, HashSet};
 use std::fs;
 use std::process::Command;
 
-use compare::{on_large_stack, root_kinds, Answer, Case, Line};
-use route_record::Place;
+use compare::{on_large_stack, own_bytes, root_kinds, Answer, Case, Line};
+use route_record::{Place, MAX_ROWS, ROW_WORDS};
 use vectors::{check, Counts, Show, Vector, FILES};
 
 /// The lines of a committed file.
@@ -202,6 +202,74 @@ fn same_route_of_refused_records() {
     assert_eq!(behind_0, expected.collect());
     assert_eq!(equal_bytes, (0..=10).collect());
     assert_eq!(other_lengths, (0..=10).collect());
+}
+
+/// The grammar, the capacity and the record of a whole reading.
+fn whole_reading(case: &Case) -> Option<(&[u32], usize, &[u8])> {
+    match case {
+        Case::Demarshall {
+            grammar,
+            record,
+            rows,
+        } => Some((grammar, MAX_ROWS.min(rows.len() / ROW_WORDS), record)),
+        Case::CheckWhole { grammar, record } => Some((grammar, MAX_ROWS, record)),
+        _ => None,
+    }
+}
+
+/// The lengths of the lines that read a proper front part of this line's record whole, under the same
+/// grammar and capacity. Each of them is refused with 9.
+fn front_parts(whole: &Line, calls: &[Line]) -> BTreeSet<usize> {
+    let (grammar, capacity, record) = whole_reading(&whole.case).expect("a whole reading");
+    let mut lengths = BTreeSet::new();
+    for line in calls {
+        let Some((of_line, rows, part)) = whole_reading(&line.case) else {
+            continue;
+        };
+        let is_front_part = part.len() < record.len() && record.starts_with(part);
+        if is_front_part && (of_line, rows) == (grammar, capacity) {
+            assert!(line.outcome.is_refused_with_9(&line.case), "{}", line.name);
+            lengths.insert(part.len());
+        }
+    }
+    lengths
+}
+
+/// No line says of a proper front part of an accepted record anything but refusal 9. There are lines
+/// of each front part of example A, and, of a record with values of each kind, of those that end
+/// before, within and a byte before the end of each number, count, tag and run of elements.
+#[test]
+fn front_parts_of_accepted_records() {
+    let calls = calls();
+    let mut by_name = BTreeMap::new();
+    for line in &calls {
+        let is_accepted = matches!(line.outcome.answer, Answer::Accepted(_));
+        if is_accepted && whole_reading(&line.case).is_some() {
+            by_name.insert(line.name.as_str(), front_parts(line, &calls));
+        }
+    }
+    assert_eq!(by_name["demarshall: example A, 3 rows"], (0..14).collect());
+    let of_c = &by_name["demarshall: example C, capacity 4"];
+    assert_eq!(*of_c, BTreeSet::from([0, 7]));
+    let of_a = &by_name["check_whole: example A"];
+    assert_eq!(*of_a, BTreeSet::from([0, 3, 4, 13]));
+    let name = "demarshall: fields of each kind";
+    let line = calls.iter().find(|line| line.name == name);
+    let after = line.expect(name).outcome.after();
+    let Case::Demarshall { rows, .. } = &after else {
+        panic!("{name}");
+    };
+    let (lengths, mut kinds) = (&by_name[name], BTreeSet::new());
+    for own in own_bytes(rows) {
+        kinds.insert(own.kind);
+        for run in [own.start..own.head_end, own.head_end..own.end] {
+            if let Some(last) = run.clone().last() {
+                assert!(lengths.contains(&run.start) && lengths.contains(&last));
+                assert!(lengths.range(run).count() >= 3);
+            }
+        }
+    }
+    assert_eq!(kinds, (0..=10).collect());
 }
 
 /// Each line of preview says what the model's writing to a copy of the output gives and changes.

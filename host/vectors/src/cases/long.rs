@@ -85,6 +85,11 @@ const FIELDS: &str = "4 17 11 0, 6 1 3 2, 7 1 3 5, 5 1 11 1, 3 3 2 0, 1 1 673059
 const EMPTY: &str = "4 15 11 0, 6 1 0 0, 7 1 0 2, 5 1 0 5, 3 1 0 0, 8 2 0 0, 2 1 0 0, 10 1 0 0, \
     9 1 0 0, 4 3 2 0, 1 1 0 0, 1 1 0 0, 0 1 0 0, 2 1 0 0, 1 1 7 0";
 
+/// A tuple with a field of each kind.
+pub(super) fn fields_of_each_kind() -> Value {
+    super::writing::value(EACH_KIND, FIELDS, &hex(STORE))
+}
+
 /// What a value is, the value, and the index at which it is written.
 type Written = (&'static str, Value, usize);
 
@@ -112,15 +117,15 @@ fn values() -> Vec<Written> {
     let behind = [[1, 1, 67_305_985, 0], [5, 1, 5, 550_000]];
     let far = tuple(&[&arrays[..], &behind].concat(), &runs(600_000));
     let number = value(leaf(2), &[[2, 1, 578_437_695_752_307_201, 0]], &[]);
-    let fields = |rows| super::writing::value(EACH_KIND, rows, &hex(STORE));
+    let empty = super::writing::value(EACH_KIND, EMPTY, &hex(STORE));
     let list = [
         ("fields behind 600,000 bytes", far, 4),
         ("4,095 int64", most_rows(), 7),
         ("numbers of each kind", numbers_of_each_kind(), 3),
         ("a uint64", number.clone(), MAX_BYTES + 1),
         ("a uint64", number, 3_000_000),
-        ("fields of each kind", fields(FIELDS), 1),
-        ("fields of each kind, empty or 0", fields(EMPTY), 1),
+        ("fields of each kind", fields_of_each_kind(), 1),
+        ("fields of each kind, empty or 0", empty, 1),
     ];
     let longest = longest().map(|(name, array)| (name, array, 2));
     list.into_iter().chain(longest).collect()

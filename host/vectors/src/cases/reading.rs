@@ -1,7 +1,10 @@
 //! The readers. Each word of lent rows is 99 before the call.
 
-use compare::Case;
+use std::collections::BTreeSet;
 
+use compare::{own_bytes, Case};
+
+use super::long::{fields_of_each_kind, record};
 use super::magnitudes;
 use super::{counted, doubling, hex, numbers, table, Cases, List, MAX_BYTES, ROW_WORDS};
 use super::{A, A64, ARR, A_RECORD, B, BYT, C, D, E, I32, I64, KIND_11, MIX, MIX_RECORD, NUMBERS};
@@ -557,6 +560,93 @@ fn deep_grammars(list: &mut List) {
     }
 }
 
+/// A tuple of a uint32 and a union without cases, which no value belongs to.
+const NO_VALUE: &str = "3, 4 0 2, 1 0 0, 8 0 0, 2, 1 2";
+
+/// Name, grammar, record and capacity: example A with as many rows as it needs; it and two front
+/// parts with one row fewer; no bytes of example C; and bytes of a grammar that has no record.
+const FRONT_PARTS: [(&str, &str, &str, usize); 8] = [
+    ("example A, 3 rows", A, A_RECORD, 3),
+    ("example A, capacity 2", A, A_RECORD, 2),
+    (
+        "example A, the first 4 of 14 bytes, capacity 2",
+        A,
+        "07000000",
+        2,
+    ),
+    (
+        "example A, the first 3 of 14 bytes, capacity 2",
+        A,
+        "070000",
+        2,
+    ),
+    ("example C, no bytes", C, "", 4),
+    (
+        "a uint32 and a union without cases, no bytes",
+        NO_VALUE,
+        "",
+        3,
+    ),
+    (
+        "a uint32 and a union without cases, 4 bytes",
+        NO_VALUE,
+        "07000000",
+        3,
+    ),
+    (
+        "a uint32 and a union without cases, 12 bytes",
+        NO_VALUE,
+        "07000000 0000000000000000",
+        3,
+    ),
+];
+
+/// Front parts of a record with values of each kind: one that ends before each value that has bytes,
+/// and some that end within it.
+fn fields_cut(list: &mut List) {
+    let value = fields_of_each_kind();
+    let (grammar, record) = (&value.grammar, record(&value));
+    let (name, words) = ("fields of each kind", ROW_WORDS * value.n);
+    list.add(name, demarshall(grammar, &record, words));
+    list.add(name, check_whole(grammar, &record));
+    let mut lengths = BTreeSet::new();
+    for own in own_bytes(&value.rows) {
+        if own.start < own.head_end {
+            let middle = (own.start + own.head_end) / 2;
+            lengths.extend([own.start, middle, own.head_end - 1]);
+        }
+        if own.head_end < own.end {
+            let middle = (own.head_end + own.end) / 2;
+            lengths.extend([own.head_end, middle, own.end - 1]);
+        }
+    }
+    for length in lengths {
+        let name = format!("{name}, the first {length} of 131 bytes");
+        list.add(&name, demarshall(grammar, &record[..length], words));
+    }
+    for length in [0, 20, 70, 99, 130] {
+        let name = format!("{name}, the first {length} of 131 bytes");
+        list.add(&name, check_whole(grammar, &record[..length]));
+    }
+}
+
+/// Front parts of records.
+fn front_parts(list: &mut List) {
+    let (a, record) = (numbers::<u32>(A), hex(A_RECORD));
+    // Without its last byte it is among the whole readings.
+    for length in 0..13 {
+        let name = format!("example A, the first {length} of 14 bytes");
+        list.add(&name, demarshall(&a, &record[..length], ROW_WORDS * 3));
+    }
+    for length in [0, 3, 4, 13] {
+        let name = format!("example A, the first {length} of 14 bytes");
+        list.add(&name, check_whole(&a, &record[..length]));
+    }
+    whole(list, &FRONT_PARTS);
+    list.add("example D, no bytes", check_whole(&numbers::<u32>(D), &[]));
+    fields_cut(list);
+}
+
 /// The cases of the readers.
 pub fn reading() -> Cases {
     let mut list = List::default();
@@ -569,6 +659,7 @@ pub fn reading() -> Cases {
     longest(&mut list);
     large_grammars(&mut list);
     deep_grammars(&mut list);
+    front_parts(&mut list);
     list.0.extend(magnitudes::reading());
     list.0
 }

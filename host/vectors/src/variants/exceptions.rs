@@ -911,7 +911,7 @@ const EXCEPTIONS: [Exception; 58] = [
 ];
 
 /// Variants by hand: file, pieces of its text with what stands for each, what is broken.
-pub(super) const BY_HAND: [(&str, &[(&str, &str)], &str); 21] = [
+pub(super) const BY_HAND: [(&str, &[(&str, &str)], &str); 27] = [
     (
         "rows.rs",
         &[
@@ -1113,6 +1113,70 @@ pub(super) const BY_HAND: [(&str, &[(&str, &str)], &str); 21] = [
     let writing = ",
         )],
         "an index above the output's length is refused first",
+    ),
+    (
+        "reading.rs",
+        &[(
+            "unpack(width, self.record, self.position)?",
+            "unpack(width, self.record, self.position).map_err(|_| at_byte(11, self.position))?",
+        )],
+        "a missing number is refused with 11",
+    ),
+    (
+        "reading.rs",
+        &[(
+            "        let number = unpack(",
+            "        if self.position > 0 && self.position == self.record.len() {
+            return Err(at_byte(11, self.position));
+        }
+        let number = unpack(",
+        )],
+        "a record that ends between two values is refused with 11",
+    ),
+    (
+        "reading.rs",
+        &[(
+            "        let count = self.number(8)?;
+        let rest",
+            "        let count = match self.position == self.record.len() {
+            true => 0,
+            false => self.number(8)?,
+        };
+        let rest",
+        )],
+        "elements whose count is missing are none",
+    ),
+    (
+        "reading.rs",
+        &[(
+            "        let count = self.number(8)?;
+        if count",
+            "        let count = match self.position == self.record.len() {
+            true => 0,
+            false => self.number(8)?,
+        };
+        if count",
+        )],
+        "an array whose count is missing has no elements",
+    ),
+    (
+        "reading.rs",
+        &[(
+            "        if count > (rest.len() / width) as u64 {
+            return Err(at_byte(9, start));
+        }",
+            "        let _ = start;
+        let count = count.min((rest.len() / width) as u64);",
+        )],
+        "missing elements are left out",
+    ),
+    (
+        "reading.rs",
+        &[(
+            "        let tag = self.number(8)?;",
+            "        let tag = self.number(8).map_err(|_| at_byte(10, start))?;",
+        )],
+        "a missing tag is refused with 10",
     ),
 ];
 
