@@ -8,5 +8,5 @@ pub mod Examples
 pub mod Demand1
 pub mod Demand2
 pub mod Demand3
-pub mod CutRecords
 pub mod Accepted
+pub mod CutRecords

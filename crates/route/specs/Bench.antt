@@ -168,12 +168,13 @@ bench =
     ∷ record { source = Req04; call = read grammarA recordA 2; expected = refuses 8 (byte 4) }
     ∷ record { source = Req04; call = read grammarA (take 4 recordA) 2; expected = refuses 8 (byte 4) }
     ∷ record { source = Req04; call = read grammarA (take 3 recordA) 2; expected = refuses 9 (byte 0) }
-    -- no bytes are accepted, and some are refused with 9
+    -- a grammar without records, under which some bytes are refused with 9
     ∷ record { source = Req04; call = read grammarTupleD [] 4096; expected = refuses 9 (byte 0) }
     ∷ record { source = Req04; call = read grammarTupleD (take 4 recordA) 4096; expected = refuses 9 (byte 4) }
     ∷ record { source = Req04; call = read grammarTupleD (take 12 recordA) 4096; expected = refuses 10 (byte 4) }
-    -- with as few rows as A's record needs, and C's: the record, and every proper front part
+    -- with as few rows as A's record needs, and C's: both records, and every proper front part
     ∷ record { source = Req04; call = read grammarA recordA 3; expected = handsOut 3 (4 ∷ 3 ∷ 2 ∷ 0 ∷ 1 ∷ 1 ∷ 7 ∷ 0 ∷ 5 ∷ 1 ∷ 2 ∷ 12 ∷ []) valueA }
+    ∷ record { source = Req04; call = read grammarC recordC 4; expected = handsOut 4 (3 ∷ 4 ∷ 3 ∷ 0 ∷ 0 ∷ 1 ∷ 0 ∷ 0 ∷ 0 ∷ 1 ∷ 0 ∷ 0 ∷ 0 ∷ 1 ∷ 0 ∷ 0 ∷ []) (VArray (vcons VConstant (vcons VConstant (vcons VConstant vnil)))) }
     ∷ cut grammarA recordA 3 0 (0 ∷ 1 ∷ 2 ∷ 3 ∷ [])
     ++ cut grammarA recordA 3 4 (4 ∷ 5 ∷ 6 ∷ 7 ∷ 8 ∷ 9 ∷ 10 ∷ 11 ∷ 12 ∷ 13 ∷ [])
     ++ cut grammarC recordC 4 0 (0 ∷ 1 ∷ 2 ∷ 3 ∷ 4 ∷ 5 ∷ 6 ∷ 7 ∷ [])

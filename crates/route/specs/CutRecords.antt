@@ -1,6 +1,5 @@
 -- Document 02's request 04: "Show that every proper front part of a record accepted whole, under the same grammar and capacity, is refused with
--- 9 and with nothing else." It is a statement on the reading as it is, and no contract cites it; proofs/CutRecords.antt proves
--- it.
+-- 9 and with nothing else." It is a statement on the reading as it is, and no contract cites it. proofs/CutRecords.antt proves it.
 use mathlib.Core.Path.{_≡_}
 use mathlib.Core.List.{List, [], _∷_}
 use Prim.Native.Nat.{ℕ, _<_}
@@ -13,6 +12,8 @@ use Rattle.admission.specs.Admission.{capacityOf}
 use Rattle.reading.specs.Meaning.{Counts, parsedOf}
 use Rattle.reading.specs.Calls.{parseValOf, demarshallOf, countsOf, Parses}
 use Rattle.reading.specs.declared.Parsed.{Parsed}
+use Rattle.answer_c.specs.Answer.{answerOf, countValues}
+use Rattle.answer_c.specs.declared.RouteAnswer.{RouteAnswer}
 use Rattle.route.specs.Demands.{FrontPart}
 use Rattle.route.specs.Bench.{grammarA, recordA, grammarD, grammarOf}
 
@@ -26,23 +27,32 @@ pub record ProperFrontPart (part whole : List ℕ) : Type 0 where
 abbrev pub RefusedWith9 : {A : Type 0} → Outcome Reason A → Type 0
 RefusedWith9 o = (place : ℕ) × (o ≡ refused (reason 9 (byte place)))
 
+-- of the definition that the contracts of all whole readings cite
+abbrev pub CutReading : Type 0
+CutReading =
+    (g d part : List ℕ) (capacity : ℕ) (t : Step State Val) → demarshallOf g d capacity ≡ accepted t
+    → ProperFrontPart part d → RefusedWith9 (demarshallOf g part capacity)
+
 -- Nothing is asked of the grammar, the bytes or the capacity but that the record is accepted. It would be empty if no record that has bytes
--- were: case A's is (`reading-A` of proofs/Examples.antt), and `bench` has each of its proper front parts with the place
+-- were, or had no such part: case A's is and has (`cut-A` of proofs/CutRecords.antt), and `bench` has each of its proper front parts with the
+-- place
 pub record CutRecords : Type 0 where
-  -- of the definition that the contracts of all whole readings cite
-  pub reading :
-      (g d part : List ℕ) (capacity : ℕ) (t : Step State Val) → demarshallOf g d capacity ≡ accepted t
-      → ProperFrontPart part d → RefusedWith9 (demarshallOf g part capacity)
+  pub reading : CutReading
   -- of `check_whole`, at the capacity that its contract names. The answers of `demarshall` are such answers, too (`answers` of `Parses`), so
-  -- one call may accept the record and the other be given the part
+  -- at one capacity one call may accept the record and the other be given the part
   pub check :
       (g d part : List ℕ) (capacity : ℕ) (r q : Parsed) → parsedOf r ≡ map countsOf (demarshallOf g d capacity) → (k : Counts) → parsedOf r ≡ accepted k
       → ProperFrontPart part d → parsedOf q ≡ map countsOf (demarshallOf g part capacity) → RefusedWith9 (parsedOf q)
-  -- of `demarshall`: the same capacity is that of the rows lent, whatever they hold and however many words are left over. They stay as they are
+  -- of `demarshall`: the same capacity is that of the rows lent, whatever they hold and however many words are left over. Those lent for the
+  -- part stay as they are
   pub whole :
       (g d part rows exit rows′ exit′ : List ℕ) (r q : Parsed) → Parses (demarshallOf g d (capacityOf (length rows))) 0 r rows exit → (k : Counts) → parsedOf r ≡ accepted k
       → ProperFrontPart part d → capacityOf (length rows′) ≡ capacityOf (length rows)
       → Parses (demarshallOf g part (capacityOf (length rows′))) 0 q rows′ exit′ → RefusedWith9 (parsedOf q) × (exit′ ≡ rows′)
+  -- of `route_check_whole` and `route_demarshall`, the C calls, where number 0 says accepted (specs/Accepted.antt)
+  pub answerC :
+      (g d part : List ℕ) (capacity : ℕ) (r q : RouteAnswer) → r ≡ answerOf (map countValues (map countsOf (demarshallOf g d capacity))) → r .number ≡ 0
+      → ProperFrontPart part d → q ≡ answerOf (map countValues (map countsOf (demarshallOf g part capacity))) → q .number ≡ 9
 
 -- nine bytes, of which a uint32 takes the first four
 abbrev pub nineBytes : List ℕ

@@ -2,5 +2,5 @@ pub mod Rewriting
 pub mod Refusals
 pub mod Demands
 pub mod Bench
-pub mod CutRecords
 pub mod Accepted
+pub mod CutRecords

@@ -135,7 +135,7 @@ module _ (capacity : ℕ) (d : List ℕ) where
     agrees-fields (gcons g gs) s h = agrees-both (readFields capacity d gs) (parseFields gs) (agrees-claim s (readBody capacity d g) (λ b. agrees-body g s h b)) (λ t i. agrees-fields gs t i)
 
     agrees-case : (gs : Gs) (c : ℕ) (q s : State) → s .at ≤ length d → Agrees capacity d rowCount s (readCaseAt capacity d gs c q s) (parseCaseAt gs c (drop (s .at) d))
-    agrees-case gnil c q s h = neither 10 q
+    agrees-case gnil c q s h = neither _ q
     agrees-case (gcons g gs) zero q s h = agrees-claim s (readBody capacity d g) (λ b. agrees-body g s h b)
     agrees-case (gcons g gs) (suc c) q s h = agrees-case gs c q s h
 

@@ -1,72 +1,71 @@
 -- A record beside its first k bytes, both read from one position: what ends within these bytes is read the same, what ends behind them is
 -- refused with 9.
 use mathlib.Core.Path.{_≡_, refl, sym, ap, _∙_}
-use mathlib.Core.Bool.{Bool, true, false, not}
+use mathlib.Core.Bool.{Bool, true, false}
 use mathlib.Core.List.{List, _++_}
 use Prim.Native.Nat.{ℕ, zero, suc, _+_, _-_, _*_, _/_, _≤_, _<_}
+use native.Mathlib.Nat.{div-lt-iff-lt-mul, mul-comm}
 use native.Mathlib.Omega.{arith}
 use native.Mathlib.Decide.{decLe}
 use lib.ListN.{length, take, drop, length-drop, take-append-drop}
 use lib.Seq.{length-take-le, drop-append-le, take-append-le}
-use lib.Dec.{leb, ltb, T, leb→le, nleb→lt}
-use Rattle.refusal.specs.Outcome.{accepted, refused, bind, test}
-use Rattle.refusal.proofs.Outcome.{post-accepted}
-use Rattle.packed.specs.Packed.{unpackLittleEndian, unpackLittleEndianSeq}
+use lib.Dec.{leb, ltb}
+use borrow.Author.Tests.{le-leb, lt-leb}
+use Rattle.refusal.specs.Outcome.{accepted, refused, test}
+use Rattle.refusal.proofs.Outcome.{Post, fails, post-bind, post-test, post-weaken, post-accepted, bind-test}
+use Rattle.packed.specs.Packed.{unpackLittleEndian}
 use Rattle.value.specs.Kinds.{width, elementWidth}
 use Rattle.value.specs.Tree.{G, Gs, GConstant, GNumber, GArray, GTuple, GNumberArray, GTaggedUnion, gnil, gcons, Val, Vals, VConstant, VNumber, VArray, VTuple, VNumberArray, VCase, vnil, vcons}
 use Rattle.value.specs.Step.{Step, yield, next, give, both, elements}
 use Rattle.value.specs.Reading.{State, Stop, Reading, stop, start, move, begin, claim, claimed, free, takeNumber, takeNumbers, atEnd, readBody, readFields, readCaseAt, readVal, readWhole}
 use Rattle.value.proofs.KindLaws.{elementWidth-positive}
 use Rattle.value.proofs.Laws.{count-fits}
+use Rattle.value.proofs.Agreement.{gives}
 use Rattle.value.proofs.Reading.{whole-post}
 
--- a reading of the record from byte p on, and the same reading of its first k bytes
-data Cut {A : Type 0} (k p : ℕ) : Reading A → Reading A → Type 0 where
+-- refused with 9
+abbrev Lost : {A : Type 0} → Reading A → Type 0
+Lost y = (u : State) × (y ≡ refused (stop 9 u))
+
+-- what was read of the record from byte p on, beside y, the same reading of its first k bytes
+record CutAt {A : Type 0} (k p : ℕ) (y : Reading A) (t : Step State A) : Type 0 where
+  -- it ended at p or behind it
+  forward : p ≤ t .state .at
   -- it ended within the first k bytes
-  same : (a : A) (t : State) → p ≤ t .at → t .at ≤ k → Cut k p (yield a t) (yield a t)
-  -- it ended behind them
-  lost : (a : A) (t u : State) → p ≤ t .at → k < t .at → Cut k p (yield a t) (refused (stop 9 u))
-  -- it began behind them, where the other one does not come
-  past : (a : A) (t : State) (y : Reading A) → k < p → p ≤ t .at → Cut k p (yield a t) y
-  -- the record is refused: nothing is claimed
-  unread : (e : Stop) (y : Reading A) → Cut k p (refused e) y
+  same : t .state .at ≤ k → y ≡ accepted t
+  -- it began within them and ended behind them
+  lost : p ≤ k → k < t .state .at → Lost y
+
+-- where the record is refused, nothing is claimed
+abbrev Cut : {A : Type 0} → ℕ → ℕ → Reading A → Reading A → Type 0
+Cut k p x y = Post (CutAt k p y) (λ _. Unit {0}) x
 
 -- ---- one step behind another
 
--- what follows what ended at byte q, within the first k bytes
-within : {A : Type 0} {k p q : ℕ} {x y : Reading A} → p ≤ q → q ≤ k → Cut k q x y → Cut k p x y
-within h l (same a t i j) = same a t (omega arith) j
-within h l (lost a t u i j) = lost a t u (omega arith) j
-within h l (past a t y i j) = absurd (omega arith)
-within h l (unread e y) = unread e y
+-- what follows what ended at byte q
+follows : {A : Type 0} {k p q : ℕ} {x y z : Reading A} → p ≤ q → (q ≤ k → z ≡ y) → (p ≤ k → k < q → Lost z) → Cut k q x y → Cut k p x z
+follows {A} {k} {p} {q} {x} {y} {z} h e l c = post-weaken from (λ _ _. tt) c
+  where
+    ended : (t : Step State A) → CutAt k q y t → p ≤ k → k < t .state .at → Dec (q ≤ k) → Lost z
+    ended t i j m (yes n) = let u = i .lost n m in (u .0, e n ∙ u .1)
+    ended t i j m (no n) = l j (omega (arith, n))
 
--- what follows what ended behind them, where the other one was refused
-beyond : {A : Type 0} {k p q : ℕ} {x y : Reading A} (u : State) → p ≤ q → k < q → Cut k q x y → Cut k p x (refused (stop 9 u))
-beyond u h l (same a t i j) = absurd (omega arith)
-beyond u h l (lost a t v i j) = lost a t u (omega arith) j
-beyond u h l (past a t y i j) = lost a t u (omega arith) (omega arith)
-beyond u h l (unread e y) = unread e _
-
--- what follows what began behind them
-behind : {A : Type 0} {k p q : ℕ} {x y : Reading A} (z : Reading A) → p ≤ q → k < p → Cut k q x y → Cut k p x z
-behind z h l (same a t i j) = absurd (omega arith)
-behind z h l (lost a t u i j) = past a t z l (omega arith)
-behind z h l (past a t y i j) = past a t z l (omega arith)
-behind z h l (unread e y) = unread e z
+    from : (t : Step State A) → CutAt k q y t → CutAt k p z t
+    from t i = record {
+      forward = omega (arith, i .forward);
+      same = λ j. e (omega (arith, i .forward)) ∙ i .same j;
+      lost = λ j m. ended t i j m (decLe q k);
+    }
 
 cut-next : {A B : Type 0} {k p : ℕ} {x y : Reading A} (m n : A → State → Reading B) → Cut k p x y → ((a : A) (t : State) → Cut k (t .at) (m a t) (n a t)) → Cut k p (next x m) (next y n)
-cut-next m n (same a t i j) c = within i j (c a t)
-cut-next m n (lost a t u i j) c = beyond u i j (c a t)
-cut-next m n (past a t y i j) c = behind (next y n) j i (c a t)
-cut-next m n (unread e y) c = unread e (next y n)
+cut-next {A} {B} {k} {p} {x} {y} m n c f = post-bind _ c (λ a h. follows (h .forward)
+    (λ l. ap (λ (o : Reading A). next o n) (h .same l))
+    (λ i l. let u = h .lost i l in (u .0, ap (λ (o : Reading A). next o n) (u .1)))
+    (f (a .value) (a .state)))
 
 -- a step without bytes
 cut-yield : {A : Type 0} {k : ℕ} (a : A) (t : State) → Cut k (t .at) (yield a t) (yield a t)
-cut-yield {A} {k} a t = go (decLe (t .at) k)
-  where
-    go : Dec (t .at ≤ k) → Cut k (t .at) (yield a t) (yield a t)
-    go (yes h) = same a t (omega arith) h
-    go (no h) = past a t (yield a t) (omega (arith, h)) (omega arith)
+cut-yield a t = gives (record { forward = omega arith; same = λ _. refl; lost = λ i l. absurd (omega arith) })
 
 cut-give : {A B : Type 0} {k p : ℕ} {x y : Reading A} (f : A → B) → Cut k p x y → Cut k p (give f x) (give f y)
 cut-give f c = cut-next _ _ c (λ a t. cut-yield (f a) t)
@@ -78,15 +77,11 @@ cut-both m n c f = cut-next _ _ c (λ v t. cut-give (vcons v) (f t))
 
 cut-test : {A : Type 0} {k p : ℕ} (b : Bool) (e : Stop) (m n : Unit {0} → Reading A) → Cut k p (m tt) (n tt) → Cut k p (test b e m) (test b e n)
 cut-test true e m n c = c
-cut-test false e m n c = unread e _
+cut-test false e m n c = fails e tt
 
 cut-claimed : {A : Type 0} {k : ℕ} (capacity : ℕ) (m n : State → Reading A) (s : State) → Cut k (s .at) (m (begin s)) (n (begin s)) → Cut k (s .at) (claimed capacity m s) (claimed capacity n s)
 unfolding claim
-cut-claimed {A} {k} capacity m n s c = go (ltb (s .begun) capacity)
-  where
-    go : (b : Bool) → Cut k (s .at) (bind (test b (stop 8 (begin s)) (λ _. accepted (begin s))) m) (bind (test b (stop 8 (begin s)) (λ _. accepted (begin s))) n)
-    go true = c
-    go false = unread _ _
+cut-claimed capacity m n s c = rw (bind-test _ _ _ m, bind-test _ _ _ n) (cut-test (ltb (s .begun) capacity) _ (λ _. m (begin s)) (λ _. n (begin s)) c)
 
 cut-elements : {k : ℕ} (m n : State → Reading Val) → ((s : State) → Cut k (s .at) (m s) (n s)) → (count : ℕ) (s : State) → Cut k (s .at) (elements count m s) (elements count n s)
 unfolding elements
@@ -106,40 +101,21 @@ module _ (d : List ℕ) (k : ℕ) (l : k ≤ length d) where
 
   cut-number : {A : Type 0} (w : ℕ) (s : State) (m n : ℕ → State → Reading A) → ((a : ℕ) → Cut k (s .at + w) (m a (move w s)) (n a (move w s))) → Cut k (s .at) (next (takeNumber d w s) m) (next (takeNumber (take k d) w s) n)
   unfolding takeNumber
-  cut-number {A} w s m n c = rw front-length (go (leb (s .at + w) (length d)) (leb (s .at + w) k) (leb→le (s .at + w) k) (nleb→lt (s .at + w) k))
-    where
-      number : List ℕ → ℕ
-      number bytes = unpackLittleEndian w (take w (drop (s .at) bytes))
-
-      go : (b f : Bool) → (T f → s .at + w ≤ k) → (T (not f) → k < s .at + w) → Cut k (s .at) (next (test b (stop 9 s) (λ _. yield (number d) (move w s))) m) (next (test f (stop 9 s) (λ _. yield (number (take k d)) (move w s))) n)
-      go false f i j = unread _ _
-      go true true i j = rw (front-bytes (s .at) w (i tt)) (within (omega arith) (i tt) (c (number d)))
-      go true false i j = beyond s (omega arith) (j tt) (c (number d))
+  cut-number w s m n c =
+      let a : ℕ = unpackLittleEndian w (take w (drop (s .at) d)) in
+      rw (bind-test (leb (s .at + w) (length d)) _ _ _) (post-test (leb (s .at + w) (length d)) _ (λ _. m a (move w s)) (λ _. follows {y = n a (move w s)} (omega arith)
+      (λ i. rw (front-length, le-leb (s .at + w) k i, front-bytes (s .at) w i))
+      (λ _ i. (s, rw (front-length, lt-leb (s .at + w) k i)))
+      (c a)) (λ _. tt))
 
   -- the count, and the numbers where they are all there: the lengths differ, by which both are compared
   cut-numbers : (w : ℕ) (s : State) → 0 < w → Cut k (s .at) (takeNumbers d w s) (takeNumbers (take k d) w s)
   unfolding takeNumbers
-  cut-numbers w s pos = cut-number 8 s _ _ (λ a. rw front-length (go a (leb a ((length d - s .at - 8) / w)) (leb a ((k - s .at - 8) / w)) (leb→le a ((k - s .at - 8) / w)) (nleb→lt a ((k - s .at - 8) / w))))
-    where
-      numbers : ℕ → List ℕ → List ℕ
-      numbers a bytes = unpackLittleEndianSeq w (take (w * a) (drop (s .at + 8) bytes)) a
-
-      end : ℕ → State
-      end a = move (w * a) (move 8 s)
-
-      -- all are there in the first k bytes, which may end before the count does
-      there : (a : ℕ) → w * a ≤ k - s .at - 8 → Dec (s .at + 8 ≤ k) → Cut k (s .at + 8) (yield (numbers a d) (end a)) (yield (numbers a (take k d)) (end a))
-      there a h (yes i) = rw (front-bytes (s .at + 8) (w * a) (omega arith)) (same (numbers a d) (end a) (omega arith) (omega arith))
-      there a h (no i) = past (numbers a d) (end a) _ (omega (arith, i)) (omega arith)
-
-      missing : (a : ℕ) → (k - s .at - 8) / w < a → Dec (w * a ≤ k - s .at - 8) → k < s .at + 8 + w * a
-      missing a h (yes i) = let j : a ≤ (k - s .at - 8) / w = count-fits pos .1 i in absurd (omega arith)
-      missing a h (no i) = omega (arith, i)
-
-      go : (a : ℕ) (b f : Bool) → (T f → a ≤ (k - s .at - 8) / w) → (T (not f) → (k - s .at - 8) / w < a) → Cut k (s .at + 8) (test b (stop 9 s) (λ _. yield (numbers a d) (end a))) (test f (stop 9 s) (λ _. yield (numbers a (take k d)) (end a)))
-      go a false f i j = unread _ _
-      go a true true i j = there a (count-fits pos .0 (i tt)) (decLe (s .at + 8) k)
-      go a true false i j = lost (numbers a d) (end a) s (omega arith) (missing a (j tt) (decLe (w * a) (k - s .at - 8)))
+  cut-numbers w s pos = cut-number 8 s _ _ (λ a. post-test (leb a ((length d - s .at - 8) / w)) _ _ (λ _. gives (record {
+    forward = omega arith;
+    same = λ i. rw (front-length, le-leb a ((k - s .at - 8) / w) (count-fits pos .1 (omega arith)), front-bytes (s .at + 8) (w * a) i);
+    lost = λ i j. (s, rw (front-length, lt-leb a ((k - s .at - 8) / w) (div-lt-iff-lt-mul pos .1 (rw (mul-comm a w) (omega arith)))));
+  })) (λ _. tt))
 
   -- ---- the readings
 
@@ -160,24 +136,17 @@ module _ (d : List ℕ) (k : ℕ) (l : k ≤ length d) where
       cut-fields (gcons g gs) s = cut-both _ _ (cut-claimed capacity _ _ s (cut-body g (begin s))) (λ t. cut-fields gs t)
 
       cut-case : (gs : Gs) (c : ℕ) (s t : State) → Cut k (t .at) (readCaseAt capacity d gs c s t) (readCaseAt capacity (take k d) gs c s t)
-      cut-case gnil c s t = unread _ _
+      cut-case gnil c s t = fails _ tt
       cut-case (gcons g gs) zero s t = cut-claimed capacity _ _ t (cut-body g (begin t))
       cut-case (gcons g gs) (suc c) s t = cut-case gs c s t
 
     cut-val : (g : G) (s : State) → Cut k (s .at) (readVal capacity d g s) (readVal capacity (take k d) g s)
     cut-val g s = cut-claimed capacity _ _ s (cut-body g (begin s))
 
--- a reading that began within the first k bytes and ended behind them
-cut-lost : {A : Type 0} {k p : ℕ} {x y : Reading A} → Cut k p x y → (t : Step State A) → x ≡ accepted t → p ≤ k → k < t .state .at → (u : State) × (y ≡ refused (stop 9 u))
-cut-lost (same a s i j) t e h l = let q : s ≡ t .state = cc in let n : s .at ≡ t .state .at = ap (λ (v : State). v .at) q in absurd (omega arith)
-cut-lost (lost a s u i j) t e h l = (u, refl)
-cut-lost (past a s y i j) t e h l = absurd (omega arith)
-cut-lost (unread r y) t e h l = let z : _≡_ {A = ℕ} 0 1 = cc in absurd (omega arith)
-
 -- the first k bytes of a record accepted whole, fewer than all, are refused with 9
 pub whole-cut : (capacity : ℕ) (d : List ℕ) (g : G) (t : Step State Val) → readWhole capacity d g ≡ accepted t → (k : ℕ) → k < length d → (u : State) × (readWhole capacity (take k d) g ≡ refused (stop 9 u))
 unfolding readWhole
 whole-cut capacity d g t h k l =
     let x = post-accepted (rw h at (whole-post capacity d g)) in
-    let c = cut-lost (cut-val d k (omega arith) capacity g (start 0)) t (x .0) (omega arith) (omega (arith, x .1)) in
+    let c = post-accepted (rw (x .0) at (cut-val d k (omega arith) capacity g (start 0))) .lost (omega arith) (omega (arith, x .1)) in
     (c .0, ap (λ (y : Reading Val). next y (atEnd (take k d))) (c .1))
