@@ -213,7 +213,8 @@ route_answer route_pack_u64_seq(const uint64_t *numbers, size_t numbers_len, uin
  * 0 constant, 1 uint32, 2 uint64, 3 array, 4 tuple, 5 array of bytes, 6 array of uint32, 7 array of
  * uint64, 8 tagged union, 9 int32, 10 int64. */
 
-/* Accepts the words that are a sound table; child words of no node are not looked at. Changes nothing.
+/* Accepts the words that are a sound table; child words of no node are not looked at. Changes
+ * nothing.
  * Refused: 1 at word 0, when words_len is 0, or N is 0 or above 256;
  * 2 at word 1 + 3N, when M's word is missing, M is above 1024, or words_len is not 2 + 3N + M;
  * then, node after node, from node 0 on:
@@ -285,9 +286,9 @@ route_answer route_signed_number(const uint64_t *rows, size_t rows_len, size_t n
  * end.
  *
  * 9 does not mean a cut record: under a tagged union without cases, which has no record, the empty
- * bytes are refused with 9. And of a reading from an index (route_parse_val, route_check_val) the
- * statement is false: under a uint32, from byte 0 on, 9 bytes are accepted, and the first 5 of them
- * too. */
+ * bytes are refused with 9, with a row lent or more. And of a reading from an index
+ * (route_parse_val, route_check_val) the statement is false: under a uint32, from byte 0 on, 9
+ * bytes are accepted, and the first 5 of them too. */
 
 /* Reads from byte index on. The rows lent are rows_len divided by 4, rounded down, at most 4096;
  * none with rows_len 0. Changes only rows 0 to n - 1, which stand for the value, with the record as
@@ -351,11 +352,11 @@ route_answer route_marshall(const uint32_t *grammar, size_t grammar_len, const u
                             size_t rows_len, size_t n, const uint8_t *store, size_t store_len,
                             uint8_t *out, size_t out_len);
 
-/* Answers as route_marshall_val would, and changes nothing: number, place and `first`, the size, are
- * those that it would give with the same arguments, and `second` is how many bytes of out would
+/* Answers as route_marshall_val would, and changes nothing: number, place and `first`, the size,
+ * are those that it would give with the same arguments, and `second` is how many bytes of out would
  * differ after that writing, at most the size. A byte that would be written over with what it holds
- * already does not count, so 0 says that out holds the value's bytes at index. The arrays may overlap. It uses less than 1 MiB of stack, on values as
- * deep as 4096 rows can be.
+ * already does not count, so 0 says that out holds the value's bytes at index. The arrays may
+ * overlap. It uses less than 1 MiB of stack, on values as deep as 4096 rows can be.
  * Refused: as route_marshall_val. */
 ROUTE_NODISCARD
 route_answer route_preview(const uint32_t *grammar, size_t grammar_len, const uint64_t *rows,

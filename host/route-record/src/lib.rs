@@ -28,9 +28,9 @@
 //! another cause, so sending again should have an end.
 //!
 //! 9 does not mean a cut record: a union without cases has no record, and under it the empty bytes
-//! are refused with 9. And of a reading from an index ([`calls::parse_val`], [`calls::check_val`])
-//! the statement is false: under a uint32, from byte 0 on, 9 bytes are accepted, and the first 5 of
-//! them too.
+//! are refused with 9, with a row lent or more. And of a reading from an index
+//! ([`calls::parse_val`], [`calls::check_val`]) the statement is false: under a uint32, from byte 0
+//! on, 9 bytes are accepted, and the first 5 of them too.
 //!
 //! ```
 //! use route_record::{Grammar, Refusal};
