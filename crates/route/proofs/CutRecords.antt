@@ -31,7 +31,7 @@ use Rattle.route.proofs.Reading.{demarshall-read, rows-kept}
 use Rattle.route.proofs.Examples.{reading-A}
 use Rattle.route.proofs.Accepted.{number-zero}
 
--- a call that accepted passed 1 to 6, and so does one with the same grammar and a front part, which is no longer
+-- a call that accepted passed 1 to 6, and so does one with the same grammar and a front part, since that is not longer than the record
 reading : CutReading
 reading g d part capacity t h p =
     let k : ℕ = p .front .count in
@@ -70,11 +70,11 @@ cut-records = record {
 pub proper-front : (d : List ℕ) (k : ℕ) → k < length d → ProperFrontPart (take k d) d
 proper-front d k l = record { front = record { count = k; most = omega arith; first = refl }; less = omega arith }
 
--- case A: each of its proper front parts, with whatever rows of the capacity that `reading-A` lends
+-- case A: each of its proper front parts, with whatever rows, of the capacity that `reading-A` lends
 pub cut-A : (k : ℕ) → k < 14 → (rows exit : List ℕ) (q : Parsed) → capacityOf (length rows) ≡ 3 → Parses (demarshallOf grammarA (take k recordA) (capacityOf (length rows))) 0 q rows exit → RefusedWith9 (parsedOf q) × (exit ≡ rows)
 cut-A k l rows exit q n h = cut-records .whole grammarA recordA (take k recordA) _ _ rows exit _ q (reading-A .call) _ refl (proper-front recordA k l) n h
 
--- no case has a tag of the empty union
+-- the empty union has no case, so no tag is accepted
 no-record : (d : List ℕ) (capacity : ℕ) (t : Step State Val) → ¬ (demarshallOf grammarD d capacity ≡ accepted t)
 unfolding treeOf treeTo nodeTree childTrees kindOf kinds readBody
 no-record d capacity t h =

@@ -1,5 +1,5 @@
--- Document 01's bench examples A to F, all their cases, and document 02's, as one list: a call with its inputs, and what the papers expect
--- of it.
+-- Document 01's bench examples A to F, all their cases, and examples of document 02's requests 01 and 04, as one list: a call with its inputs,
+-- and what the papers, or what follows from them, expect of it.
 use mathlib.Core.Path.{_≡_}
 use mathlib.Core.List.{List, [], _∷_, _++_, map}
 use Prim.Native.Nat.{ℕ, zero, suc}

@@ -33,9 +33,8 @@ CutReading =
     (g d part : List ℕ) (capacity : ℕ) (t : Step State Val) → demarshallOf g d capacity ≡ accepted t
     → ProperFrontPart part d → RefusedWith9 (demarshallOf g part capacity)
 
--- Nothing is asked of the grammar, the bytes or the capacity but that the record is accepted. It would be empty if no record that has bytes
--- were, or had no such part: case A's is and has (`cut-A` of proofs/CutRecords.antt), and `bench` has each of its proper front parts with the
--- place
+-- Nothing is asked of the grammar, the bytes or the capacity but that the record is accepted. It would say nothing if no record that has bytes
+-- were: case A's is (`cut-A` of proofs/CutRecords.antt), and `bench` has each of its proper front parts with the place
 pub record CutRecords : Type 0 where
   pub reading : CutReading
   -- of `check_whole`, at the capacity that its contract names. The answers of `demarshall` are such answers, too (`answers` of `Parses`), so

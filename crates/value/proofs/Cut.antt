@@ -42,7 +42,8 @@ Cut k p x y = Post (CutAt k p y) (λ _. Unit {0}) x
 
 -- ---- one step behind another
 
--- what follows what ended at byte q
+-- a step from byte q on, behind one from byte p on that ended there. Of the first k bytes, z is both: the second, y, where the first ended within
+-- them, else refused with 9
 follows : {A : Type 0} {k p q : ℕ} {x y z : Reading A} → p ≤ q → (q ≤ k → z ≡ y) → (p ≤ k → k < q → Lost z) → Cut k q x y → Cut k p x z
 follows {A} {k} {p} {q} {x} {y} {z} h e l c = post-weaken from (λ _ _. tt) c
   where
@@ -73,7 +74,7 @@ cut-give f c = cut-next _ _ c (λ a t. cut-yield (f a) t)
 cut-both : {k p : ℕ} {x y : Reading Val} (m n : State → Reading Vals) → Cut k p x y → ((t : State) → Cut k (t .at) (m t) (n t)) → Cut k p (both x m) (both y n)
 cut-both m n c f = cut-next _ _ c (λ v t. cut-give (vcons v) (f t))
 
--- ---- the steps, which test the same or by the bytes left
+-- ---- the steps: some test the same of both, others how many bytes are left
 
 cut-test : {A : Type 0} {k p : ℕ} (b : Bool) (e : Stop) (m n : Unit {0} → Reading A) → Cut k p (m tt) (n tt) → Cut k p (test b e m) (test b e n)
 cut-test true e m n c = c
@@ -108,7 +109,7 @@ module _ (d : List ℕ) (k : ℕ) (l : k ≤ length d) where
       (λ _ i. (s, rw (front-length, lt-leb (s .at + w) k i)))
       (c a)) (λ _. tt))
 
-  -- the count, and the numbers where they are all there: the lengths differ, by which both are compared
+  -- a count and its numbers. The count is compared with the bytes left, of which the record has more than its first k bytes
   cut-numbers : (w : ℕ) (s : State) → 0 < w → Cut k (s .at) (takeNumbers d w s) (takeNumbers (take k d) w s)
   unfolding takeNumbers
   cut-numbers w s pos = cut-number 8 s _ _ (λ a. post-test (leb a ((length d - s .at - 8) / w)) _ _ (λ _. gives (record {
