@@ -277,13 +277,13 @@ route_answer route_signed_number(const uint64_t *rows, size_t rows_len, size_t n
  * 256 nodes can be.
  *
  * Cut records: a proper front part of a record is its first bytes, from none to all but one. The
- * capacity is the number of rows lent, for a check 4096. It is proved of the whole reading
- * (route_demarshall, route_check_whole) that every proper front part of a record that is accepted,
- * with the same grammar and capacity, is refused with 9 and with nothing else. What a program may
- * conclude: if a record that this grammar and capacity accept was cut, the answer is 9; so an
- * answer other than 9, accepted too, is never that of such a record with its tail lost, and sending
- * again on 9 alone misses none of them. A 9 may have another cause, so sending again should have an
- * end.
+ * capacity is the number of rows lent, for a check 4096. It is proved (docs/PROMISES.md, request
+ * 04) of the whole reading (route_demarshall, route_check_whole) that every proper front part of a
+ * record that is accepted, with the same grammar and capacity, is refused with 9 and with nothing
+ * else. What a program may conclude: if a record that this grammar and capacity accept was cut, the
+ * answer is 9; so an answer other than 9, accepted too, is never that of such a record with its
+ * tail lost, and sending again on 9 alone misses none of them. A 9 may have another cause, so
+ * sending again should have an end.
  *
  * 9 does not mean a cut record: under a tagged union without cases, which has no record, the empty
  * bytes are refused with 9, with a row lent or more. And of a reading from an index

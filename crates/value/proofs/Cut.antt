@@ -109,7 +109,7 @@ module _ (d : List ℕ) (k : ℕ) (l : k ≤ length d) where
       (λ _ i. (s, rw (front-length, lt-leb (s .at + w) k i)))
       (c a)) (λ _. tt))
 
-  -- a count and its numbers. The count is compared with the bytes left, of which the record has more than its first k bytes
+  -- a count and its numbers. The count is compared with the bytes left, of which the record may have more than its first k bytes
   cut-numbers : (w : ℕ) (s : State) → 0 < w → Cut k (s .at) (takeNumbers d w s) (takeNumbers (take k d) w s)
   unfolding takeNumbers
   cut-numbers w s pos = cut-number 8 s _ _ (λ a. post-test (leb a ((length d - s .at - 8) / w)) _ _ (λ _. gives (record {

@@ -1,4 +1,4 @@
-//! A case on which the library and the model differ.
+//! A case, and what comes of it by the model and by the library.
 
 use std::fmt;
 
@@ -7,7 +7,7 @@ use crate::{Case, Line, Outcome};
 /// What is printed before the reading of a front part beside an accepted whole reading.
 const FRONT_PART: &str = "a front part of the record, to be refused with 9:";
 
-/// A case on which the library and the model differ.
+/// A case with what comes of it by each: one on which they differ, or that of a front part.
 #[derive(Clone, Debug, PartialEq, Eq)]
 pub struct Difference {
     /// The case.

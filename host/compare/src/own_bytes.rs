@@ -2,6 +2,8 @@
 
 use route_record::ROW_WORDS;
 
+use crate::row_table::{element_width, head_width};
+
 /// The bytes of a record that a row adds to it, without those of its children.
 pub struct OwnBytes {
     /// The row's kind.
@@ -19,17 +21,9 @@ pub struct OwnBytes {
 pub fn own_bytes(rows: &[u64]) -> Vec<OwnBytes> {
     let mut start = 0;
     let of_row = |row: &[u64]| {
-        let (kind, count) = (row[0], row[2] as usize);
-        let (head, elements) = match kind {
-            0 | 4 => (0, 0),
-            1 | 9 => (4, 0),
-            5 => (8, count),
-            6 => (8, 4 * count),
-            7 => (8, 8 * count),
-            _ => (8, 0),
-        };
-        let head_end = start + head;
-        let end = head_end + elements;
+        let kind = row[0];
+        let head_end = start + head_width(kind);
+        let end = head_end + element_width(kind).map_or(0, |width| width * row[2] as usize);
         let own = OwnBytes {
             kind,
             start,

@@ -20,6 +20,15 @@ pub(crate) fn element_width(kind: u64) -> Option<usize> {
     }
 }
 
+/// The bytes of the number, the count or the tag that a row of this kind adds to its record.
+pub(crate) fn head_width(kind: u64) -> usize {
+    match kind {
+        0 | 4 => 0,
+        1 | 9 => 4,
+        _ => 8,
+    }
+}
+
 /// A value laid out as rows, with its record as the store.
 #[derive(Default)]
 pub struct RowTable {
@@ -57,12 +66,7 @@ impl RowTable {
             8 => random.number(),
             _ => random.within(0..=9) as u64,
         };
-        let own_bytes = match kind {
-            0 | 4 => 0,
-            1 | 9 => 4,
-            _ => 8,
-        };
-        self.record.extend(&word2.to_le_bytes()[..own_bytes]);
+        self.record.extend(&word2.to_le_bytes()[..head_width(kind)]);
         let elements = element_width(kind).map(|width| random.bytes(width * word2 as usize));
         let place = elements.as_ref().map_or(0, |_| self.record.len());
         self.record.extend(elements.unwrap_or_default());

@@ -44,8 +44,8 @@ pub static COMMANDS: [Command; 6] = [
         options: &[],
         records: "[RECORD]",
         summary: "Says whether the grammar is accepted, or the whole record under it.\n\
-                  If an accepted record loses its tail, what is left is refused with 9.\n\
-                  A 9 may have another cause.",
+                  If an accepted record loses its tail, what is left is refused with 9\n\
+                  under the same grammar. A 9 may have another cause.",
         example: "echo 07000000 | route check -g u32 --hex -",
         printed: "accepted: rows 1, bytes 4\n",
         run: check,

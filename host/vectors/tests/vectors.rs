@@ -217,8 +217,8 @@ fn whole_reading(case: &Case) -> Option<(&[u32], usize, &[u8])> {
     }
 }
 
-/// The lengths of the lines that read a proper front part of this line's record whole, under the same
-/// grammar and capacity. Each of them is refused with 9.
+/// The lengths of the proper front parts of this line's record that lines read whole, under the same
+/// grammar and capacity. Each of these lines is refused with 9.
 fn front_parts(whole: &Line, calls: &[Line]) -> BTreeSet<usize> {
     let (grammar, capacity, record) = whole_reading(&whole.case).expect("a whole reading");
     let mut lengths = BTreeSet::new();

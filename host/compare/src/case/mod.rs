@@ -9,8 +9,6 @@ mod outcome;
 pub use field::Field;
 pub use outcome::{Answer, Outcome};
 
-use std::hash::{DefaultHasher, Hash, Hasher};
-
 use field::Given;
 
 use crate::{Difference, Random, Value};
@@ -182,16 +180,16 @@ impl Case {
     }
 
     /// The same reading of a proper front part of the record, if the case is a whole reading and the
-    /// record is not empty. The length is random, and the same for equal cases.
+    /// record is not empty. The length is random, and the same for equal records.
     pub fn front_part(&self) -> Option<Case> {
         let mut front = self.clone();
         let (Case::Demarshall { record, .. } | Case::CheckWhole { record, .. }) = &mut front else {
             return None;
         };
         let longest = record.len().checked_sub(1)?;
-        let mut hasher = DefaultHasher::new();
-        self.hash(&mut hasher);
-        record.truncate(Random::new(hasher.finish()).within(0..=longest));
+        let of_bytes = |seed, &byte: &u8| Random::new(seed ^ u64::from(byte)).number();
+        let seed = record.iter().fold(0, of_bytes);
+        record.truncate(Random::new(seed).within(0..=longest));
         Some(front)
     }
 

@@ -67,8 +67,8 @@ impl Answer {
 /// What comes of a case: the answer, and everything that the call was given as it is afterwards,
 /// the margins around the lent buffer included. So two outcomes are equal only if the buffers are,
 /// and if nothing outside them and nothing that is only read was changed differently. Outcomes
-/// of previews are equal only if the writings beside them answer and change alike, too, and outcomes
-/// of accepted whole readings only if the readings of front parts beside them are sound.
+/// of previews are equal only if the writings beside them answer and change alike, too, and that of an
+/// accepted whole reading equals the model's only if the reading of a front part beside it is sound.
 #[derive(Clone, Debug, PartialEq, Eq)]
 pub struct Outcome {
     /// The answer.
@@ -138,7 +138,7 @@ impl Outcome {
     }
 
     /// The outcome of an accepted whole reading beside that of a proper front part of its record,
-    /// which is sound if both refuse it with 9 at the same byte and change nothing.
+    /// which is sound if library and model refuse it with 9 at the same byte and change nothing.
     pub fn beside_front(self, front: Difference) -> Outcome {
         let is_sound = front.library == front.model && front.library.is_refused_with_9(&front.case);
         Outcome {

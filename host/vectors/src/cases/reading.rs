@@ -620,13 +620,14 @@ fn fields_cut(list: &mut List) {
             lengths.extend([own.head_end, middle, own.end - 1]);
         }
     }
+    let of_first = |length| format!("{name}, the first {length} of {} bytes", record.len());
     for length in lengths {
-        let name = format!("{name}, the first {length} of 131 bytes");
-        list.add(&name, demarshall(grammar, &record[..length], words));
+        let case = demarshall(grammar, &record[..length], words);
+        list.add(&of_first(length), case);
     }
     for length in [0, 20, 70, 99, 130] {
-        let name = format!("{name}, the first {length} of 131 bytes");
-        list.add(&name, check_whole(grammar, &record[..length]));
+        let case = check_whole(grammar, &record[..length]);
+        list.add(&of_first(length), case);
     }
 }
 
