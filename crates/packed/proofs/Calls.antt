@@ -13,6 +13,7 @@ use Rattle.refusal.specs.Outcome.{Outcome, accepted, refused, test, map, Fills,
 use Rattle.refusal.proofs.Tests.{leb-iff}
 use Rattle.refusal.proofs.Outcome.{test-true, test-false, test-passed, fills-refused, fills-accepted}
 use Rattle.packed.specs.Packed.{present, room, unpackLittleEndian, unpackLittleEndianSeq, packLittleEndianSeq, unpackAt, unpackSeqAt, put, putAt}
+use Rattle.packed.specs.Steps.{UnpackedTo, PackedTo}
 use Rattle.packed.proofs.Laws.{length-unpackSeq, unpackSeq-take, length-packSeq}
 use Rattle.packed.proofs.Put.{put-whole}
 
@@ -32,6 +33,10 @@ module _ (len index size : ℕ) where
   unfolding present
   present-inside h = test-true _ _ (le-leb index len h)
 
+  pub present-all : index + size ≤ len → accepted tt ≡ present len index size
+  unfolding present
+  present-all h = sym (test-true _ _ (le-leb index len (omega arith)) ∙ test-true _ _ (le-leb (index + size) len h))
+
   pub present-fits : accepted tt ≡ present len index size → index + size ≤ len
   unfolding present
   present-fits h =
@@ -41,6 +46,10 @@ module _ (len index size : ℕ) where
   pub room-test : room len index size ≡ test (leb (index + size) len) (reason 17 (byte len)) accepted
   unfolding room
   room-test = refl
+
+  pub room-all : index + size ≤ len → accepted tt ≡ room len index size
+  unfolding room
+  room-all h = sym (test-true _ _ (le-leb (index + size) len h))
 
   pub room-fits : accepted tt ≡ room len index size → index + size ≤ len
   unfolding room
@@ -55,30 +64,26 @@ module _ (w : ℕ) (s : List ℕ) (index : ℕ) where
   unfolding bytes
   unpack-refused h = ap (λ (o : Outcome Reason (Unit {0})). map (unpackLittleEndian w) (bytes w o)) h
 
-  pub unpack-accepted : {n : ℕ} → accepted tt ≡ present (length s) index w → n ≡ unpackLittleEndian w (take w (drop index s)) → accepted n ≡ unpackAt w s index
-  unfolding bytes
-  unpack-accepted h e = ap accepted e ∙ ap (λ (o : Outcome Reason (Unit {0})). map (unpackLittleEndian w) (bytes w o)) h
-
   module _ (numbers : List ℕ) where
     pub unpackSeq-refused : {x : Reason} → refused x ≡ present (length s) index (w * length numbers) → Fills (unpackSeqAt w s index (length numbers)) (refused x) numbers numbers
     unfolding bytes
     unpackSeq-refused h = fills-refused (λ bs. unpackLittleEndianSeq w bs (length numbers)) numbers (ap (bytes (w * length numbers)) h)
 
     -- a loop has unpacked all i numbers
-    pub unpackSeq-accepted : {exit : List ℕ} (i : ℕ) → i ≡ length numbers → exit ≡ put numbers 0 (unpackLittleEndianSeq w (drop index s) i) → accepted tt ≡ present (length s) index (w * length numbers) → Fills (unpackSeqAt w s index (length numbers)) (accepted tt) numbers exit
+    pub unpackSeq-accepted : {exit : List ℕ} (i : ℕ) → i ≡ length numbers → UnpackedTo w s index numbers i exit → accepted tt ≡ present (length s) index (w * length numbers) → Fills (unpackSeqAt w s index (length numbers)) (accepted tt) numbers exit
     unfolding bytes
     unpackSeq-accepted i e f h =
         let l : length (unpackLittleEndianSeq w (drop index s) i) ≡ length numbers = length-unpackSeq w (drop index s) i ∙ e in
         fills-accepted (λ bs. unpackLittleEndianSeq w bs (length numbers)) numbers (ap (bytes (w * length numbers)) h)
         (f ∙ put-whole numbers (unpackLittleEndianSeq w (drop index s) i) l ∙ ap (unpackLittleEndianSeq w (drop index s)) e ∙ sym (unpackSeq-take w (length numbers) (w * length numbers) (drop index s) (le-refl (w * length numbers))))
 
--- the invariant of the loop that unpacks a sequence: the bytes are there, and the slice holds the first i numbers before what it held
-abbrev pub UnpackedTo : ℕ → List ℕ → ℕ → List ℕ → List ℕ → ℕ → Type 0
-UnpackedTo w packed index entry numbers i = (i ≤ length entry) × (length numbers ≡ length entry) × (index + w * length entry ≤ length packed) × (numbers ≡ put entry 0 (unpackLittleEndianSeq w (drop index packed) i))
+-- the loop that unpacks a sequence: the bytes are there, and the first i numbers are unpacked
+abbrev pub Unpacking : ℕ → List ℕ → ℕ → List ℕ → List ℕ → ℕ → Type 0
+Unpacking w s index entry numbers i = (i ≤ length entry) × (length numbers ≡ length entry) × (index + w * length entry ≤ length s) × UnpackedTo w s index entry i numbers
 
--- of the loop that packs one: there is room, and exactly the first i numbers are put
-abbrev pub PackedTo : ℕ → List ℕ → List ℕ → ℕ → List ℕ → ℕ → Type 0
-PackedTo w numbers entry index out i = (i ≤ length numbers) × (length out ≡ length entry) × (index + w * length numbers ≤ length entry) × (out ≡ put entry index (packLittleEndianSeq w (take i numbers)))
+-- the loop that packs one: there is room, and the first i numbers are put
+abbrev pub Packing : ℕ → List ℕ → List ℕ → ℕ → List ℕ → ℕ → Type 0
+Packing w numbers entry index out i = (i ≤ length numbers) × (length out ≡ length entry) × (index + w * length numbers ≤ length entry) × PackedTo w numbers entry index i out
 
 -- putting bytes that have room, or refused
 module _ (out : List ℕ) (index : ℕ) (bs : List ℕ) (size : ℕ) (l : length bs ≡ size) where
@@ -93,7 +98,7 @@ module _ (w : ℕ) (numbers out : List ℕ) (index : ℕ) where
   pub packSeq-refused : {x : Reason} → refused x ≡ room (length out) index (w * length numbers) → Fills (putAt out index (packLittleEndianSeq w numbers)) (refused x) out out
   packSeq-refused h = put-refused out index (packLittleEndianSeq w numbers) (w * length numbers) (length-packSeq w numbers) h
 
-  pub packSeq-accepted : {exit : List ℕ} (i : ℕ) → i ≡ length numbers → exit ≡ put out index (packLittleEndianSeq w (take i numbers)) → accepted tt ≡ room (length out) index (w * length numbers) → Fills (putAt out index (packLittleEndianSeq w numbers)) (accepted tt) out exit
+  pub packSeq-accepted : {exit : List ℕ} (i : ℕ) → i ≡ length numbers → PackedTo w numbers out index i exit → accepted tt ≡ room (length out) index (w * length numbers) → Fills (putAt out index (packLittleEndianSeq w numbers)) (accepted tt) out exit
   packSeq-accepted i e f h =
       put-accepted out index (packLittleEndianSeq w numbers) (w * length numbers) (length-packSeq w numbers) h
       (f ∙ ap (λ (ns : List ℕ). put out index (packLittleEndianSeq w ns)) (take-all i numbers (omega arith)))

@@ -1,14 +1,13 @@
 -- The laws of a number's bytes, once for every width.
-use mathlib.Core.Path.{_≡_, refl, ap, sym, subst, _∙_}
+use mathlib.Core.Path.{_≡_, refl, ap, sym, _∙_}
 use mathlib.Core.Logic.{_↔_}
 use mathlib.Core.List.{List, [], _∷_, _++_, append-assoc, append-nil}
-use Prim.Native.Nat.{ℕ, zero, suc, _+_, _-_, _*_, _/_, _%_, _^_, _<_, _≤_, suc-le-suc}
-use native.Mathlib.Nat.{pow-suc, pow-succ', pow-le-pow-right, mul-le-mul-right, mul-left-comm, div-div-eq-div-mul, div-one, lt-of-lt-of-le, le-of-suc-le-suc, mul-suc, mul-zero, add-comm, mod-eq-of-lt, le-refl}
+use Prim.Native.Nat.{ℕ, zero, suc, _+_, _*_, _/_, _%_, _^_, _<_, _≤_, zero-le, suc-le-suc}
+use native.Mathlib.Nat.{pow-suc, pow-succ', pow-le-pow-right, mul-le-mul-right, mul-left-comm, div-div-eq-div-mul, div-one, lt-of-lt-of-le, lt-of-le-of-lt, le-of-suc-le-suc, mul-suc, mul-zero, add-comm, mod-eq-of-lt, le-refl}
 use native.Mathlib.Numerals.{add-one}
 use native.Mathlib.Omega.{arith}
 use lib.ListN.{length, getD, take, drop, length-append, length-drop}
 use lib.Dec.{lit<}
-use lib.Pow.{pow-pos, pow-add, shl-exact}
 use lib.Arith.{mod-mul}
 use lib.Seq.{getD-drop, getD-take, take-all, drop-drop, take-take, take-add, take-at, drop-at}
 use Rattle.packed.specs.Packed.{Bytes, Below, unpackLittleEndian, unpackLittleEndianSeq, packLittleEndian, packLittleEndianSeq}
@@ -22,15 +21,12 @@ bytes-take (suc n) [] h j = lit< tt
 bytes-take (suc n) (b ∷ bs) h zero = h 0
 bytes-take (suc n) (b ∷ bs) h (suc j) = bytes-take n bs (λ k. h (suc k)) j
 
--- a shift by i bytes
-pub byte-weight : (i : ℕ) → 2 ^ (8 * i) ≡ 256 ^ i
-byte-weight zero = refl
-byte-weight (suc i) =
-    let e : 8 * suc i ≡ 8 * i + 8 = omega arith in
-    rw (e, pow-add 2 (8 * i) 8, byte-weight i, pow-suc 256 i)
+pub pow-256 : (i : ℕ) → 0 < 256 ^ i
+pow-256 i = pow-le-pow-right {n = 256} (lit< tt) zero-le
 
-pow-256 : (i : ℕ) → 0 < 256 ^ i
-pow-256 i = subst (λ (n : ℕ). 0 < n) (byte-weight i) (pow-pos (8 * i))
+-- the weight of a byte of a u64
+pub weight-fits : (i : ℕ) → i < 8 → 256 ^ i < 2 ^ 64
+weight-fits i l = let s : i ≤ 7 = omega arith in lt-of-le-of-lt (pow-le-pow-right {n = 256} (lit< tt) s) (lit< tt)
 
 -- Unpacking.
 
@@ -63,16 +59,11 @@ unpack-cons (suc w) b bs =
     let e : getD bs w 0 * 256 ^ suc w ≡ 256 * (getD bs w 0 * 256 ^ w) = rw (pow-succ', mul-left-comm) in
     omega (arith, e, unpack-cons w b bs)
 
--- unpacking by a loop: the sum of i bytes, shifted in by one byte more
-module _ (bs : List ℕ) (index i : ℕ) (h : Bytes bs) (l : i < 8) where
-  pub unpack-next : unpackLittleEndian i (drop index bs) + (getD bs (index + i) 0 * 2 ^ (8 * i)) % 2 ^ 64 ≡ unpackLittleEndian (i + 1) (drop index bs)
-  unfolding unpackLittleEndian
-  unpack-next = let s : 8 + 8 * i ≤ 64 = omega arith in
-      rw (add-one, getD-drop, shl-exact {a = getD bs (index + i) 0} 8 (8 * i) 64 (h (index + i)) s, byte-weight)
-
-  pub unpack-fits : unpackLittleEndian (i + 1) (drop index bs) < 2 ^ 64
-  unpack-fits = let s : i + 1 ≤ 8 = omega arith in
-      lt-of-lt-of-le (unpack-below (i + 1) (drop index bs) (bytes-drop index bs h)) (pow-le-pow-right {n = 256} (lit< tt) s)
+-- the sum of the first bytes of a u64
+pub unpack-fits : (s : List ℕ) (index i : ℕ) → Bytes s → i < 8 → unpackLittleEndian (i + 1) (take (i + 1) (drop index s)) < 2 ^ 64
+unpack-fits s index i h l =
+    let e : i + 1 ≤ 8 = omega arith in
+    lt-of-lt-of-le (unpack-at-below (i + 1) s index h) (pow-le-pow-right {n = 256} (lit< tt) e)
 
 -- Packing.
 
@@ -87,13 +78,14 @@ pack-bytes zero n j = lit< tt
 pack-bytes (suc w) n zero = omega arith
 pack-bytes (suc w) n (suc j) = pack-bytes w (n / 256) j
 
--- the bytes by the last one
-pub pack-snoc : (w n : ℕ) → packLittleEndian (suc w) n ≡ packLittleEndian w n ++ (n / 256 ^ w % 256 ∷ [])
+-- byte i
+pub getD-pack : (w n i : ℕ) → i < w → getD (packLittleEndian w n) i 0 ≡ n / 256 ^ i % 256
 unfolding packLittleEndian
-pack-snoc zero n = rw div-one
-pack-snoc (suc w) n =
-    let e : n / 256 / 256 ^ w ≡ n / 256 ^ suc w = rw (div-div-eq-div-mul, pow-succ') in
-    ap (λ (l : List ℕ). n % 256 ∷ l) (pack-snoc w (n / 256) ∙ rw e)
+getD-pack zero n i h = absurd (omega arith)
+getD-pack (suc w) n zero h = rw div-one
+getD-pack (suc w) n (suc i) h =
+    let e : n / 256 / 256 ^ i ≡ n / 256 ^ suc i = rw (div-div-eq-div-mul, pow-succ') in
+    rw (getD-pack w (n / 256) i (omega arith), e)
 
 -- the first w of k bytes
 pub pack-front : (w k n : ℕ) → w ≤ k → take w (packLittleEndian k n) ≡ packLittleEndian w n

@@ -3,3 +3,4 @@ pub mod Put
 pub mod Calls
 pub mod Meaning
 pub mod Source
+pub mod Steps

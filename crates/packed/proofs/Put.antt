@@ -1,14 +1,13 @@
 -- Bytes put into an output at an index, as a loop puts them.
 use mathlib.Core.Path.{_≡_, sym, ap, _∙_}
 use mathlib.Core.List.{List, [], _∷_, _++_, append-assoc, append-nil}
-use Prim.Native.Nat.{ℕ, suc, _+_, _-_, _*_, _/_, _%_, _^_, _≤_, _<_}
-use native.Mathlib.Nat.{add-zero, add-assoc, mul-suc, mul-le-mul-left}
+use Prim.Native.Nat.{ℕ, suc, _+_, _≤_, _<_}
+use native.Mathlib.Nat.{add-zero, add-assoc}
 use native.Mathlib.Numerals.{add-one}
 use native.Mathlib.Omega.{arith}
 use lib.ListN.{length, getD, set, take, drop, length-append, length-drop, take-append-drop, drop-of-length-le}
 use lib.Seq.{set-split, take-suc, take-at, drop-at, length-take-le, drop-drop}
-use Rattle.packed.specs.Packed.{put, packLittleEndian, packLittleEndianSeq, unpackLittleEndian, unpackLittleEndianSeq}
-use Rattle.packed.proofs.Laws.{length-pack, pack-snoc, length-packSeq, packSeq-append, packSeq-one, length-unpackSeq, unpackSeq-snoc}
+use Rattle.packed.specs.Packed.{put}
 
 pub length-put : (out : List ℕ) (index : ℕ) (bs : List ℕ) → index + length bs ≤ length out → length (put out index bs) ≡ length out
 unfolding put
@@ -17,6 +16,13 @@ length-put out index bs h = rw (length-append, length-append, length-take-le ind
 pub put-nothing : (out : List ℕ) (index : ℕ) → put out index [] ≡ out
 unfolding put
 put-nothing out index = rw (add-zero index, take-append-drop)
+
+-- the bytes that stand there
+pub put-same : (out : List ℕ) (index i : ℕ) → index + i ≤ length out → put out index (take i (drop index out)) ≡ out
+unfolding put
+put-same out index i h =
+    let l : length (take i (drop index out)) ≡ i = length-take-le i (drop index out) (rw length-drop (omega arith)) in
+    rw (l, sym (drop-drop i index out), take-append-drop, take-append-drop)
 
 -- bytes that fill the whole output
 pub put-whole : (out bs : List ℕ) → length bs ≡ length out → put out 0 bs ≡ bs
@@ -47,30 +53,7 @@ put-next out now index i b bs e l h =
     let n : length (put out index bs) ≡ length out = length-put out index bs (omega arith) in
     rw e (put-one (put out index bs) (index + i) b (omega arith) ∙ put-more out index bs (b ∷ []) (index + i) (omega arith) (omega arith))
 
--- a loop that packs a number byte by byte: after i bytes exactly its first i are put
-pub pack-next : (out now : List ℕ) (index n i rest : ℕ) → now ≡ put out index (packLittleEndian i n) → rest ≡ n / 256 ^ i → index + i < length out → set now (index + i) (rest % 256) ≡ put out index (packLittleEndian (i + 1) n)
-pack-next out now index n i rest e r h = put-next out now index i (rest % 256) (packLittleEndian i n) e (length-pack i n) h ∙ rw (add-one, pack-snoc, r)
-
 -- a loop that copies: after i elements exactly the first i are put
 pub copy-next : (out now : List ℕ) (index : ℕ) (src : List ℕ) (i : ℕ) → now ≡ put out index (take i src) → i < length src → index + length src ≤ length out → set now (index + i) (getD src i 0) ≡ put out index (take (i + 1) src)
 copy-next out now index src i e l h =
     put-next out now index i (getD src i 0) (take i src) e (length-take-le i src (omega arith)) (omega arith) ∙ rw (add-one, take-suc src i 0 l)
-
--- a loop that unpacks numbers into the front of a slice: after i numbers exactly the first i stand there
-pub unpackSeq-next : (w : ℕ) (s numbers now : List ℕ) (index i v : ℕ) → now ≡ put numbers 0 (unpackLittleEndianSeq w (drop index s) i) → i < length numbers → v ≡ unpackLittleEndian w (take w (drop (index + w * i) s)) → set now i v ≡ put numbers 0 (unpackLittleEndianSeq w (drop index s) (i + 1))
-unpackSeq-next w s numbers now index i v e l f =
-    let z : i ≡ 0 + i = omega arith in
-    ap (λ (k : ℕ). set now k v) z
-    ∙ put-next numbers now 0 i v (unpackLittleEndianSeq w (drop index s) i) e (length-unpackSeq w (drop index s) i) (omega arith)
-    ∙ rw (add-one, unpackSeq-snoc, drop-drop, f)
-
--- a loop that packs numbers one behind the other: after i numbers exactly the first i are put
-pub packSeq-next : (w : ℕ) (out now next : List ℕ) (index i : ℕ) (ns : List ℕ) → i < length ns → index + w * length ns ≤ length out → now ≡ put out index (packLittleEndianSeq w (take i ns)) → next ≡ put now (index + w * i) (packLittleEndian w (getD ns i 0)) → next ≡ put out index (packLittleEndianSeq w (take (i + 1) ns))
-packSeq-next w out now next index i ns h f e g =
-    let l : length (packLittleEndianSeq w (take i ns)) ≡ w * i = length-packSeq w (take i ns) ∙ ap (λ (k : ℕ). w * k) (length-take-le i ns (omega arith)) in
-    let m : w * suc i ≤ w * length ns = mul-le-mul-left w h in
-    let n : w * suc i ≡ w * i + w = mul-suc w i in
-    let p : length (packLittleEndian w (getD ns i 0)) ≡ w = length-pack w (getD ns i 0) in
-    let s : next ≡ put out index (packLittleEndianSeq w (take i ns) ++ packLittleEndian w (getD ns i 0)) =
-    g ∙ rw e (put-more out index (packLittleEndianSeq w (take i ns)) (packLittleEndian w (getD ns i 0)) (index + w * i) (omega arith) (omega arith)) in
-    s ∙ rw (add-one, take-suc ns i 0 h, packSeq-append, packSeq-one)

@@ -18,6 +18,18 @@ pub unpack-uint64 : (s : List ℕ) → unpackLittleEndian 8 s ≡ getD s 0 0 + g
 unfolding unpackLittleEndian
 unpack-uint64 s = omega arith
 
+-- both sums cut after their first summands, 1 to 3 of the one and 1 to 7 of the other: what unpacking holds after as many bytes
+pub unpack-cut : (s : List ℕ) →
+    (unpackLittleEndian 1 s ≡ getD s 0 0)
+    × (unpackLittleEndian 2 s ≡ getD s 0 0 + getD s 1 0 * 0x1_00)
+    × (unpackLittleEndian 3 s ≡ getD s 0 0 + getD s 1 0 * 0x1_00 + getD s 2 0 * 0x1_00_00)
+    × (unpackLittleEndian 4 s ≡ getD s 0 0 + getD s 1 0 * 0x1_00 + getD s 2 0 * 0x1_00_00 + getD s 3 0 * 0x1_00_00_00)
+    × (unpackLittleEndian 5 s ≡ getD s 0 0 + getD s 1 0 * 0x1_00 + getD s 2 0 * 0x1_00_00 + getD s 3 0 * 0x1_00_00_00 + getD s 4 0 * 0x1_00_00_00_00)
+    × (unpackLittleEndian 6 s ≡ getD s 0 0 + getD s 1 0 * 0x1_00 + getD s 2 0 * 0x1_00_00 + getD s 3 0 * 0x1_00_00_00 + getD s 4 0 * 0x1_00_00_00_00 + getD s 5 0 * 0x1_00_00_00_00_00)
+    × (unpackLittleEndian 7 s ≡ getD s 0 0 + getD s 1 0 * 0x1_00 + getD s 2 0 * 0x1_00_00 + getD s 3 0 * 0x1_00_00_00 + getD s 4 0 * 0x1_00_00_00_00 + getD s 5 0 * 0x1_00_00_00_00_00 + getD s 6 0 * 0x1_00_00_00_00_00_00)
+unfolding unpackLittleEndian
+unpack-cut s = (omega arith, omega arith, omega arith, omega arith, omega arith, omega arith, omega arith)
+
 -- unpack_LittleEndian_Uint32_Seq at w = 4, unpack_LittleEndian_Uint64_Seq at w = 8: the body, where len is 0 and where it is not
 pub unpackSeq-none : (w : ℕ) (packed : List ℕ) → unpackLittleEndianSeq w packed 0 ≡ []
 unfolding unpackLittleEndianSeq

@@ -1,12 +1,13 @@
 // The unpackers of PackedInts (PI): numbers out of bytes, least byte first, at an index of a lent slice, one by one and in runs. And what
 // its packers ask first: whether there is room.
 ghost use mathlib.Core.Path.{_≡_};
-ghost use Prim.Native.Nat.{_+_, _*_, _≤_};
-ghost use lib.ListN.{length, take, drop};
+ghost use Prim.Native.Nat.{_+_, _*_, _^_, _≤_, _<_};
+ghost use lib.ListN.{length};
 ghost use lib.Dec.{leb};
 ghost use Rattle.refusal.specs.Outcome.{Fills};
 ghost use Rattle.refusal.specs.Meaning.{outcomeOf};
-ghost use Rattle.packed.specs.Packed.{unpackLittleEndian, present as presentOf, room as roomOf, unpackAt, unpackSeqAt};
+ghost use Rattle.packed.specs.Packed.{present as presentOf, room as roomOf, unpackAt, unpackSeqAt};
+ghost use Rattle.packed.specs.Steps.{Summed};
 ghost use Rattle.packed.specs.Meaning.{unpackedU32, unpackedU64};
 use refusal::Answer;
 use refusal::Refusal;
@@ -58,15 +59,25 @@ pub fn room(len: usize, index: usize, count: usize, width: usize) -> Answer
     )
 }
 
-// The number in the width bytes from the index on: after i bytes the sum of these i.
-fn unpack(packed: &[u8], index: usize, width: usize) -> u64
-    requires { ⌜ (width ≤ 8) × (index + width ≤ length (now packed)) ⌝ }
-    ensures { λ r. ⌜ r ≡ unpackLittleEndian width (take width (drop index (now (packed .entry)))) ⌝ }
+// Adds PackedInts' next summand, byte i times its weight, 0x1_00 to the power i, to the sum of the i bytes before it.
+fn add_byte(sum: u64, packed: &[u8], index: usize, i: usize, weight: u64) -> u64
+    requires { ⌜ (i < 8) × (index + i < length (now packed)) × (weight ≡ 256 ^ i) × Summed (now packed) index i sum ⌝ }
+    ensures { λ r. ⌜ Summed (now (packed .entry)) index (i + 1) r ⌝ }
 {
-    let mut sum: u64 = 0;
-    let mut i: usize = 0;
+    sum + packed[index + i] as u64 * weight
+}
+
+// The number in the width bytes from the index on, in the order of PackedInts' sum: byte 0, then byte 1 times 0x1_00, and so on.
+fn unpack(packed: &[u8], index: usize, width: usize) -> u64
+    requires { ⌜ (1 ≤ width) × (width ≤ 8) × (index + width ≤ length (now packed)) ⌝ }
+    ensures { λ r. ⌜ Summed (now (packed .entry)) index width r ⌝ }
+{
+    let mut sum = packed[index] as u64;
+    let mut weight: u64 = 1;
+    let mut i: usize = 1;
     while i < width {
-        sum += (packed[index + i] as u64) << (8 * i);
+        weight = weight * 0x1_00;
+        sum = add_byte(sum, packed, index, i, weight);
         i += 1;
     }
     sum

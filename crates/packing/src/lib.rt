@@ -1,22 +1,30 @@
 // The packers of PackedInts (PI): numbers as bytes, least byte first, at an index of a lent output, one by one and in runs; and bytes copied.
-ghost use mathlib.Core.Path.{_≡_};
-ghost use Prim.Native.Nat.{_+_, _≤_};
+ghost use Prim.Native.Nat.{_+_, _≤_, _<_};
 ghost use lib.ListN.{length};
 ghost use Rattle.refusal.specs.Outcome.{Fills};
 ghost use Rattle.refusal.specs.Meaning.{outcomeOf};
-ghost use Rattle.packed.specs.Packed.{packLittleEndian, packLittleEndianSeq, put, putAt};
+ghost use Rattle.packed.specs.Packed.{packLittleEndian, packLittleEndianSeq, putAt};
+ghost use Rattle.packed.specs.Steps.{PutSoFar, PutsNext};
 use refusal::Answer;
 
-// Puts the width bytes of n from the index on: after i bytes exactly these i.
+// Puts byte i of a number, the lowest of what is left of it, behind the i bytes before it, and gives what is left then.
+fn put_byte(rest: u64, out: &mut [u8], index: usize, i: usize) -> u64
+    requires { ⌜ index + i < length (now out) ⌝ }
+    ensures { λ r. ⌜ PutsNext rest index i (now (out .entry)) r (now (out .exit)) ⌝ }
+{
+    out[index + i] = (rest % 0x1_00) as u8;
+    rest / 0x1_00
+}
+
+// Puts the width bytes of n from the index on, in the order of PackedInts' sum: byte 0 first.
 fn pack(n: u64, out: &mut [u8], index: usize, width: usize)
     requires { ⌜ index + width ≤ length (now out) ⌝ }
-    ensures { λ _. ⌜ now (out .exit) ≡ put (now (out .entry)) index (packLittleEndian width n) ⌝ }
+    ensures { λ _. ⌜ PutSoFar width n (now (out .entry)) index width (now (out .exit)) ⌝ }
 {
     let mut rest = n;
     let mut i: usize = 0;
     while i < width {
-        out[index + i] = (rest % 256) as u8;
-        rest = rest / 256;
+        rest = put_byte(rest, out, index, i);
         i += 1;
     }
 }

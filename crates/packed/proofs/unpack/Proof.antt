@@ -1,51 +1,43 @@
--- The loop's invariant: after i bytes `sum` is the sum of these i.
-use mathlib.Core.Path.{_≡_, refl, sym, ap, _∙_}
-use Prim.Native.Nat.{ℕ, _+_, _-_, _*_, _%_, _^_, _≤_}
-use native.Mathlib.Nat.{le-refl}
+-- The loop's invariant: after i bytes `sum` is the sum of these i, and the next weight is that of byte i.
+use mathlib.Core.Path.{_≡_, refl, ap, _∙_}
+use Prim.Native.Nat.{ℕ, _-_, _*_, _^_, _≤_, _<_}
+use native.Mathlib.Nat.{pow-suc}
+use native.Mathlib.Numerals.{add-one}
 use native.Mathlib.Omega.{arith}
-use lib.ListN.{getD, drop}
+use lib.ListN.{take, drop}
 use Rattle.packed.specs.Packed.{unpackLittleEndian}
-use Rattle.packed.proofs.Laws.{unpack-next, unpack-fits, unpack-take}
+use Rattle.packed.specs.Steps.{Summed}
+use Rattle.packed.proofs.Laws.{weight-fits}
+use Rattle.packed.proofs.Steps.{sums-first}
 use borrow.Author.Needs.{needs}
 use Rattle.packed.proofs.unpack.Statement.{statement}
 use Rattle.packed.proofs.unpack.Tie as tie
 
 abbrev Inv-loop : tie.InvT-loop
-Inv-loop packed index width sum₀ i₀ sum i = (i ≤ width) × (sum ≡ unpackLittleEndian i (drop index packed))
+Inv-loop packed index width sum₀ weight₀ i₀ sum weight i = (1 ≤ i) × (i ≤ width) × (weight * 256 ≡ 256 ^ i) × Summed packed index i sum
 
 abbrev μ-loop : tie.MeasureT-loop
-μ-loop packed index width sum₀ i₀ sum i = width - i
-
-next : (c : tie.After-shared-slice-known Inv-loop μ-loop)
-    → (unpackLittleEndian (c .before .before .loop .i) (drop (c .before .before .before .args .index) (c .before .before .before .args .packed .now))
-    + (getD (c .before .before .before .args .packed .now) (c .before .before .before .args .index + c .before .before .loop .i) 0 * 2 ^ (8 * c .before .before .loop .i)) % 2 ^ 64
-    ≡ unpackLittleEndian (c .before .before .loop .i + 1) (drop (c .before .before .before .args .index) (c .before .before .before .args .packed .now)))
-next c = unpack-next (c .before .before .before .args .packed .now) (c .before .before .before .args .index) (c .before .before .loop .i) (λ j. c .shared-slice-known .given j .fits) (omega arith)
-
-loop-holds : tie.Need-loop-holds Inv-loop μ-loop
-unfolding unpackLittleEndian
-loop-holds c = (omega arith, refl)
-
-add-sum : tie.Need-add-sum Inv-loop μ-loop
-add-sum c = search needs
+μ-loop packed index width sum₀ weight₀ i₀ sum weight i = width - i
 
 shared-slice-read-sum : tie.Need-shared-slice-read-sum Inv-loop μ-loop
 shared-slice-read-sum c = search needs
 
 cast-sum : tie.Need-cast-sum Inv-loop μ-loop
-cast-sum c = omega (arith, c .shared-slice-known .given (c .before .before .before .args .index + c .before .before .loop .i))
+cast-sum c = omega (arith, c .shared-slice-known2 .given (c .before .before .args .index))
 
-mul-sum : tie.Need-mul-sum Inv-loop μ-loop
-mul-sum c = search needs
+loop-holds : tie.Need-loop-holds Inv-loop μ-loop
+loop-holds c =
+    let a = c .before .before .args in
+    (omega arith, omega arith, refl, sums-first (a .packed .now) (a .index))
 
-shl-sum : tie.Need-shl-sum Inv-loop μ-loop
-shl-sum c = search needs
+mul-weight : tie.Need-mul-weight Inv-loop μ-loop
+mul-weight c =
+    let l = c .before .loop in
+    let next : l .weight * 256 < 2 ^ 64 = rw (l .inv .2) (weight-fits (l .i) (omega arith)) in
+    record { fits = omega arith }
 
-add-sum-2 : tie.Need-add-sum-2 Inv-loop μ-loop
-add-sum-2 c =
-    let a = c .before .before .before .args in
-    let l = c .before .before .loop in
-    record { fits = rw (l .inv .1, next c) (unpack-fits (a .packed .now) (a .index) (l .i) (λ j. c .shared-slice-known .given j .fits) (omega arith)) }
+add-byte-requires : tie.Need-add-byte-requires Inv-loop μ-loop
+add-byte-requires c κs = (omega arith, omega arith, c .before .loop .inv .2, c .before .loop .inv .3)
 
 add-i : tie.Need-add-i Inv-loop μ-loop
 add-i c = search needs
@@ -54,13 +46,15 @@ loop-less : tie.Need-loop-less Inv-loop μ-loop
 loop-less c = search needs
 
 loop-again : tie.Need-loop-again Inv-loop μ-loop
-loop-again c = (omega arith, rw (c .before .before .loop .inv .1) (next c))
+loop-again c =
+    let l = c .before .before .loop in
+    (omega arith, omega arith, rw (l .inv .2, add-one, pow-suc 256 (l .i)), c .add-byte .ensures)
 
 returns : tie.Need-returns Inv-loop μ-loop
 returns c =
-    let a = c .before .before .args in
+    let a = c .before .before .before .before .args in
     let e : c .before .loop .i ≡ a .width = omega arith in
-    c .before .loop .inv .1 ∙ ap (λ (i : ℕ). unpackLittleEndian i (drop (a .index) (a .packed .now))) e ∙ sym (unpack-take (a .width) (a .width) (drop (a .index) (a .packed .now)) (le-refl (a .width)))
+    c .before .loop .inv .3 ∙ ap (λ (i : ℕ). unpackLittleEndian i (take i (drop (a .index) (a .packed .now)))) e
 
 pub unpack-spec : {M : Type 1} → statement M
 unpack-spec =
@@ -68,13 +62,11 @@ unpack-spec =
     (tie.spec
     Inv-loop
     μ-loop
-    loop-holds
-    add-sum
     shared-slice-read-sum
     cast-sum
-    mul-sum
-    shl-sum
-    add-sum-2
+    loop-holds
+    mul-weight
+    add-byte-requires
     add-i
     loop-less
     loop-again

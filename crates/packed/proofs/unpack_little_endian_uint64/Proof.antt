@@ -1,7 +1,8 @@
 use lib.ListN.{length}
 use native.Mathlib.Omega.{arith}
 use Rattle.refusal.proofs.Meaning.{done, stopped}
-use Rattle.packed.proofs.Calls.{present-fits, unpack-refused, unpack-accepted}
+use Rattle.packed.proofs.Calls.{present-fits, unpack-refused}
+use Rattle.packed.proofs.Steps.{unpack-accepted}
 use borrow.Author.Needs.{needs}
 use Rattle.packed.proofs.unpack_little_endian_uint64.Statement.{statement}
 use Rattle.packed.proofs.unpack_little_endian_uint64.Tie as tie

@@ -3,32 +3,27 @@ use mathlib.Core.Path.{_≡_, refl, sym, ap, _∙_}
 use Prim.Native.Nat.{ℕ, _-_, _/_, _^_, _≤_}
 use native.Mathlib.Nat.{div-one}
 use native.Mathlib.Omega.{arith}
-use lib.ListN.{length, length-set}
+use lib.ListN.{length, take}
 use Rattle.packed.specs.Packed.{packLittleEndian, put}
-use Rattle.packed.proofs.Laws.{rest-next}
-use Rattle.packed.proofs.Put.{put-nothing, pack-next}
+use Rattle.packed.specs.Steps.{PutSoFar}
+use Rattle.packed.proofs.Steps.{in-order}
 use borrow.Author.Needs.{needs}
 use Rattle.packing.proofs.pack.Statement.{statement}
 use Rattle.packing.proofs.pack.Tie as tie
 
 abbrev Inv-loop : tie.InvT-loop
-Inv-loop n out₀ index width rest₀ i₀ out rest i = (i ≤ width) × (length out ≡ length out₀) × (rest ≡ n / 256 ^ i) × (out ≡ put out₀ index (packLittleEndian i n))
+Inv-loop n out₀ index width rest₀ i₀ out rest i = (i ≤ width) × (length out ≡ length out₀) × (rest ≡ n / 256 ^ i) × PutSoFar width n out₀ index i out
 
 abbrev μ-loop : tie.MeasureT-loop
 μ-loop n out₀ index width rest₀ i₀ out rest i = width - i
 
 loop-holds : tie.Need-loop-holds Inv-loop μ-loop
-unfolding packLittleEndian
-loop-holds c = (omega arith, refl, sym (div-one _), sym (put-nothing (c .args .out .now) (c .args .index)))
+loop-holds c =
+    let a = c .before .args in
+    (omega arith, refl, sym (div-one _), in-order (a .width) .putsNone (a .n) (a .out .now) (a .index))
 
-cast-out : tie.Need-cast-out Inv-loop μ-loop
-cast-out c = search needs
-
-add-out : tie.Need-add-out Inv-loop μ-loop
-add-out c = search needs
-
-slice-write-out : tie.Need-slice-write-out Inv-loop μ-loop
-slice-write-out c = search needs
+put-byte-requires : tie.Need-put-byte-requires Inv-loop μ-loop
+put-byte-requires c κs = search needs
 
 add-i : tie.Need-add-i Inv-loop μ-loop
 add-i c = search needs
@@ -38,22 +33,20 @@ loop-less c = search needs
 
 loop-again : tie.Need-loop-again Inv-loop μ-loop
 loop-again c =
-    let a = c .before .before .args in
-    let l = c .before .loop in (
-      omega arith,
-      simp length-set (l .inv .1),
-      rw (l .inv .2) (rest-next (a .n) (l .i)),
-      pack-next (a .out .now) (l .out) (a .index) (a .n) (l .i) (l .rest) (l .inv .3) (l .inv .2) (omega arith),
-    )
+    let a = c .before .before .before .before .before .before .before .args in
+    let l = c .before .before .before .before .before .loop in
+    let p = c .before .before .put-byte in
+    let s = p .ensures (a .width) (a .n) (a .out .now) (omega arith) (omega arith) (l .inv .2) (l .inv .3) in
+    (omega arith, p .kept .1 .0 ∙ l .inv .1, s .0, s .1)
 
 same-length : tie.Need-same-length Inv-loop μ-loop
 same-length c = c .before .loop .inv .1
 
 returns : tie.Need-returns Inv-loop μ-loop
 returns c =
-    let a = c .before .before .args in
+    let a = c .before .before .before .args in
     let e : c .before .loop .i ≡ a .width = omega arith in
-    c .before .loop .inv .3 ∙ ap (λ (i : ℕ). put (a .out .now) (a .index) (packLittleEndian i (a .n))) e
+    c .before .loop .inv .3 ∙ ap (λ (i : ℕ). put (a .out .now) (a .index) (take i (packLittleEndian (a .width) (a .n)))) e
 
 pub pack-spec : {M : Type 1} → statement M
 pack-spec =
@@ -62,9 +55,7 @@ pack-spec =
     Inv-loop
     μ-loop
     loop-holds
-    cast-out
-    add-out
-    slice-write-out
+    put-byte-requires
     add-i
     loop-less
     loop-again

@@ -3,7 +3,8 @@ use native.Mathlib.Omega.{arith}
 use Rattle.packed.specs.Packed.{packLittleEndian}
 use Rattle.packed.proofs.Laws.{length-pack}
 use Rattle.refusal.proofs.Meaning.{done, stopped}
-use Rattle.packed.proofs.Calls.{room-fits, put-refused, put-accepted}
+use Rattle.packed.proofs.Calls.{room-fits, put-refused}
+use Rattle.packed.proofs.Steps.{pack-accepted}
 use borrow.Author.Needs.{needs}
 use Rattle.packing.proofs.pack_little_endian_uint32_into_array.Statement.{statement}
 use Rattle.packing.proofs.pack_little_endian_uint32_into_array.Tie as tie
@@ -34,7 +35,7 @@ same-length c = search needs
 returns-2 : tie.Need-returns-2
 returns-2 c =
     let a = c .before .before .before .before .before .before .before .before .args in
-    put-accepted (a .out .now) (a .index) (packLittleEndian 4 (a .n)) 4 (length-pack 4 (a .n)) (done (c .before .before .before .before .enum-told .given .1) (c .before .before .before .before .before .before .room .ensures)) (c .before .before .pack .ensures)
+    pack-accepted 4 (a .n) (a .out .now) (a .index) (done (c .before .before .before .before .enum-told .given .1) (c .before .before .before .before .before .before .room .ensures)) (c .before .before .pack .ensures)
 
 pub pack-little-endian-uint32-into-array-spec : {M : Type 1} → statement M
 pack-little-endian-uint32-into-array-spec =
