@@ -88,6 +88,16 @@ pub fn of_rust(case: &Case) -> Outcome {
                 (of_rust, _) => of_rust,
             }
         }
+        Case::UnpackU32Seq {
+            packed,
+            index,
+            numbers,
+        } => answer(peer::unpack_u32_seq(packed, *index, numbers).map(|()| [])),
+        Case::PackU32Seq {
+            numbers,
+            out,
+            index,
+        } => answer(peer::pack_u32_seq(numbers, out, *index).map(|()| [])),
         _ => return case.of_model(),
     };
     Outcome::with(answer, &after)
@@ -134,6 +144,16 @@ pub fn case_of(call: Call, input: &Input) -> Case {
             grammar,
             first: record,
             second: input.other.clone(),
+        },
+        Call::Unpack => Case::UnpackU32Seq {
+            packed: input.packed().to_vec(),
+            index: 0,
+            numbers: vec![0xa5; input.numbers().len()],
+        },
+        Call::Pack => Case::PackU32Seq {
+            numbers: input.numbers(),
+            out: vec![0xa5; input.packed().len()],
+            index: 0,
         },
     }
 }

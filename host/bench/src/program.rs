@@ -8,7 +8,8 @@ use crate::records::{Input, WORDS};
 /// What is measured of a record that is accepted whole.
 #[derive(Clone, Copy, Debug, PartialEq, Eq)]
 pub enum Call {
-    /// The check of the grammar, which the other calls make first, but for the size.
+    /// The check of the grammar, which the other calls make first, but for the size, unpacking and
+    /// packing.
     CheckGrammar,
     /// The check of the record, with no rows.
     Check,
@@ -22,6 +23,10 @@ pub enum Call {
     Size,
     /// Whether the record and the input's other one are the same route.
     SameRoute,
+    /// Unpacking the numbers of a record that is a uint32 array.
+    Unpack,
+    /// Packing those numbers.
+    Pack,
 }
 
 impl Call {
@@ -35,6 +40,8 @@ impl Call {
             Call::Preview => "preview",
             Call::Size => "size",
             Call::SameRoute => "same route",
+            Call::Unpack => "unpack",
+            Call::Pack => "pack",
         }
     }
 }
@@ -93,6 +100,18 @@ macro_rules! contender {
             Call::SameRoute => Contender::new(|| {
                 calls::same_route(black_box(grammar), black_box(record), black_box(other))
             }),
+            Call::Unpack => {
+                let (packed, mut numbers) = (input.packed(), vec![0; input.numbers().len()]);
+                Contender::new(move || {
+                    calls::unpack_u32_seq(black_box(packed), 0, black_box(&mut numbers))
+                })
+            }
+            Call::Pack => {
+                let (numbers, mut out) = (input.numbers(), vec![0; input.packed().len()]);
+                Contender::new(move || {
+                    calls::pack_u32_seq(black_box(&numbers), black_box(&mut out), 0)
+                })
+            }
         }
     }};
 }
@@ -130,6 +149,19 @@ mod of_model {
 
     pub fn demarshall(grammar: &[u32], record: &[u8], rows: &[u64]) -> Result<Reading, Refusal> {
         model::demarshall(grammar, record, model::capacity(rows.len()))
+    }
+
+    pub fn unpack_u32_seq(
+        packed: &[u8],
+        index: usize,
+        numbers: &[u32],
+    ) -> Result<Vec<u64>, Refusal> {
+        model::unpack_seq(4, packed, index, numbers.len())
+    }
+
+    pub fn pack_u32_seq(numbers: &[u32], out: &[u8], index: usize) -> Result<Vec<u8>, Refusal> {
+        let wide: Vec<u64> = numbers.iter().map(|&number| number.into()).collect();
+        model::pack_seq(4, &wide, out, index)
     }
 }
 

@@ -47,6 +47,19 @@ impl Input {
         }
         out
     }
+
+    /// The packed numbers of a record that is a uint32 array: the bytes behind the count.
+    pub fn packed(&self) -> &[u8] {
+        &self.record[8..]
+    }
+
+    /// The numbers of a record that is a uint32 array.
+    pub fn numbers(&self) -> Vec<u32> {
+        let mut numbers = vec![0; self.packed().len() / 4];
+        let unpacked = route_record::calls::unpack_u32_seq(self.packed(), 0, &mut numbers);
+        unpacked.expect("the bytes of so many numbers");
+        numbers
+    }
 }
 
 /// A record of `rows` rows: an array of cases, in which four stand over and over, 15 rows together:
@@ -130,6 +143,13 @@ pub fn long_array() -> Input {
     let mut record = Vec::new();
     put_bytes(&mut record, MAX_BYTES - 8);
     Input::new(table(&[[5, 0, 0]], &[]), record)
+}
+
+/// One uint32 array of so many numbers.
+pub fn uint32_array(count: usize) -> Input {
+    let mut record = Vec::new();
+    put_u32s(&mut record, count);
+    Input::new(table(&[[6, 0, 0]], &[]), record)
 }
 
 /// 256 nodes, each but the last a tuple of two fields, both of the next node, and the last of the

@@ -1,6 +1,7 @@
 //! The tables that are printed.
 
 /// What a figure is to stay within.
+#[derive(Clone, Copy)]
 pub enum Limit {
     /// The library's time divided by that of the program of this name.
     Beside(&'static str, f64),

@@ -19,7 +19,7 @@ const ROW_COUNTS: [usize; 5] = [16, 64, 256, 1_024, 4_096];
 /// The most that the greatest time per further row of a reading may be, divided by the least.
 const SPREAD: f64 = 1.3;
 
-/// The calls in the table, but for the check of the grammar.
+/// The calls in the table for records of all sizes.
 const CALLS: [Call; 6] = [
     Call::Check,
     Call::Read,
@@ -32,6 +32,7 @@ const CALLS: [Call; 6] = [
 /// Measures and prints the table of calls.
 pub fn calls(report: &mut Report, programs: &[&dyn Program]) {
     report.calls();
+    let beside_rust = Some(Limit::Beside("Rust", RATIO));
     let sizes: [(&str, fn() -> Input); 4] = [
         ("16 rows", || records::mixed(16)),
         ("300 rows", || records::mixed(300)),
@@ -42,7 +43,7 @@ pub fn calls(report: &mut Report, programs: &[&dyn Program]) {
         for call in CALLS {
             let limit = match (call, size) {
                 (Call::Check | Call::Read | Call::Write | Call::Preview, "300 rows")
-                | (Call::Preview, "1 MiB") => Some(Limit::Beside("Rust", RATIO)),
+                | (Call::Preview, "1 MiB") => beside_rust,
                 (Call::Write, "1 MiB") => Some(Limit::Beside("copy", RATIO)),
                 _ => None,
             };
@@ -50,10 +51,13 @@ pub fn calls(report: &mut Report, programs: &[&dyn Program]) {
         }
     }
     let input = ("a serial and 300 rows", records::with_serial(300));
-    let beside_rust = Some(Limit::Beside("Rust", RATIO));
     line(report, programs, Call::SameRoute, input, beside_rust);
     let input = ("300 rows", records::mixed(300));
     line(report, programs, Call::CheckGrammar, input, None);
+    for call in [Call::Unpack, Call::Pack] {
+        let input = ("4,096 uint32", records::uint32_array(4_096));
+        line(report, programs, call, input, beside_rust);
+    }
     for (name, input) in [
         ("array of 4,095 constants", records::constants()),
         ("tuple of 1,024 fields", records::wide_tuple()),

@@ -73,6 +73,16 @@ fn what_the_bench_accepts() {
 }
 
 #[test]
+fn what_the_bench_packs() {
+    let input = records::uint32_array(4_096);
+    assert_accepted(&input, 1);
+    assert!(input.numbers().into_iter().eq(0..4_096));
+    for call in [Call::Unpack, Call::Pack] {
+        assert_eq!(answer(call, &input), Answer::Accepted(vec![]));
+    }
+}
+
+#[test]
 fn what_the_bench_refuses() {
     for (leaf, length, number) in [(1, 16, 9), (0, 0, 8)] {
         let input = records::shared_children(leaf, vec![7; length]);

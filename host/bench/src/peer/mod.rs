@@ -2,12 +2,14 @@
 //! `Result` and `?`. Beside these the library's times are measured; nothing else uses them.
 
 mod grammar;
+mod packed;
 mod reading;
 mod refusal;
 mod rows;
 mod writing;
 
 pub use grammar::check_grammar;
+pub use packed::{pack_u32_seq, unpack_u32_seq};
 pub use reading::{check_whole, demarshall, same_route, Parsed};
 pub use refusal::{Place, Refusal};
 pub use writing::{compute_size_of, marshall, marshall_val, preview, Preview};
