@@ -78,12 +78,12 @@ module _ (w : ℕ) (s : List ℕ) (index : ℕ) where
         (f ∙ put-whole numbers (unpackLittleEndianSeq w (drop index s) i) l ∙ ap (unpackLittleEndianSeq w (drop index s)) e ∙ sym (unpackSeq-take w (length numbers) (w * length numbers) (drop index s) (le-refl (w * length numbers))))
 
 -- the loop that unpacks a sequence: the bytes are there, and the first i numbers are unpacked
-abbrev pub Unpacking : ℕ → List ℕ → ℕ → List ℕ → List ℕ → ℕ → Type 0
-Unpacking w s index entry numbers i = (i ≤ length entry) × (length numbers ≡ length entry) × (index + w * length entry ≤ length s) × UnpackedTo w s index entry i numbers
+abbrev pub Unpacking : ℕ → List ℕ → ℕ → List ℕ → ℕ → List ℕ → Type 0
+Unpacking w s index entry i numbers = (i ≤ length entry) × (length numbers ≡ length entry) × (index + w * length entry ≤ length s) × UnpackedTo w s index entry i numbers
 
 -- the loop that packs one: there is room, and the first i numbers are put
-abbrev pub Packing : ℕ → List ℕ → List ℕ → ℕ → List ℕ → ℕ → Type 0
-Packing w numbers entry index out i = (i ≤ length numbers) × (length out ≡ length entry) × (index + w * length numbers ≤ length entry) × PackedTo w numbers entry index i out
+abbrev pub Packing : ℕ → List ℕ → List ℕ → ℕ → ℕ → List ℕ → Type 0
+Packing w numbers entry index i out = (i ≤ length numbers) × (length out ≡ length entry) × (index + w * length numbers ≤ length entry) × PackedTo w numbers entry index i out
 
 -- putting bytes that have room, or refused
 module _ (out : List ℕ) (index : ℕ) (bs : List ℕ) (size : ℕ) (l : length bs ≡ size) where

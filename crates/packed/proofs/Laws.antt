@@ -4,7 +4,6 @@ use mathlib.Core.Logic.{_↔_}
 use mathlib.Core.List.{List, [], _∷_, _++_, append-assoc, append-nil}
 use Prim.Native.Nat.{ℕ, zero, suc, _+_, _*_, _/_, _%_, _^_, _<_, _≤_, zero-le, suc-le-suc}
 use native.Mathlib.Nat.{pow-suc, pow-succ', pow-le-pow-right, mul-le-mul-right, mul-left-comm, div-div-eq-div-mul, div-one, lt-of-lt-of-le, lt-of-le-of-lt, le-of-suc-le-suc, mul-suc, mul-zero, add-comm, mod-eq-of-lt, le-refl}
-use native.Mathlib.Numerals.{add-one}
 use native.Mathlib.Omega.{arith}
 use lib.ListN.{length, getD, take, drop, length-append, length-drop}
 use lib.Dec.{lit<}
@@ -78,14 +77,13 @@ pack-bytes zero n j = lit< tt
 pack-bytes (suc w) n zero = omega arith
 pack-bytes (suc w) n (suc j) = pack-bytes w (n / 256) j
 
--- byte i
-pub getD-pack : (w n i : ℕ) → i < w → getD (packLittleEndian w n) i 0 ≡ n / 256 ^ i % 256
+-- the bytes by the last one
+pub pack-snoc : (w n : ℕ) → packLittleEndian (suc w) n ≡ packLittleEndian w n ++ (n / 256 ^ w % 256 ∷ [])
 unfolding packLittleEndian
-getD-pack zero n i h = absurd (omega arith)
-getD-pack (suc w) n zero h = rw div-one
-getD-pack (suc w) n (suc i) h =
-    let e : n / 256 / 256 ^ i ≡ n / 256 ^ suc i = rw (div-div-eq-div-mul, pow-succ') in
-    rw (getD-pack w (n / 256) i (omega arith), e)
+pack-snoc zero n = rw div-one
+pack-snoc (suc w) n =
+    let e : n / 256 / 256 ^ w ≡ n / 256 ^ suc w = rw (div-div-eq-div-mul, pow-succ') in
+    ap (λ (l : List ℕ). n % 256 ∷ l) (pack-snoc w (n / 256) ∙ rw e)
 
 -- the first w of k bytes
 pub pack-front : (w k n : ℕ) → w ≤ k → take w (packLittleEndian k n) ≡ packLittleEndian w n
@@ -93,10 +91,6 @@ unfolding packLittleEndian
 pack-front zero k n h = refl
 pack-front (suc w) zero n h = absurd (omega arith)
 pack-front (suc w) (suc k) n h = rw (pack-front w k (n / 256) (omega arith))
-
--- what is left of a number after one byte more
-pub rest-next : (n i : ℕ) → n / 256 ^ i / 256 ≡ n / 256 ^ (i + 1)
-rest-next n i = rw (div-div-eq-div-mul, add-one, pow-suc 256 i)
 
 -- Each undoes the other.
 

@@ -72,8 +72,8 @@ fn unpack(packed: &[u8], index: usize, width: usize) -> u64
     requires { ⌜ (1 ≤ width) × (width ≤ 8) × (index + width ≤ length (now packed)) ⌝ }
     ensures { λ r. ⌜ Summed (now (packed .entry)) index width r ⌝ }
 {
-    let mut sum = packed[index] as u64;
     let mut weight: u64 = 1;
+    let mut sum = add_byte(0, packed, index, 0, weight);
     let mut i: usize = 1;
     while i < width {
         weight = weight * 0x1_00;

@@ -1,30 +1,33 @@
 // The packers of PackedInts (PI): numbers as bytes, least byte first, at an index of a lent output, one by one and in runs; and bytes copied.
-ghost use Prim.Native.Nat.{_+_, _≤_, _<_};
+ghost use mathlib.Core.Path.{_≡_};
+ghost use Prim.Native.Nat.{_+_, _^_, _≤_, _<_};
 ghost use lib.ListN.{length};
 ghost use Rattle.refusal.specs.Outcome.{Fills};
 ghost use Rattle.refusal.specs.Meaning.{outcomeOf};
 ghost use Rattle.packed.specs.Packed.{packLittleEndian, packLittleEndianSeq, putAt};
-ghost use Rattle.packed.specs.Steps.{PutSoFar, PutsNext};
+ghost use Rattle.packed.specs.Steps.{PutSoFar};
 use refusal::Answer;
 
-// Puts byte i of a number, the lowest of what is left of it, behind the i bytes before it, and gives what is left then.
-fn put_byte(rest: u64, out: &mut [u8], index: usize, i: usize) -> u64
-    requires { ⌜ index + i < length (now out) ⌝ }
-    ensures { λ r. ⌜ PutsNext rest index i (now (out .entry)) r (now (out .exit)) ⌝ }
+// Puts byte i of n, which is n divided by the byte's weight, 0x1_00 to the power i, modulo 0x1_00, behind the i bytes before it. These stand there:
+// to put them again would leave the output as it is.
+fn put_byte(n: u64, out: &mut [u8], index: usize, i: usize, weight: u64)
+    requires { ⌜ (index + i < length (now out)) × (weight ≡ 256 ^ i) × PutSoFar n (now out) index i (now out) ⌝ }
+    ensures { λ _. ⌜ PutSoFar n (now (out .entry)) index (i + 1) (now (out .exit)) ⌝ }
 {
-    out[index + i] = (rest % 0x1_00) as u8;
-    rest / 0x1_00
+    out[index + i] = (n / weight % 0x1_00) as u8;
 }
 
 // Puts the width bytes of n from the index on, in the order of PackedInts' sum: byte 0 first.
 fn pack(n: u64, out: &mut [u8], index: usize, width: usize)
-    requires { ⌜ index + width ≤ length (now out) ⌝ }
-    ensures { λ _. ⌜ PutSoFar width n (now (out .entry)) index width (now (out .exit)) ⌝ }
+    requires { ⌜ (1 ≤ width) × (width ≤ 8) × (index + width ≤ length (now out)) ⌝ }
+    ensures { λ _. ⌜ PutSoFar n (now (out .entry)) index width (now (out .exit)) ⌝ }
 {
-    let mut rest = n;
-    let mut i: usize = 0;
+    let mut weight: u64 = 1;
+    put_byte(n, out, index, 0, weight);
+    let mut i: usize = 1;
     while i < width {
-        rest = put_byte(rest, out, index, i);
+        weight = weight * 0x1_00;
+        put_byte(n, out, index, i, weight);
         i += 1;
     }
 }

@@ -10,7 +10,7 @@ use Rattle.packed.proofs.add_byte.Tie as tie
 returns : tie.Need-returns
 returns c =
     let a = c .before .args in
-    rw (c .before .pre .2) (in-order 8 .adds (a .packed .now) (a .index) (a .i) (a .sum) (c .before .pre .0) (c .before .pre .3))
+    rw (c .before .pre .2) (in-order .adds (a .packed .now) (a .index) (a .i) (a .sum) (c .before .pre .3))
 
 below : (c : tie.After-shared-slice-known) → c .before .args .sum + getD (c .before .args .packed .now) (c .before .args .index + c .before .args .i) 0 * c .before .args .weight < 2 ^ 64
 below c =

@@ -8,27 +8,24 @@ use lib.ListN.{take, drop}
 use Rattle.packed.specs.Packed.{unpackLittleEndian}
 use Rattle.packed.specs.Steps.{Summed}
 use Rattle.packed.proofs.Laws.{weight-fits}
-use Rattle.packed.proofs.Steps.{sums-first}
+use Rattle.packed.proofs.Steps.{in-order}
 use borrow.Author.Needs.{needs}
 use Rattle.packed.proofs.unpack.Statement.{statement}
 use Rattle.packed.proofs.unpack.Tie as tie
 
 abbrev Inv-loop : tie.InvT-loop
-Inv-loop packed index width sum₀ weight₀ i₀ sum weight i = (1 ≤ i) × (i ≤ width) × (weight * 256 ≡ 256 ^ i) × Summed packed index i sum
+Inv-loop packed index width weight₀ sum₀ i₀ weight sum i = (1 ≤ i) × (i ≤ width) × (weight * 256 ≡ 256 ^ i) × Summed packed index i sum
 
 abbrev μ-loop : tie.MeasureT-loop
-μ-loop packed index width sum₀ weight₀ i₀ sum weight i = width - i
+μ-loop packed index width weight₀ sum₀ i₀ weight sum i = width - i
 
-shared-slice-read-sum : tie.Need-shared-slice-read-sum Inv-loop μ-loop
-shared-slice-read-sum c = search needs
-
-cast-sum : tie.Need-cast-sum Inv-loop μ-loop
-cast-sum c = omega (arith, c .shared-slice-known2 .given (c .before .before .args .index))
+add-byte-requires : tie.Need-add-byte-requires Inv-loop μ-loop
+add-byte-requires c κs =
+    let a = c .before .args in
+    (omega arith, omega arith, refl, in-order .sumsNone (a .packed .now) (a .index))
 
 loop-holds : tie.Need-loop-holds Inv-loop μ-loop
-loop-holds c =
-    let a = c .before .before .args in
-    (omega arith, omega arith, refl, sums-first (a .packed .now) (a .index))
+loop-holds c = (omega arith, omega arith, refl, c .add-byte .ensures)
 
 mul-weight : tie.Need-mul-weight Inv-loop μ-loop
 mul-weight c =
@@ -36,8 +33,8 @@ mul-weight c =
     let next : l .weight * 256 < 2 ^ 64 = rw (l .inv .2) (weight-fits (l .i) (omega arith)) in
     record { fits = omega arith }
 
-add-byte-requires : tie.Need-add-byte-requires Inv-loop μ-loop
-add-byte-requires c κs = (omega arith, omega arith, c .before .loop .inv .2, c .before .loop .inv .3)
+add-byte-requires-2 : tie.Need-add-byte-requires-2 Inv-loop μ-loop
+add-byte-requires-2 c κs = (omega arith, omega arith, c .before .loop .inv .2, c .before .loop .inv .3)
 
 add-i : tie.Need-add-i Inv-loop μ-loop
 add-i c = search needs
@@ -48,7 +45,7 @@ loop-less c = search needs
 loop-again : tie.Need-loop-again Inv-loop μ-loop
 loop-again c =
     let l = c .before .before .loop in
-    (omega arith, omega arith, rw (l .inv .2, add-one, pow-suc 256 (l .i)), c .add-byte .ensures)
+    (omega arith, omega arith, rw (l .inv .2, add-one, pow-suc 256 (l .i)), c .add-byte2 .ensures)
 
 returns : tie.Need-returns Inv-loop μ-loop
 returns c =
@@ -62,11 +59,10 @@ unpack-spec =
     (tie.spec
     Inv-loop
     μ-loop
-    shared-slice-read-sum
-    cast-sum
+    add-byte-requires
     loop-holds
     mul-weight
-    add-byte-requires
+    add-byte-requires-2
     add-i
     loop-less
     loop-again

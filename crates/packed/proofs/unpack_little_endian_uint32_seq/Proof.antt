@@ -4,16 +4,15 @@ use native.Mathlib.Omega.{arith}
 use lib.ListN.{length, length-set}
 use Rattle.packed.specs.Packed.{unpackLittleEndianSeq}
 use Rattle.packed.proofs.Laws.{unpack-at-below}
-use Rattle.packed.proofs.Put.{put-nothing}
+use Rattle.packed.proofs.Put.{put-nothing, unpackSeq-next}
 use Rattle.refusal.proofs.Meaning.{done, stopped}
 use Rattle.packed.proofs.Calls.{Unpacking, present-fits, unpackSeq-refused, unpackSeq-accepted}
-use Rattle.packed.proofs.Steps.{unpackSeq-next}
 use borrow.Author.Needs.{needs}
 use Rattle.packed.proofs.unpack_little_endian_uint32_seq.Statement.{statement}
 use Rattle.packed.proofs.unpack_little_endian_uint32_seq.Tie as tie
 
 abbrev Inv-loop : tie.InvT-loop
-Inv-loop packed index numbers₀ i₀ numbers i = Unpacking 4 packed index numbers₀ numbers i
+Inv-loop packed index numbers₀ i₀ numbers i = Unpacking 4 packed index numbers₀ i numbers
 
 abbrev μ-loop : tie.MeasureT-loop
 μ-loop packed index numbers₀ i₀ numbers i = length numbers₀ - i

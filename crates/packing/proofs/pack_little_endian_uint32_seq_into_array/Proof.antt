@@ -3,16 +3,15 @@ use Prim.Native.Nat.{_-_, _*_}
 use native.Mathlib.Omega.{arith}
 use lib.ListN.{length}
 use Rattle.packed.specs.Packed.{packLittleEndianSeq}
-use Rattle.packed.proofs.Put.{put-nothing}
+use Rattle.packed.proofs.Put.{put-nothing, packSeq-next}
 use Rattle.refusal.proofs.Meaning.{done, stopped}
 use Rattle.packed.proofs.Calls.{Packing, room-fits, packSeq-refused, packSeq-accepted}
-use Rattle.packed.proofs.Steps.{packSeq-next}
 use borrow.Author.Needs.{needs}
 use Rattle.packing.proofs.pack_little_endian_uint32_seq_into_array.Statement.{statement}
 use Rattle.packing.proofs.pack_little_endian_uint32_seq_into_array.Tie as tie
 
 abbrev Inv-loop : tie.InvT-loop
-Inv-loop numbers out₀ index i₀ out i = Packing 4 numbers out₀ index out i
+Inv-loop numbers out₀ index i₀ out i = Packing 4 numbers out₀ index i out
 
 abbrev μ-loop : tie.MeasureT-loop
 μ-loop numbers out₀ index i₀ out i = length numbers - i
