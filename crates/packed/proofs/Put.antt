@@ -19,6 +19,13 @@ pub put-nothing : (out : List ℕ) (index : ℕ) → put out index [] ≡ out
 unfolding put
 put-nothing out index = rw (add-zero index, take-append-drop)
 
+-- the bytes that stand there
+pub put-same : (out : List ℕ) (index i : ℕ) → index + i ≤ length out → put out index (take i (drop index out)) ≡ out
+unfolding put
+put-same out index i h =
+    let l : length (take i (drop index out)) ≡ i = length-take-le i (drop index out) (rw length-drop (omega arith)) in
+    rw (l, sym (drop-drop i index out), take-append-drop, take-append-drop)
+
 -- bytes that fill the whole output
 pub put-whole : (out bs : List ℕ) → length bs ≡ length out → put out 0 bs ≡ bs
 unfolding put

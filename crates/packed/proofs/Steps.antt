@@ -1,5 +1,6 @@
 -- Request 05, proved: the steps of packing and unpacking, once for every width.
 use mathlib.Core.Path.{_≡_, refl, sym, ap, _∙_}
+use mathlib.Core.Logic.{_↔_}
 use mathlib.Core.List.{List}
 use Prim.Native.Nat.{ℕ, _+_, _*_, _/_, _%_, _^_, _≤_, _<_}
 use native.Mathlib.Nat.{le-refl}
@@ -9,9 +10,9 @@ use lib.ListN.{length, getD, set, take, drop}
 use lib.Seq.{getD-drop}
 use Rattle.refusal.specs.Outcome.{Outcome, accepted, map, contents, Fills, Reason}
 use Rattle.packed.specs.Packed.{unpackLittleEndian, packLittleEndian, present, room, unpackAt, put, putAt}
-use Rattle.packed.specs.Steps.{Summed, PutSoFar, InOrder, outE, StepsOfE}
+use Rattle.packed.specs.Steps.{Summed, PutSoFar, InOrder, StepsOfE}
 use Rattle.packed.proofs.Laws.{unpack-take, length-pack, pack-snoc, pack-front, unpack-pack}
-use Rattle.packed.proofs.Put.{put-nothing, put-over, put-next}
+use Rattle.packed.proofs.Put.{put-nothing, put-same, put-over, put-next}
 use Rattle.packed.proofs.Source.{put-there}
 use Rattle.packed.proofs.Calls.{present-all, present-fits, room-all, room-fits}
 
@@ -45,11 +46,14 @@ module _ (n : ℕ) (entry : List ℕ) (index i : ℕ) (out : List ℕ) where
   puts : index + i < length entry → PutSoFar n entry index i out → PutSoFar n entry index (i + 1) (set out (index + i) (n / 256 ^ i % 256))
   puts l h = put-next entry out index i (n / 256 ^ i % 256) (packLittleEndian i n) h bytes l ∙ rw (add-one, pack-snoc)
 
-  meets : index + i ≤ length entry → PutSoFar n entry index i out → Summed out index i (n % 256 ^ i)
-  meets l h =
+  there : index + i ≤ length entry → PutSoFar n entry index i out → take i (drop index out) ≡ packLittleEndian i n
+  there l h =
       let k : length (packLittleEndian i n) ≡ i = bytes in
       let t : take (length (packLittleEndian i n)) (drop index (put entry index (packLittleEndian i n))) ≡ packLittleEndian i n = put-there entry index (packLittleEndian i n) (omega arith) in
-      sym (unpack-pack i n) ∙ ap (unpackLittleEndian i) (sym (rw k at t)) ∙ rw h
+      rw h (rw k at t)
+
+  meets : index + i ≤ length entry → PutSoFar n entry index i out → Summed out index i (n % 256 ^ i)
+  meets l h = sym (ap (unpackLittleEndian i) (there l h) ∙ unpack-pack i n)
 
 pub in-order : InOrder
 in-order = record {
@@ -78,6 +82,13 @@ module _ (n : ℕ) (entry : List ℕ) (index i : ℕ) (out : List ℕ) (h : PutS
   pub put-on : (k : ℕ) {after : List ℕ} → i ≤ k → index + k ≤ length entry → PutSoFar n out index k after → PutSoFar n entry index k after
   put-on k l inside e = e ∙ over k l inside
 
+-- what the contract of `put_byte` asks of the output, `PutSoFar` of it with itself: the i bytes of n stand at the index
+pub stands : (n : ℕ) (out : List ℕ) (index i : ℕ) → index + i ≤ length out → PutSoFar n out index i out ↔ (take i (drop index out) ≡ packLittleEndian i n)
+stands n out index i inside = (
+  there n out index i out inside,
+  λ (e : take i (drop index out) ≡ packLittleEndian i n). sym (ap (put out index) (sym e) ∙ put-same out index i inside),
+)
+
 -- the calls, where all bytes are there, or have room
 pub unpack-accepted : (w : ℕ) (s : List ℕ) (index : ℕ) {n : ℕ} → accepted tt ≡ present (length s) index w → Summed s index w n → accepted n ≡ unpackAt w s index
 unpack-accepted w s index h e = sym (in-order .sumsAll w s index _ (present-fits (length s) index w h) e)
@@ -87,19 +98,14 @@ pack-accepted w n out index {exit} h e =
     let p : putAt out index (packLittleEndian w n) ≡ accepted exit = in-order .putsAll w n out index exit (room-fits (length out) index w h) e in
     record { answers = ap (map (λ _. tt)) (sym p); buffer = ap (λ (o : Outcome Reason (List ℕ)). contents o out) (sym p) }
 
+-- the fields of `InOrder` that no function cites, in one law: the first i of w bytes, where they are put, sum to n modulo 256 to the power i
+pub first-of-w : (w n : ℕ) (entry : List ℕ) (index i : ℕ) → i ≤ w → index + i ≤ length entry → unpackLittleEndian i (take w (drop index (put entry index (take i (packLittleEndian w n))))) ≡ n % 256 ^ i
+first-of-w w n entry index i l inside =
+    in-order .sumsFront w _ index i l ∙ sym (in-order .meets n entry index i _ inside (in-order .putsFront w n entry index i l))
+
 pub steps-E : StepsOfE
 unfolding unpackLittleEndian packLittleEndian put
 steps-E = record {
   puts = (refl, refl, refl, refl, refl);
   sums = (refl, refl, refl, refl, refl);
 }
-
--- the fields of `InOrder` that no function cites, at example E's second byte
-pub front-sum-E : unpackLittleEndian 2 (take 4 (drop 1 (outE 0x78 0x56 0x34 0x12))) ≡ 22136
-front-sum-E = in-order .sumsFront 4 (outE 0x78 0x56 0x34 0x12) 1 2 (omega arith) ∙ sym (steps-E .sums .2)
-
-pub front-put-E : put (outE 0xee 0xee 0xee 0xee) 1 (take 2 (packLittleEndian 4 305419896)) ≡ outE 0x78 0x56 0xee 0xee
-front-put-E = in-order .putsFront 4 305419896 (outE 0xee 0xee 0xee 0xee) 1 2 (omega arith) ∙ sym (steps-E .puts .2)
-
-pub meets-E : Summed (outE 0x78 0x56 0xee 0xee) 1 2 22136
-meets-E = in-order .meets 305419896 (outE 0xee 0xee 0xee 0xee) 1 2 (outE 0x78 0x56 0xee 0xee) (omega arith) (steps-E .puts .2)

@@ -8,8 +8,8 @@ ghost use Rattle.packed.specs.Packed.{packLittleEndian, packLittleEndianSeq, pu
 ghost use Rattle.packed.specs.Steps.{PutSoFar};
 use refusal::Answer;
 
-// Puts byte i of n, which is n divided by the byte's weight, 0x1_00 to the power i, modulo 0x1_00, behind the i bytes before it. These stand there:
-// to put them again would leave the output as it is.
+// Puts byte i of n behind the i bytes before it, which stand there: to put them again would leave the output as it is. Byte i is n divided by its
+// weight, 0x1_00 to the power i, modulo 0x1_00.
 fn put_byte(n: u64, out: &mut [u8], index: usize, i: usize, weight: u64)
     requires { ⌜ (index + i < length (now out)) × (weight ≡ 256 ^ i) × PutSoFar n (now out) index i (now out) ⌝ }
     ensures { λ _. ⌜ PutSoFar n (now (out .entry)) index (i + 1) (now (out .exit)) ⌝ }
