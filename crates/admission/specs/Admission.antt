@@ -11,6 +11,10 @@ use Rattle.tables.specs.Row.{rowWidth}
 abbrev pub capacityOf : ℕ → ℕ
 capacityOf words = min (words / rowWidth) 4096
 
+-- refusal 6 of the record
+abbrev pub checkLength : List ℕ → Outcome Reason (Unit {0})
+checkLength d = test (leb (length d) 1048576) (reason 6 (byte 0)) accepted
+
 -- refusals 1 to 5 of the grammar, 6 of the record, 7 of the index
 unfoldable pub admitOf : List ℕ → List ℕ → ℕ → Outcome Reason (Unit {0})
 admitOf g d index = bind (checkGrammar g) (λ _. test (leb (length d) 1048576) (reason 6 (byte 0)) (λ _. test (leb index (length d)) (reason 7 (byte index)) accepted))

@@ -3,7 +3,7 @@ ghost use mathlib.Core.Path.{_≡_};
 ghost use Prim.Native.Nat.{_*_, _≤_};
 ghost use Rattle.refusal.specs.Meaning.{outcomeOf};
 ghost use Rattle.tables.specs.Row.{rowWidth};
-ghost use Rattle.admission.specs.Admission.{capacityOf, admitOf};
+ghost use Rattle.admission.specs.Admission.{capacityOf, checkLength, admitOf};
 use refusal::Answer;
 use tables::MOST_BYTES;
 use tables::MOST_ROWS;
@@ -20,20 +20,28 @@ pub fn capacity_of(words: usize) -> usize
     MOST_ROWS
 }
 
+// 6 of the record.
+pub fn check_length(bytes: &[u8]) -> Answer
+    ensures { λ r. ⌜ outcomeOf r ≡ checkLength (now (bytes .entry)) ⌝ }
+{
+    refusal::accept_if(
+        bytes.len() <= MOST_BYTES,
+        refusal::at_byte(refusal::BYTES_TOO_LONG, 0),
+    )
+}
+
 // 1 to 5 of the grammar, 6 of the record, 7 of the index.
 pub fn admit(grammar: &[u32], bytes: &[u8], index: usize) -> Answer
     ensures { λ r. ⌜ outcomeOf r ≡ admitOf (now (grammar .entry)) (now (bytes .entry)) index ⌝ }
 {
     match grammar::check_grammar(grammar) {
         Answer::Refused(r) => Answer::Refused(r),
-        Answer::Accepted => {
-            if MOST_BYTES < bytes.len() {
-                return Answer::Refused(refusal::at_byte(refusal::BYTES_TOO_LONG, 0));
-            }
-            refusal::accept_if(
+        Answer::Accepted => match check_length(bytes) {
+            Answer::Refused(r) => Answer::Refused(r),
+            Answer::Accepted => refusal::accept_if(
                 index <= bytes.len(),
                 refusal::at_byte(refusal::INDEX_PAST_END, index),
-            )
-        }
+            ),
+        },
     }
 }

@@ -7,7 +7,7 @@ use Prim.Native.Nat.{ℕ, _-_, _^_, _≤_}
 use native.Mathlib.Omega.{arith}
 use lib.ListN.{length, take, drop}
 use Rattle.refusal.specs.Outcome.{Outcome, accepted, refused, Reason}
-use Rattle.refusal.proofs.Outcome.{map-accepted, map-refused}
+use Rattle.refusal.proofs.Outcome.{clash, map-accepted, map-refused}
 use Rattle.refusal.proofs.Tests.{refuted, refutes}
 use Rattle.packed.specs.Packed.{Bytes, Below}
 use Rattle.value.specs.Tree.{Val, ValueOf, SizeOfV}
@@ -56,10 +56,6 @@ module _ (g d : List ℕ) where
       let x = record-value g d 4096 w b (m .0) (m .1) in
       let l : length d ≡ SizeOfV (m .0 .value) = ap length (x .0) ∙ length-bytesOf (m .0 .value) in
       omega (arith, first-within (m .0 .value) (x .1), ap (λ (q : State). q .at) (m .2), l)
-
--- a refusal is no value
-pub clash : {E A P : Type 0} {e : E} {a : A} → refused e ≡ accepted a → P
-clash h = let z : _≡_ {A = ℕ} 0 1 = cc in absurd (omega arith)
 
 module _ (g first second : List ℕ) where
   -- by what both readings come to

@@ -5,7 +5,7 @@ use mathlib.Core.List.{List}
 use Prim.Native.Nat.{ℕ}
 use native.Mathlib.Omega.{arith}
 use Rattle.refusal.specs.Outcome.{Outcome, accepted, refused, Reason}
-use Rattle.refusal.proofs.Outcome.{bind-inverse, map-accepted}
+use Rattle.refusal.proofs.Outcome.{clash, bind-inverse, map-accepted}
 use Rattle.value.specs.Tree.{G, Gs, GTuple, gcons, Val, Vals, VTuple, vcons, ValInGrammar, inTuple, eachCons}
 use Rattle.value.specs.Step.{Step}
 use Rattle.value.specs.Reading.{State}
@@ -18,7 +18,7 @@ use Rattle.readers.proofs.FirstField.{tuple-root, root-fields}
 use Rattle.reading.specs.Calls.{demarshallOf}
 use Rattle.comparing.specs.SameRoute.{NamedReason, ofGrammar, ofFirst, ofSecond, naming, Both, readBoth, Same, RootRule, RootDecides}
 use Rattle.comparing.proofs.Counted.{FirstFields, both, neither, first-fields}
-use Rattle.comparing.proofs.Comparing.{record-value, clash}
+use Rattle.comparing.proofs.Comparing.{record-value}
 
 naming-accepted : {A : Type 0} (name : Reason → NamedReason) (o : Outcome Reason A) {a : A} → naming name o ≡ accepted a → o ≡ accepted a
 naming-accepted name (accepted a) h = cc

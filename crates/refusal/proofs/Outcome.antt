@@ -1,5 +1,5 @@
 -- The laws of outcomes: of `bind`, of `test`, of `map`, and of a postcondition along them.
-use mathlib.Core.Path.{_≡_, refl, ap, _∙_}
+use mathlib.Core.Path.{_≡_, refl, ap, sym, _∙_}
 use mathlib.Core.List.{List}
 use mathlib.Core.Logic.{_↔_}
 use mathlib.Core.Bool.{Bool, true, false, not}
@@ -8,6 +8,10 @@ use native.Mathlib.Omega.{arith}
 use lib.Dec.{T}
 use Rattle.refusal.proofs.Tests.{refutes}
 use Rattle.refusal.specs.Outcome.{Outcome, accepted, refused, bind, test, map, contents, Fills, Reason}
+
+-- no outcome is refused and accepted
+pub clash : {E A P : Type 0} {e : E} {a : A} → refused e ≡ accepted a → P
+clash h = let z : _≡_ {A = ℕ} 0 1 = cc in absurd (omega arith)
 
 pub bind-accepted : {E A : Type 0} (x : Outcome E A) → bind x accepted ≡ x
 bind-accepted (accepted a) = refl
@@ -20,7 +24,7 @@ bind-assoc (refused e) k l = refl
 -- what an accepted outcome says of the one that it goes on from
 pub bind-inverse : {E A B : Type 0} (x : Outcome E A) (k : A → Outcome E B) {b : B} → bind x k ≡ accepted b → (a : A) × (x ≡ accepted a) × (k a ≡ accepted b)
 bind-inverse (accepted a) k h = (a, refl, h)
-bind-inverse (refused e) k h = let z : _≡_ {A = ℕ} 0 1 = cc in absurd (omega arith)
+bind-inverse (refused e) k h = clash h
 
 pub bind-test : {E A B : Type 0} (b : Bool) (e : E) (k : Unit {0} → Outcome E A) (l : A → Outcome E B) → bind (test b e k) l ≡ test b e (λ u. bind (k u) l)
 bind-test true e k l = refl
@@ -35,7 +39,7 @@ test-false e k h = rw h
 -- an accepted test was true
 pub test-passed : {E A : Type 0} (b : Bool) (e : E) (k : Unit {0} → Outcome E A) (a : A) → test b e k ≡ accepted a → b ≡ true
 test-passed true e k a h = refl
-test-passed false e k a h = let z : _≡_ {A = ℕ} 0 1 = cc in absurd (omega arith)
+test-passed false e k a h = clash h
 
 pub map-bind : {E A B C : Type 0} (f : B → C) (x : Outcome E A) (k : A → Outcome E B) → map f (bind x k) ≡ bind x (λ a. map f (k a))
 map-bind f (accepted a) k = refl
@@ -49,10 +53,10 @@ map-map f g (refused e) = refl
 module _ {E A B : Type 0} (f : A → B) where
   pub map-accepted : (o : Outcome E A) {b : B} → map f o ≡ accepted b → (a : A) × (o ≡ accepted a) × (b ≡ f a)
   map-accepted (accepted a) h = (a, refl, cc)
-  map-accepted (refused e) h = let z : _≡_ {A = ℕ} 0 1 = cc in absurd (omega arith)
+  map-accepted (refused e) h = clash h
 
   pub map-refused : (o : Outcome E A) {e : E} → map f o ≡ refused e → o ≡ refused e
-  map-refused (accepted a) h = let z : _≡_ {A = ℕ} 0 1 = cc in absurd (omega arith)
+  map-refused (accepted a) h = clash (sym h)
   map-refused (refused x) h = cc
 
 -- P holds of the value, Q of the error

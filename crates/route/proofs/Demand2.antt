@@ -31,7 +31,7 @@ use Rattle.signed.proofs.Rule.{signed-exactly}
 use Rattle.reading.specs.Meaning.{Counts}
 use Rattle.admission.specs.Admission.{capacityOf}
 use Rattle.reading.specs.Calls.{withoutState, parseValOf, demarshallOf, countsOf}
-use Rattle.admission.proofs.Admission.{admit-index, admitted}
+use Rattle.admission.proofs.Admission.{length-fits, admit-length, admitted}
 use Rattle.reading.proofs.Calls.{parse-read, parse-accepted}
 use Rattle.reading.proofs.Meaning.{parsedOf-injective}
 use Rattle.reading.proofs.Bridge.{parse-parses, parse-stands, parse-none, demarshall-accepted, demarshall-refused}
@@ -70,7 +70,7 @@ parse-val-agrees g d rows exit index r w b h = record {
       let x = parseVal-value (treeOf g 0) (tree-valid g w 0) (drop index d) (bytes-drop index d b) v rest e in
       let o : Stands d (treeOf g 0) index v = record { ofGrammar = x .1; bytes = rw (x .0) (take-at (bytesOf v) rest (SizeOfV v) (length-bytesOf v)) } in
       let q : readVal capacity d (treeOf g 0) (start index) ≡ accepted (readTo v (start index)) = read-fits capacity d (treeOf g 0) (start index) i v o (omega arith) in
-      let a = sym (test-true _ _ (le-leb index (length d) i)) ∙ admit-index g d index (sym p) s in
+      let a = sym (test-true _ _ (le-leb index (length d) i)) ∙ admit-length g d index (sym p) (length-fits d s) in
       h .answers ∙ ap (map countsOf) (sym (parse-read g d index capacity a) ∙ ap withoutState q) ∙ rw (zero-add (rowCount v));
 }
   where

@@ -11,7 +11,7 @@ use lib.ListN.{length}
 use lib.Dec.{ltb, eqb}
 use borrow.Author.Tests.{le-leb, lt-leb, ltb-true}
 use Rattle.refusal.specs.Outcome.{Outcome, accepted, refused, bind, test, map, byte, row, Reason, reason}
-use Rattle.refusal.proofs.Outcome.{Post, holds, fails, post-bind, post-test, post-reflects, post-weaken, post-accepted, post-refused, bind-accepted, bind-assoc, bind-test, test-true, test-false, map-refused}
+use Rattle.refusal.proofs.Outcome.{Post, holds, fails, post-bind, post-test, post-reflects, post-weaken, post-accepted, post-refused, clash, bind-accepted, bind-assoc, bind-test, test-true, test-false, map-refused}
 use Rattle.refusal.proofs.Tests.{refuted, reflects-leb, reflects-ltb, reflects-eqb, reflects-and}
 use Rattle.packed.specs.Packed.{present, room}
 use Rattle.packed.proofs.Calls.{present-index, present-inside, room-fits}
@@ -36,7 +36,7 @@ use Rattle.rows.proofs.Rule.{class-word}
 use Rattle.signed.specs.Signed.{signedOfRow, signedNumberOf}
 use Rattle.admission.specs.Admission.{admitOf}
 use Rattle.reading.specs.Calls.{withoutState, parseValOf, demarshallOf}
-use Rattle.admission.proofs.Admission.{admit-grammar, admit-long, admit-index}
+use Rattle.admission.proofs.Admission.{length-fits, length-above, admit-grammar, admit-length}
 use Rattle.reading.proofs.Calls.{parse-admitted, parse-refused, whole-parse}
 use Rattle.reading.proofs.Bridge.{parse-inside}
 use Rattle.sizing.specs.InGrammar.{checkInGrammar}
@@ -60,9 +60,6 @@ only-refused o e q = post-refused (rw q at o)
 only-map : {E A B : Type 0} {Q : E → Type 0} (f : A → B) {x : Outcome E A} → Only Q x → Only Q (map f x)
 only-map f (holds a p) = gives (f a)
 only-map f (fails e q) = fails e q
-
-clash : {E A P : Type 0} {e : E} {a : A} → refused e ≡ accepted a → P
-clash h = let z : _≡_ {A = ℕ} 0 1 = cc in absurd (omega arith)
 
 module _ {E A : Type 0} {Q : E → Type 0} where
   -- from a form y of x, each of whose errors is known to be x's, and back
@@ -409,8 +406,8 @@ module _ (g d : List ℕ) (index capacity : ℕ) where
 
       back : {e : Reason} → ReadingRefused g d index capacity e → parseValOf g d index capacity ≡ refused e
       back (grammarFirst {e = e} f) = sym (parse-refused g d index capacity (admit-grammar g d index (sym (refused-exactly g e .1 f))))
-      back (recordAbove p l) = sym (parse-refused g d index capacity (admit-long g d index (sym p) l))
-      back (indexAbove p l i) = sym (parse-refused g d index capacity (sym (test-false _ _ (lt-leb index (length d) i)) ∙ admit-index g d index (sym p) l))
+      back (recordAbove p l) = sym (parse-refused g d index capacity (admit-length g d index (sym p) (length-above d l)))
+      back (indexAbove p l i) = sym (parse-refused g d index capacity (sym (test-false _ _ (lt-leb index (length d) i)) ∙ admit-length g d index (sym p) (length-fits d l)))
       back (atValue p l i v q) = q
 
 module _ (g d : List ℕ) (capacity : ℕ) where
