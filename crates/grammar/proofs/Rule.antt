@@ -17,7 +17,7 @@ use Rattle.grammar.specs.Rule.{ChildrenRule, ChildRule, ChildOf, NodeRul
 use Rattle.grammar.proofs.Laws.{reflects-start, reflects-length, reflects-kind, reflects-children, reflects-child}
 
 -- what holds of every number below i, and of i, holds of every number below suc i
-one-more : {P : ℕ → Type 0} {i : ℕ} → ((h : ℕ) → h < i → P h) → P i → (h : ℕ) → h < suc i → P h
+pub one-more : {P : ℕ → Type 0} {i : ℕ} → ((h : ℕ) → h < i → P h) → P i → (h : ℕ) → h < suc i → P h
 one-more {P} {i} b p h l = go (ℕ-discrete i h)
   where
     go : Dec (i ≡ h) → P h
@@ -140,6 +140,14 @@ accepted-exactly t = (λ e. post-accepted (rw e at (grammar-post t)), passes-acc
 
 pub refused-exactly : (t : List ℕ) (r : Reason) → (checkGrammar t ≡ refused r) ↔ FirstRefusal t r
 refused-exactly t r = (λ e. post-refused (rw e at (grammar-post t)), first-refused t)
+
+-- a refusal is at a word, which is below the length of the longest table
+pub refused-word : (t : List ℕ) {r : Reason} → FirstRefusal t r → (n : ℕ) × (w : ℕ) × (r ≡ reason n (word w)) × (w < 1794)
+refused-word t (first1 n) = (1, 0, refl, omega arith)
+refused-word t (first2 s n) = (2, 1 + 3 * nodeCount t, refl, omega (arith, s .1 .1))
+refused-word t (first3 k r n) = (3, 1 + 3 * k, refl, omega (arith, r .below, r .layout .start .1 .1))
+refused-word t (first4 k r kd n) = (4, 2 + 3 * k, refl, omega (arith, r .below, r .layout .start .1 .1))
+refused-word t (first5 k i r kd ru o b n) = (5, 2 + 3 * nodeCount t + i, refl, omega (arith, r .layout .start .1 .1, r .layout .size .1 .0, ru .1, o .1))
 
 -- ---- where the words of a table that passes stand
 

@@ -44,6 +44,10 @@ pub const INPUT_LAYOUT: u64 = 19;
 
 pub const NOT_SIGNED: u64 = 20;
 
+pub const LIST_LAYOUT: u64 = 21;
+
+pub const NO_GRAMMAR_ACCEPTS: u64 = 22;
+
 // Where a refusal was found: a grammar word, a byte or a row.
 pub enum Place {
     Word(u64),

@@ -5,4 +5,5 @@ pub mod Source
 pub mod Agreement
 pub mod Reading
 pub mod Cut
+pub mod Begun
 pub mod Examples

@@ -27,6 +27,11 @@ Reading A = Outcome Stop (Step State A)
 abbrev pub stop : ℕ → State → Stop
 stop number s = record { why = reason number (byte (s .at)); state = s }
 
+-- the values begun by a reading, accepted or refused
+abbrev pub begunOf : {A : Type 0} → Reading A → ℕ
+begunOf (accepted t) = t .state .begun
+begunOf (refused e) = e .state .begun
+
 -- no value begun
 abbrev pub start : ℕ → State
 start index = record { at = index; begun = 0 }

@@ -1,0 +1,4 @@
+pub mod Meaning
+pub mod Laws
+pub mod Rule
+pub mod Examples

@@ -1,0 +1,227 @@
+-- Which grammar is chosen, how many values are begun, and that this is what the definition says.
+use mathlib.Core.Path.{_≡_, refl, ap, sym, _∙_}
+use mathlib.Core.Logic.{_↔_}
+use mathlib.Core.List.{List}
+use Prim.Native.Nat.{ℕ, zero, suc, _+_, _-_, _*_, _≤_, _<_}
+use native.Mathlib.Nat.{sub-zero, sub-self, zero-add}
+use native.Mathlib.Numerals.{add-one}
+use native.Mathlib.Omega.{arith}
+use lib.ListN.{length}
+use lib.Dec.{leb}
+use borrow.Author.Tests.{le-leb, leb-true}
+use Rattle.refusal.specs.Outcome.{Outcome, accepted, refused, bind, test, word, byte, Reason, reason}
+use Rattle.refusal.proofs.Tests.{reflects-leb, reflects-eqb}
+use Rattle.refusal.proofs.Outcome.{Post, holds, fails, post-bind, post-reflects, post-weaken, post-accepted, post-refused, test-true, clash}
+use Rattle.value.specs.Tree.{Val}
+use Rattle.value.specs.Step.{Step}
+use Rattle.value.specs.Reading.{State, Stop, Reading, begunOf, readWhole}
+use Rattle.value.proofs.Begun.{Begins, begins-whole}
+use Rattle.grammar.specs.Check.{checkGrammar}
+use Rattle.grammar.specs.Tree.{treeOf}
+use Rattle.grammar.proofs.Rule.{one-more}
+use Rattle.admission.proofs.Admission.{length-fits, length-post}
+use Rattle.reading.specs.Calls.{withoutState, demarshallOf}
+use Rattle.reading.proofs.Calls.{withoutState-accepted}
+use Rattle.choosing.specs.Choose.{listCount, countAt, grammarOf, checkList, placedReason, inList, checkGrammars, tryOf, Choice, tried, tryGrammars, chooseOf}
+use Rattle.choosing.specs.Rule.{ListRule, ListPasses, Accepts, begunOver, IsFirst, ChoosesFirst, BegunBounds, BegunWithin}
+use Rattle.choosing.proofs.Laws.{list-post, list-filled, grammars-none, grammar-passed, grammar-refused, choose-length, tries-none, tries-accepted, tries-refused}
+
+-- ---- 21, then 1 to 5 of each grammar
+
+module _ (l : List ℕ) where
+  pub rule-held : accepted tt ≡ checkList l → ListRule l
+  rule-held h = post-accepted (rw (sym h) at (list-post l))
+
+  pub rule-passes : ListRule l → accepted tt ≡ checkList l
+  rule-passes r = sym (test-true _ _ (reflects-eqb (countAt l (listCount l)) (length l) .0 (r .ends))) ∙ list-filled l (λ e. omega (arith, r .some)) (r .most)
+
+  pub rule-broken : (ListRule l → ⊥) → refused (reason 21 (word 0)) ≡ checkList l
+  rule-broken n = go (list-post l)
+    where
+      go : {o : Outcome Reason (Unit {0})} → Post (λ _. ListRule l) (λ e. (e ≡ reason 21 (word 0)) × (ListRule l → ⊥)) o → refused (reason 21 (word 0)) ≡ o
+      go (holds u r) = absurd (n r)
+      go (fails e q) = ap refused (sym (q .0))
+
+  abbrev Passed : ℕ → Type 0
+  Passed j = checkGrammar (grammarOf l j) ≡ accepted tt
+
+  -- grammar j of the list is the first that does not pass
+  pub record FirstBad (e : Reason) : Type 0 where
+    pub number : ℕ
+    pub below : number < listCount l
+    pub before : (i : ℕ) → i < number → Passed i
+    pub why : Reason
+    pub refuses : checkGrammar (grammarOf l number) ≡ refused why
+    pub placed : e ≡ placedReason (countAt l number + 1) why
+
+  grammars-from : (n j : ℕ) → j + n ≡ listCount l → ((i : ℕ) → i < j → Passed i) → Post (λ _. (i : ℕ) → i < listCount l → Passed i) FirstBad (checkGrammars l j n)
+  unfolding checkGrammars
+  grammars-from zero j e b = holds tt (λ i h. b i (omega arith))
+  grammars-from (suc n) j e b = go (checkGrammar (grammarOf l j)) refl (λ p. grammars-from n (suc j) (omega arith) (one-more b p))
+    where
+      go : (o : Outcome Reason (Unit {0})) → checkGrammar (grammarOf l j) ≡ o → (Passed j → Post (λ _. (i : ℕ) → i < listCount l → Passed i) FirstBad (checkGrammars l (suc j) n)) → Post (λ _. (i : ℕ) → i < listCount l → Passed i) FirstBad (bind (inList (countAt l j + 1) o) (λ _. checkGrammars l (suc j) n))
+      go (accepted u) p k = k p
+      go (refused r) p k = fails _ (record { number = j; below = omega arith; before = b; why = r; refuses = p; placed = refl })
+
+  pub grammars-post : Post (λ _. (i : ℕ) → i < listCount l → Passed i) FirstBad (checkGrammars l 0 (listCount l))
+  grammars-post = grammars-from (listCount l) 0 (omega arith) (λ i h. absurd (omega arith))
+
+  -- grammars that pass are passed over
+  skip-grammars : (j : ℕ) → j ≤ listCount l → ((i : ℕ) → i < j → Passed i) → checkGrammars l j (listCount l - j) ≡ checkGrammars l 0 (listCount l)
+  skip-grammars zero h b = ap (checkGrammars l 0) (sub-zero (listCount l))
+  skip-grammars (suc j) h b = rw (add-one j) at (grammar-passed l j (listCount l) (omega arith) (sym (b j (omega arith)))) ∙ skip-grammars j (omega arith) (λ i k. b i (omega arith))
+
+  pub grammars-pass : ((i : ℕ) → i < listCount l → Passed i) → accepted tt ≡ checkGrammars l 0 (listCount l)
+  grammars-pass b = grammars-none l (listCount l) (listCount l) (omega arith) ∙ skip-grammars (listCount l) (omega arith) b
+
+  pub bad-refused : {e : Reason} → FirstBad e → refused e ≡ checkGrammars l 0 (listCount l)
+  bad-refused f = ap refused (f .placed) ∙ grammar-refused l (f .number) (listCount l) (f .below) (sym (f .refuses)) ∙ skip-grammars (f .number) (omega (arith, f .below)) (f .before)
+
+  pub passes-held : accepted tt ≡ checkList l → accepted tt ≡ checkGrammars l 0 (listCount l) → ListPasses l
+  passes-held h k = record { rule = rule-held h; grammars = post-accepted (rw (sym k) at grammars-post) }
+
+-- ---- the tries
+
+-- where 1 to 6 are not given, the whole reading of the record is the try
+checked : (g d : List ℕ) (capacity : ℕ) → checkGrammar g ≡ accepted tt → length d ≤ 1048576 → demarshallOf g d capacity ≡ withoutState (readWhole capacity d (treeOf g 0))
+unfolding demarshallOf
+checked g d capacity p h = rw p (test-true _ _ (le-leb (length d) 1048576 h))
+
+module _ (l d : List ℕ) where
+  -- the try of grammar j is refused
+  abbrev Stops : ℕ → Type 0
+  Stops j = (e : Stop) × (tryOf l d j ≡ refused e)
+
+  module _ (p : ListPasses l) (h : length d ≤ 1048576) (j : ℕ) (b : j < listCount l) where
+    abbrev here : demarshallOf (grammarOf l j) d 4096 ≡ withoutState (tryOf l d j)
+    here = checked (grammarOf l j) d 4096 (p .grammars j b) h
+
+    accepts-exactly : Accepts l d j ↔ ((t : Step State Val) × (tryOf l d j ≡ accepted t))
+    accepts-exactly = (λ a. (a .0, withoutState-accepted (tryOf l d j) (a .0) (sym here ∙ a .1)), λ t. (t .0, here ∙ ap withoutState (t .1)))
+
+    stops-not : Stops j → ¬ (Accepts l d j)
+    stops-not s a = let x = accepts-exactly .0 a in clash (sym (s .1) ∙ x .1)
+
+    not-stops : ¬ (Accepts l d j) → Stops j
+    not-stops n = go (tryOf l d j) refl
+      where
+        go : (o : Reading Val) → tryOf l d j ≡ o → Stops j
+        go (accepted t) e = absurd (n (accepts-exactly .1 (t, e)))
+        go (refused x) e = (x, e)
+
+  -- of the tries of all grammars one is the first that is accepted, or none is
+  record FirstTry (c : Choice) : Type 0 where
+    below : c .number < listCount l
+    before : (i : ℕ) → i < c .number → Stops i
+    end : Step State Val
+    accepts : tryOf l d (c .number) ≡ accepted end
+    begun : c .begun ≡ begunOver l d (suc (c .number))
+
+  abbrev None : Reason → Type 0
+  None e = (e ≡ reason 22 (byte 0)) × ((i : ℕ) → i < listCount l → Stops i)
+
+  tries-from : (n j before : ℕ) → j + n ≡ listCount l → before ≡ begunOver l d j → ((i : ℕ) → i < j → Stops i) → Post FirstTry None (tryGrammars l d j before n)
+  unfolding tryGrammars begunOver
+  tries-from zero j before e s b = fails _ (refl, λ i h. b i (omega arith))
+  tries-from (suc n) j before e s b = go (tryOf l d j) refl (λ x p. tries-from n (suc j) (before + x .state .begun) (omega arith) (rw p (ap (λ (m : ℕ). m + x .state .begun) s)) (one-more b (x, p)))
+    where
+      go : (o : Reading Val) → tryOf l d j ≡ o → ((x : Stop) → tryOf l d j ≡ refused x → Post FirstTry None (tryGrammars l d (suc j) (before + x .state .begun) n)) → Post FirstTry None (tried j before o (λ begun. tryGrammars l d (suc j) begun n))
+      go (accepted t) p k = holds (record { number = j; begun = before + t .state .begun }) (record { below = omega arith; before = b; end = t; accepts = p; begun = rw p (ap (λ (m : ℕ). m + t .state .begun) s) })
+      go (refused x) p k = k x p
+
+  -- tries that are refused are passed over
+  skip-tries : (j : ℕ) → j ≤ listCount l → ((i : ℕ) → i < j → Stops i) → tryGrammars l d j (begunOver l d j) (listCount l - j) ≡ tryGrammars l d 0 0 (listCount l)
+  unfolding begunOver
+  skip-tries zero h b = ap (tryGrammars l d 0 0) (sub-zero (listCount l))
+  skip-tries (suc j) h b =
+      let x = b j (omega arith) in
+      rw (x .1) (rw (add-one j) at (tries-refused l d j (listCount l) (omega arith) (begunOver l d j) (x .1))) ∙ skip-tries j (omega arith) (λ i k. b i (omega arith))
+
+  first-accepted : {c : Choice} → FirstTry c → tryGrammars l d 0 0 (listCount l) ≡ accepted c
+  unfolding begunOver
+  first-accepted {c} f =
+      sym (skip-tries (c .number) (omega (arith, f .below)) (f .before))
+      ∙ sym (tries-accepted l d (c .number) (listCount l) (f .below) (begunOver l d (c .number)) (f .accepts))
+      ∙ ap (λ (m : ℕ). accepted (record { number = c .number; begun = m })) (sym (f .begun ∙ rw (f .accepts)))
+
+  none-refused : ((i : ℕ) → i < listCount l → Stops i) → tryGrammars l d 0 0 (listCount l) ≡ refused (reason 22 (byte 0))
+  none-refused b = sym (tries-none l d (listCount l) (begunOver l d (listCount l)) (listCount l) (omega arith) ∙ skip-tries (listCount l) (omega arith) b)
+
+  -- what is chosen, by the whole readings
+  is-first : {c : Choice} → ListPasses l → length d ≤ 1048576 → FirstTry c → IsFirst l d c
+  is-first {c} p h f = record {
+    passes = p;
+    short = h;
+    below = f .below;
+    accepts = accepts-exactly p h (c .number) (f .below) .1 (f .end, f .accepts);
+    first = λ j b. stops-not p h j (omega (arith, f .below)) (f .before j b);
+    begun = f .begun;
+  }
+
+  first-try : {c : Choice} → IsFirst l d c → FirstTry c
+  first-try {c} f =
+      let a = accepts-exactly (f .passes) (f .short) (c .number) (f .below) .0 (f .accepts) in
+      record {
+        below = f .below;
+        before = λ j b. not-stops (f .passes) (f .short) j (omega (arith, f .below)) (f .first j b);
+        end = a .0;
+        accepts = a .1;
+        begun = f .begun;
+      }
+
+  -- the tries of a list that passes
+  pub tries-post : ListPasses l → length d ≤ 1048576 → Post (IsFirst l d) (λ e. (e ≡ reason 22 (byte 0)) × ((j : ℕ) → j < listCount l → ¬ (Accepts l d j))) (tryGrammars l d 0 0 (listCount l))
+  unfolding begunOver
+  tries-post p h = post-weaken (λ c f. is-first p h f) (λ e n. (n .0, λ j b. stops-not p h j b (n .1 j b))) (tries-from (listCount l) 0 0 (omega arith) refl (λ i h. absurd (omega arith)))
+
+  pub none-accepts : ListPasses l → length d ≤ 1048576 → ((j : ℕ) → j < listCount l → ¬ (Accepts l d j)) → tryGrammars l d 0 0 (listCount l) ≡ refused (reason 22 (byte 0))
+  none-accepts p h n = none-refused (λ j b. not-stops p h j b (n j b))
+
+-- ---- the choice
+
+module _ (l d : List ℕ) where
+  chosen-post : Post (IsFirst l d) (λ _. Unit {0}) (chooseOf l d)
+  unfolding chooseOf
+  chosen-post =
+      post-bind _ (post-weaken (λ _ r. r) (λ _ _. tt) (list-post l)) (λ _ r.
+      post-bind _ (post-weaken (λ _ g. g) (λ _ _. tt) (grammars-post l)) (λ _ g.
+      post-bind _ (post-weaken (λ _ h. h) (λ _ _. tt) (length-post d)) (λ _ h.
+      post-weaken (λ _ f. f) (λ _ _. tt) (tries-post l d (record { rule = r; grammars = g }) h))))
+
+  pub first-chosen : {c : Choice} → IsFirst l d c → chooseOf l d ≡ accepted c
+  first-chosen f =
+      let p = f .passes in
+      sym (choose-length l d (rule-passes l (p .rule)) (grammars-pass l (p .grammars)) (length-fits d (f .short)))
+      ∙ first-accepted l d (first-try l d f)
+
+pub chooses-first : ChoosesFirst
+chooses-first l d c = (λ e. post-accepted (rw e at (chosen-post l d)), λ f. first-chosen l d f)
+
+-- a try begins from 1 to 4,097 values
+module _ (l d : List ℕ) where
+  try-bounds : (j : ℕ) → (1 ≤ begunOf (tryOf l d j)) × (begunOf (tryOf l d j) ≤ 4097)
+  try-bounds j = go (tryOf l d j) (begins-whole 4096 d (treeOf (grammarOf l j) 0))
+    where
+      go : (o : Reading Val) → Begins 4096 1 o → (1 ≤ begunOf o) × (begunOf o ≤ 4097)
+      go (accepted t) b = let p = post-accepted b in (p .0, omega (arith, p .1))
+      go (refused e) b = let p = post-refused b in (p .0, omega (arith, p .1))
+
+  over-bounds : (n : ℕ) → (n ≤ begunOver l d n) × (begunOver l d n ≤ 4097 * n)
+  unfolding begunOver
+  over-bounds zero = (omega arith, omega arith)
+  over-bounds (suc n) = let o = over-bounds n in let t = try-bounds n in (omega (arith, o .0, t .0), omega (arith, o .1, t .1))
+
+pub begun-within : BegunWithin
+unfolding begunOver
+begun-within l d c e =
+    let f = chooses-first l d c .0 e in
+    let t = first-try l d f in
+    let s : c .begun ≡ begunOver l d (c .number) + t .end .state .begun = f .begun ∙ rw (t .accepts) in
+    let o = over-bounds l d (c .number) in
+    let p = post-accepted (rw (t .accepts) at (begins-whole 4096 d (treeOf (grammarOf l (c .number)) 0))) in
+    let m : c .begun < 4097 * suc (c .number) = omega (arith, s, o .1, p .1) in
+    record {
+      least = omega (arith, s, o .0, p .0);
+      most = m;
+      figure = omega (arith, m, f .below, f .passes .rule .most);
+    }

@@ -1,0 +1,3 @@
+pub mod Choose
+pub mod Rule
+pub mod Examples
