@@ -1,20 +1,19 @@
 -- The chooser step by step, as the code decides it.
 use mathlib.Core.Path.{_≡_, refl, ap, sym, _∙_}
-use mathlib.Core.Logic.{_↔_}
-use mathlib.Core.Bool.{true, false, _&&_}
+use mathlib.Core.Bool.{true, false}
 use mathlib.Core.List.{List}
-use Prim.Native.Nat.{ℕ, zero, suc, _+_, _-_, _*_, _≤_, _<_}
+use Prim.Native.Nat.{ℕ, zero, suc, _+_, _-_, _≤_, _<_}
 use native.Mathlib.Nat.{add-zero}
 use native.Mathlib.Numerals.{add-one}
 use native.Mathlib.Omega.{arith}
 use lib.ListN.{length, getD, take, drop}
-use lib.Dec.{leb, ltb, eqb}
-use borrow.Author.Tests.{le-leb, leb-true}
+use lib.Dec.{leb, eqb}
+use borrow.Author.Tests.{le-leb}
 use Rattle.refusal.specs.Outcome.{Outcome, accepted, refused, bind, test, map, word, byte, Reason, reason}
 use Rattle.refusal.specs.Meaning.{locationOf, reasonOf}
 use Rattle.refusal.specs.declared.Refusal.{Refusal}
 use Rattle.refusal.proofs.Tests.{reflects-leb, reflects-ltb, reflects-eqb, reflects-and, refuted}
-use Rattle.refusal.proofs.Outcome.{Post, holds, fails, post-reflects, post-accepted, post-refused, test-true, test-false, map-accepted, map-refused}
+use Rattle.refusal.proofs.Outcome.{Post, holds, post-reflects, post-accepted, post-refused, test-true, test-false, map-accepted, map-refused}
 use Rattle.value.specs.Tree.{Val}
 use Rattle.value.specs.Step.{Step, next}
 use Rattle.value.specs.Reading.{State, Stop, Reading, start, atEnd, readVal, readWhole}
@@ -23,9 +22,9 @@ use Rattle.grammar.specs.Check.{checkGrammar}
 use Rattle.grammar.proofs.Rule.{refused-exactly, refused-word}
 use Rattle.grammar.specs.Tree.{treeOf}
 use Rattle.admission.specs.Admission.{checkLength, admitOf}
-use Rattle.readers.specs.Root.{beforeStart, ended, readRoot}
+use Rattle.readers.specs.Root.{beforeStart, readRoot}
 use Rattle.choosing.specs.Choose.{listCount, countAt, grammarOf, checkList, placedReason, inList, checkGrammars, tryOf, Choice, tried, tryGrammars, chooseOf}
-use Rattle.choosing.specs.Rule.{ListRule, ListPasses}
+use Rattle.choosing.specs.Rule.{ListRule}
 
 -- ---- the list
 

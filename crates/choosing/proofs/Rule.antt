@@ -3,15 +3,14 @@ use mathlib.Core.Path.{_≡_, refl, ap, sym, _∙_}
 use mathlib.Core.Logic.{_↔_}
 use mathlib.Core.List.{List}
 use Prim.Native.Nat.{ℕ, zero, suc, _+_, _-_, _*_, _≤_, _<_}
-use native.Mathlib.Nat.{sub-zero, sub-self, zero-add}
+use native.Mathlib.Nat.{sub-zero}
 use native.Mathlib.Numerals.{add-one}
 use native.Mathlib.Omega.{arith}
 use lib.ListN.{length}
-use lib.Dec.{leb}
-use borrow.Author.Tests.{le-leb, leb-true}
-use Rattle.refusal.specs.Outcome.{Outcome, accepted, refused, bind, test, word, byte, Reason, reason}
-use Rattle.refusal.proofs.Tests.{reflects-leb, reflects-eqb}
-use Rattle.refusal.proofs.Outcome.{Post, holds, fails, post-bind, post-reflects, post-weaken, post-accepted, post-refused, test-true, clash}
+use borrow.Author.Tests.{le-leb}
+use Rattle.refusal.specs.Outcome.{Outcome, accepted, refused, bind, word, byte, Reason, reason}
+use Rattle.refusal.proofs.Tests.{reflects-eqb}
+use Rattle.refusal.proofs.Outcome.{Post, holds, fails, post-bind, post-weaken, post-accepted, post-refused, test-true, clash}
 use Rattle.value.specs.Tree.{Val}
 use Rattle.value.specs.Step.{Step}
 use Rattle.value.specs.Reading.{State, Stop, Reading, begunOf, readWhole}
@@ -23,7 +22,7 @@ use Rattle.admission.proofs.Admission.{length-fits, length-post}
 use Rattle.reading.specs.Calls.{withoutState, demarshallOf}
 use Rattle.reading.proofs.Calls.{withoutState-accepted}
 use Rattle.choosing.specs.Choose.{listCount, countAt, grammarOf, checkList, placedReason, inList, checkGrammars, tryOf, Choice, tried, tryGrammars, chooseOf}
-use Rattle.choosing.specs.Rule.{ListRule, ListPasses, Accepts, begunOver, IsFirst, ChoosesFirst, BegunBounds, BegunWithin}
+use Rattle.choosing.specs.Rule.{ListRule, ListPasses, Accepts, begunOver, IsFirst, ChoosesFirst, BegunWithin}
 use Rattle.choosing.proofs.Laws.{list-post, list-filled, grammars-none, grammar-passed, grammar-refused, choose-length, tries-none, tries-accepted, tries-refused}
 
 -- ---- 21, then 1 to 5 of each grammar

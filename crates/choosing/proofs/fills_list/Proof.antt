@@ -1,8 +1,8 @@
 -- The loop's invariant: where the next word count stands.
 use Rattle.choosing.specs.Choose.{countAt}
 use Rattle.choosing.proofs.Laws.{count-first, next-at, cut-short}
-use mathlib.Core.Path.{_≡_, refl, ap, sym, _∙_}
-use Prim.Native.Nat.{ℕ, suc, _+_, _-_, _≤_}
+use mathlib.Core.Path.{_≡_, ap, _∙_}
+use Prim.Native.Nat.{ℕ, _-_, _≤_}
 use native.Mathlib.Omega.{arith}
 use lib.ListN.{length}
 use lib.Dec.{eqb}
