@@ -17,6 +17,7 @@ use Rattle.reading.specs.Meaning.{Counts}
 use Rattle.reading.specs.Calls.{countsOf}
 use Rattle.previewing.specs.Preview.{Preview}
 use Rattle.comparing.specs.SameRoute.{NamedReason, ofGrammar, ofFirst, ofSecond, Compares}
+use Rattle.choosing.specs.Choose.{Choice}
 use Rattle.answer_c.specs.declared.RouteAnswer.{RouteAnswer}
 
 -- the values of an accepted call; 0 where it gives fewer than two
@@ -64,6 +65,10 @@ countValues c = values (c .rows) (c .restIndex)
 -- of a preview: the size, and the number of output bytes whose content would differ
 abbrev pub previewValues : Preview → Values
 previewValues p = values (p .size) (p .changed)
+
+-- of a choice: the number of the grammar, and the values begun
+abbrev pub choiceValues : Choice → Values
+choiceValues c = values (c .number) (c .begun)
 
 -- of same route: 1 for yes, 0 for no
 abbrev pub sameAnswerOf : Outcome NamedReason Bool → RouteAnswer

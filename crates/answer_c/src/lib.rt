@@ -9,7 +9,9 @@ ghost use Rattle.signed.specs.Meaning.{signedNumber};
 ghost use Rattle.reading.specs.Meaning.{parsedOf};
 ghost use Rattle.previewing.specs.Preview.{previewedOf};
 ghost use Rattle.comparing.specs.SameRoute.{sameRouteOf};
-ghost use Rattle.answer_c.specs.Answer.{answerOf, refusalOf, noValue, oneValue, signedValue, partValues, countValues, previewValues, sameAnswerOf};
+ghost use Rattle.choosing.specs.Choose.{chosenOf};
+ghost use Rattle.answer_c.specs.Answer.{answerOf, refusalOf, noValue, oneValue, signedValue, partValues, countValues, previewValues, choiceValues, sameAnswerOf};
+use choosing::Chosen;
 use comparing::SameRoute;
 use packed::UnpackedU32;
 use packed::UnpackedU64;
@@ -175,5 +177,14 @@ pub fn of_same_route(answer: SameRoute) -> RouteAnswer
         SameRoute::Grammar(r) => refuse(r),
         SameRoute::First(r) => refuse_record(r, 1),
         SameRoute::Second(r) => refuse_record(r, 2),
+    }
+}
+
+pub fn of_chosen(answer: Chosen) -> RouteAnswer
+    ensures { λ r. ⌜ r ≡ answerOf (map choiceValues (chosenOf answer)) ⌝ }
+{
+    match answer {
+        Chosen::Grammar { number, begun } => accept(number as u64, begun as u64),
+        Chosen::Refused(r) => refuse(r),
     }
 }

@@ -26,9 +26,10 @@ use Rattle.route.specs.Rewriting.{rewriteOf}
 use Rattle.comparing.specs.SameRoute.{sameRouteOf}
 use Rattle.comparing.proofs.Meaning.{sameRoute-injective}
 use Rattle.comparing.proofs.Comparing.{compares-one}
-use Rattle.route.proofs.Listed.{grammar-listed, room-listed, unpackers-listed, rows-listed, locator-listed, signed-listed, reading-listed, whole-listed, writing-listed, rewriting-listed, routes-listed}
+use Rattle.choosing.proofs.Meaning.{chosenOf-injective}
+use Rattle.route.proofs.Listed.{grammar-listed, room-listed, unpackers-listed, rows-listed, locator-listed, signed-listed, reading-listed, whole-listed, writing-listed, rewriting-listed, routes-listed, choosing-listed}
 use Rattle.route.proofs.Reading.{rows-kept}
-use Rattle.route.proofs.Refusals.{map-refuses, room-refuses, present-refuses, walk-refuses, find-refuses, locate-refuses, signed-refuses, parse-refuses, demarshall-refuses, marshall-refuses, rewrite-refuses, both-refuses}
+use Rattle.route.proofs.Refusals.{map-refuses, room-refuses, present-refuses, walk-refuses, find-refuses, locate-refuses, signed-refuses, parse-refuses, demarshall-refuses, marshall-refuses, rewrite-refuses, both-refuses, choose-refuses}
 
 pub demand1 : Demand1
 unfolding previewOf
@@ -42,6 +43,7 @@ demand1 = record {
   counts = parsedOf-injective;
   previewed = previewedOf-injective;
   route = sameRoute-injective;
+  chosen = chosenOf-injective;
   grammar = refused-exactly;
   room = room-refuses;
   packers = λ out index bs. map-refuses _ (room-refuses (length out) index (length bs));
@@ -59,6 +61,7 @@ demand1 = record {
   rewriting = rewrite-refuses;
   routes = both-refuses;
   oneRoute = λ g first second r q a b. sameRoute-injective r q (compares-one g first second (sameRouteOf r) (sameRouteOf q) a b);
+  choosing = choose-refuses;
   listedGrammar = λ g e q. grammar-listed q;
   listedRoom = λ len index size e q. room-listed q;
   listedUnpackers = λ len index size e q. unpackers-listed q;
@@ -70,6 +73,7 @@ demand1 = record {
   listedWriting = λ g t n s len index e q. writing-listed q;
   listedRewriting = λ g d capacity len index e q. rewriting-listed q;
   listedRoutes = λ g first second e q. routes-listed q;
+  listedChoosing = λ l d e q. choosing-listed q;
   fillsNothing = λ o a entry exit h e q. h .buffer ∙ ap (λ (x : Outcome Reason (List ℕ)). contents x entry) (map-refused (λ _. tt) o (sym (h .answers) ∙ q));
   parsesNothing = λ o index r entry exit h e q. rows-kept h (map-refused countsOf o (sym (h .answers) ∙ q));
   marshallsNothing = λ o index w entry exit h e q. h .output ∙ ap (λ (x : Outcome Reason Val). contents (map (λ v. put entry index (bytesOf v)) x) entry) (map-refused SizeOfV o (sym (h .answers) ∙ q));

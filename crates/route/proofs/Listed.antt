@@ -2,10 +2,10 @@
 use mathlib.Core.List.{List}
 use Prim.Native.Nat.{ℕ}
 use native.Mathlib.Omega.{arith}
-use Rattle.refusal.specs.Outcome.{Reason}
+use Rattle.refusal.specs.Outcome.{word, Reason, reason}
 use Rattle.grammar.specs.Rule.{FirstRefusal, first1, first2, first3, first4, first5}
 use Rattle.comparing.specs.SameRoute.{NamedReason}
-use Rattle.route.specs.Refusals.{NoRoom, outputShort, NotThere, above, missing, RowRefused, broken, outside, RowsRefused, storeAbove, rowTable, atRow, LocatorRefused, SignedRefused, ofRows, notTaken, ValueRefused, noRow, bytesMissing, tagAbove, ReadingRefused, grammarFirst, recordAbove, indexAbove, atValue, WholeRefused, ofReading, recordEnd, WritingRefused, grammarBefore, rowsBefore, notInGrammar, sizeAbove, noRoom, RewritingRefused, roomFirst, readingThen, RouteRefused, byGrammar, byFirst, bySecond, Listed, ofWord, ofByte, ofOutput, ofRow, ofLocator, ofSigned, unnamed}
+use Rattle.route.specs.Refusals.{NoRoom, outputShort, NotThere, above, missing, RowRefused, broken, outside, RowsRefused, storeAbove, rowTable, atRow, LocatorRefused, SignedRefused, ofRows, notTaken, ValueRefused, noRow, bytesMissing, tagAbove, ReadingRefused, grammarFirst, recordAbove, indexAbove, atValue, WholeRefused, ofReading, recordEnd, WritingRefused, grammarBefore, rowsBefore, notInGrammar, sizeAbove, noRoom, RewritingRefused, roomFirst, readingThen, RouteRefused, byGrammar, byFirst, bySecond, ChoosingRefused, listBroken, badGrammar, recordLong, noneAccepts, Listed, ofWord, ofByte, ofOutput, ofRow, ofLocator, ofSigned, ofList, ofChoice, unnamed}
 
 pub grammar-listed : {g : List ℕ} {e : Reason} → FirstRefusal g e → Listed e
 grammar-listed (first1 _) = ofWord 1 _ (omega arith) (omega arith)
@@ -68,3 +68,14 @@ pub routes-listed : {g first second : List ℕ} {e : NamedReason} → RouteRefus
 routes-listed (byGrammar q) = grammar-listed q
 routes-listed (byFirst _ q) = whole-listed q
 routes-listed (bySecond _ _ _ q) = whole-listed q
+
+-- which word it is does not matter
+any-word : {n v w : ℕ} → Listed (reason n (word v)) → Listed (reason n (word w))
+any-word (ofWord n v a b) = ofWord n _ a b
+any-word (ofList v) = ofList _
+
+pub choosing-listed : {l d : List ℕ} {e : Reason} → ChoosingRefused l d e → Listed e
+choosing-listed (listBroken _) = ofList _
+choosing-listed (badGrammar _ _ _ _ _ _ q) = any-word (grammar-listed q)
+choosing-listed (recordLong _ _) = ofByte 6 _ (omega arith) (omega arith)
+choosing-listed (noneAccepts _ _ _) = ofChoice _

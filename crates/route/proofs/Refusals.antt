@@ -10,7 +10,7 @@ use native.Mathlib.Omega.{arith}
 use lib.ListN.{length}
 use lib.Dec.{ltb, eqb}
 use borrow.Author.Tests.{le-leb, lt-leb, ltb-true}
-use Rattle.refusal.specs.Outcome.{Outcome, accepted, refused, bind, test, map, byte, row, Reason, reason}
+use Rattle.refusal.specs.Outcome.{Outcome, accepted, refused, bind, test, map, word, byte, row, Reason, reason}
 use Rattle.refusal.proofs.Outcome.{Post, holds, fails, post-bind, post-test, post-reflects, post-weaken, post-accepted, post-refused, clash, bind-accepted, bind-assoc, bind-test, test-true, test-false, map-refused}
 use Rattle.refusal.proofs.Tests.{refuted, reflects-leb, reflects-ltb, reflects-eqb, reflects-and}
 use Rattle.packed.specs.Packed.{present, room}
@@ -26,8 +26,9 @@ use Rattle.value.proofs.Laws.{count-fits, pair-parsed}
 use Rattle.value.proofs.Agreement.{Agrees, same, neither, short, agrees}
 use Rattle.value.proofs.Reading.{read-refused}
 use Rattle.grammar.specs.Check.{checkGrammar}
+use Rattle.grammar.specs.Rule.{FirstRefusal}
 use Rattle.grammar.specs.Tree.{treeOf}
-use Rattle.grammar.proofs.Rule.{refused-exactly}
+use Rattle.grammar.proofs.Rule.{refused-exactly, refused-word}
 use Rattle.tables.specs.Row.{Row, rowAt}
 use Rattle.rows.specs.Walk.{withinStore, checkRow, walkChildren, walkTo, walk}
 use Rattle.rows.specs.Locate.{lookUp, elementsPart, locateArray}
@@ -36,7 +37,7 @@ use Rattle.rows.proofs.Rule.{class-word}
 use Rattle.signed.specs.Signed.{signedOfRow, signedNumberOf}
 use Rattle.admission.specs.Admission.{admitOf}
 use Rattle.reading.specs.Calls.{withoutState, parseValOf, demarshallOf}
-use Rattle.admission.proofs.Admission.{length-fits, length-above, admit-grammar, admit-length}
+use Rattle.admission.proofs.Admission.{length-fits, length-above, length-post, admit-grammar, admit-length}
 use Rattle.reading.proofs.Calls.{parse-admitted, parse-refused, whole-parse}
 use Rattle.reading.proofs.Bridge.{parse-inside}
 use Rattle.sizing.specs.InGrammar.{checkInGrammar}
@@ -44,7 +45,11 @@ use Rattle.sizing.specs.Writes.{valueToWrite, marshallValOf}
 use Rattle.sizing.proofs.InGrammar.{in-grammar-exactly, in-grammar-refused}
 use Rattle.route.specs.Rewriting.{rewriteOf}
 use Rattle.comparing.specs.SameRoute.{NamedReason, ofGrammar, ofFirst, ofSecond, naming, readBoth}
-use Rattle.route.specs.Refusals.{Refuses, NoRoom, outputShort, NotThere, above, missing, RowRefused, broken, outside, RowsRefused, storeAbove, rowTable, atRow, LookUpRefused, ofRows, notTaken, IsArray, IsSigned, LocatorRefused, SignedRefused, ValueRefused, noRow, bytesMissing, tagAbove, ReadingRefused, grammarFirst, recordAbove, indexAbove, atValue, WholeRefused, ofReading, recordEnd, WritingRefused, grammarBefore, rowsBefore, notInGrammar, sizeAbove, noRoom, RewritingRefused, roomFirst, readingThen, RouteRefused, byGrammar, byFirst, bySecond}
+use Rattle.choosing.specs.Choose.{countAt, grammarOf, placedReason, chooseOf}
+use Rattle.choosing.specs.Rule.{ListRule, ListPasses}
+use Rattle.choosing.proofs.Laws.{list-post, choose-list, choose-grammars, choose-length}
+use Rattle.choosing.proofs.Rule.{rule-passes, rule-broken, FirstBad, grammars-post, grammars-pass, bad-refused, tries-post, none-accepts}
+use Rattle.route.specs.Refusals.{Refuses, NoRoom, outputShort, NotThere, above, missing, RowRefused, broken, outside, RowsRefused, storeAbove, rowTable, atRow, LookUpRefused, ofRows, notTaken, IsArray, IsSigned, LocatorRefused, SignedRefused, ValueRefused, noRow, bytesMissing, tagAbove, ReadingRefused, grammarFirst, recordAbove, indexAbove, atValue, WholeRefused, ofReading, recordEnd, WritingRefused, grammarBefore, rowsBefore, notInGrammar, sizeAbove, noRoom, RewritingRefused, roomFirst, readingThen, RouteRefused, byGrammar, byFirst, bySecond, ChoosingRefused, listBroken, badGrammar, recordLong, noneAccepts}
 
 -- ---- outcomes whose every error has Q
 
@@ -492,3 +497,27 @@ module _ (g first second : List ℕ) where
       back (byGrammar {e = e} q) = rw (refused-exactly g e .1 q)
       back (byFirst {e = e} p q) = rw (p, demarshall-refuses g first 4096 e .1 q)
       back (bySecond {e = e} t p h q) = rw (p, h, demarshall-refuses g second 4096 e .1 q)
+
+module _ (l d : List ℕ) where
+  bad-grammar : ListRule l → (e : Reason) → FirstBad l e → ChoosingRefused l d e
+  bad-grammar r e f =
+      let q = refused-exactly (grammarOf l (f .number)) (f .why) .0 (f .refuses) in
+      let w = refused-word (grammarOf l (f .number)) q in
+      subst (ChoosingRefused l d) (sym (f .placed ∙ ap (placedReason (countAt l (f .number) + 1)) (w .2))) (badGrammar r (f .number) (f .below) (f .before) (w .0) (w .1) (subst (FirstRefusal (grammarOf l (f .number))) (w .2) q))
+
+  pub choose-refuses : Refuses (ChoosingRefused l d) (chooseOf l d)
+  unfolding chooseOf
+  choose-refuses =
+      refuses refl
+      (post-bind _ (post-weaken (λ _ r. r) (λ e n _. subst (ChoosingRefused l d) (sym (n .0)) (listBroken (n .1))) (list-post l)) (λ _ r.
+      post-bind _ (post-weaken (λ _ g. g) (λ e f _. bad-grammar r e f) (grammars-post l)) (λ _ g.
+      let p : ListPasses l = record { rule = r; grammars = g } in
+      post-bind _ (post-weaken (λ _ h. h) (λ e n _. subst (ChoosingRefused l d) (sym (n .0)) (recordLong p (n .1))) (length-post d)) (λ _ h.
+      post-weaken (λ _ _. tt) (λ e n _. subst (ChoosingRefused l d) (sym (n .0)) (noneAccepts p h (n .1))) (tries-post l d p h)))))
+      (λ e q. back q)
+    where
+      back : {e : Reason} → ChoosingRefused l d e → chooseOf l d ≡ refused e
+      back (listBroken n) = sym (choose-list l d (rule-broken l n))
+      back (badGrammar r j b p n w q) = sym (choose-grammars l d (rule-passes l r) (bad-refused l (record { number = j; below = b; before = p; why = reason n (word w); refuses = refused-exactly (grammarOf l j) (reason n (word w)) .1 q; placed = refl })))
+      back (recordLong p h) = sym (choose-length l d (rule-passes l (p .rule)) (grammars-pass l (p .grammars)) (length-above d h))
+      back (noneAccepts p h n) = sym (choose-length l d (rule-passes l (p .rule)) (grammars-pass l (p .grammars)) (length-fits d h)) ∙ none-accepts l d p h n

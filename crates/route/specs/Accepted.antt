@@ -18,7 +18,8 @@ use Rattle.reading.specs.Calls.{parseValOf, demarshallOf, countsOf}
 use Rattle.sizing.specs.Writes.{marshallValOf}
 use Rattle.previewing.specs.Preview.{previewOf}
 use Rattle.comparing.specs.SameRoute.{NamedReason, Compares}
-use Rattle.answer_c.specs.Answer.{Values, answerOf, noValue, oneValue, signedValue, partValues, countValues, previewValues, sameAnswerOf}
+use Rattle.choosing.specs.Choose.{chooseOf}
+use Rattle.answer_c.specs.Answer.{Values, answerOf, noValue, oneValue, signedValue, partValues, countValues, previewValues, choiceValues, sameAnswerOf}
 
 pub data IsAccepted {E A : Type 0} : Outcome E A → Type 0 where
   isAccepted : (a : A) → IsAccepted (accepted a)
@@ -39,6 +40,7 @@ pub record NumberZero : Type 0 where
   pub wholeReading : (g d : List ℕ) (capacity : ℕ) → ZeroIsAccepted countValues (map countsOf (demarshallOf g d capacity))
   pub writing : (g t : List ℕ) (n : ℕ) (s : List ℕ) (len index : ℕ) → ZeroIsAccepted oneValue (map SizeOfV (marshallValOf g t n s len index))
   pub preview : (g t : List ℕ) (n : ℕ) (s out : List ℕ) (index : ℕ) → ZeroIsAccepted previewValues (previewOf g t n s out index)
+  pub choosing : (l d : List ℕ) → ZeroIsAccepted choiceValues (chooseOf l d)
   -- yes and no
   pub routes : (g first second : List ℕ) (o : Outcome NamedReason Bool) → Compares g first second o → (sameAnswerOf o .number ≡ 0) ↔ IsAccepted o
 

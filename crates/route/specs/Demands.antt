@@ -42,7 +42,8 @@ use Rattle.writing.specs.Marshall.{Marshalls}
 use Rattle.previewing.specs.Preview.{previewOf, previewedOf}
 use Rattle.route.specs.Rewriting.{rewriteOf, Rewrites}
 use Rattle.comparing.specs.SameRoute.{NamedReason, sameRouteOf, readBoth, Compares}
-use Rattle.route.specs.Refusals.{Refuses, NoRoom, NotThere, RowsRefused, LookUpRefused, LocatorRefused, SignedRefused, ReadingRefused, WholeRefused, WritingRefused, RewritingRefused, RouteRefused, Listed, Lists, unnamed}
+use Rattle.choosing.specs.Choose.{chosenOf, chooseOf}
+use Rattle.route.specs.Refusals.{Refuses, NoRoom, NotThere, RowsRefused, LookUpRefused, LocatorRefused, SignedRefused, ReadingRefused, WholeRefused, WritingRefused, RewritingRefused, RouteRefused, ChoosingRefused, Listed, Lists, unnamed}
 use Rattle.comparing.specs.declared.SameRoute.{SameRoute}
 
 -- ==== Demand 1. "Every call is defined on every input: no grammar, record, row table or index is assumed sound, each call comes to an end"
@@ -67,6 +68,7 @@ pub record Demand1 : Type 0 where
   pub counts : AtMostOneAnswer parsedOf
   pub previewed : AtMostOneAnswer previewedOf
   pub route : AtMostOneAnswer sameRouteOf
+  pub chosen : AtMostOneAnswer chosenOf
   -- `check_grammar`
   pub grammar : (g : List ℕ) → Refuses (FirstRefusal g) (checkGrammar g)
   -- `room` of `packed`
@@ -99,6 +101,8 @@ pub record Demand1 : Type 0 where
   -- `same_route`, whose contract allows one answer
   pub routes : (g first second : List ℕ) → Refuses (RouteRefused g first second) (readBoth g first second)
   pub oneRoute : (g first second : List ℕ) (r q : SameRoute) → Compares g first second (sameRouteOf r) → Compares g first second (sameRouteOf q) → r ≡ q
+  -- `choose_grammar`
+  pub choosing : (l d : List ℕ) → Refuses (ChoosingRefused l d) (chooseOf l d)
   -- every refusal given, but for those of `find_row`, whose number is the caller's, is one of the papers' tables, with its kind of place;
   -- which call gives which is said above. So none has number 0, which at the C interface is an accepted call
   pub listedGrammar : (g : List ℕ) → Lists (FirstRefusal g)
@@ -112,6 +116,7 @@ pub record Demand1 : Type 0 where
   pub listedWriting : (g t : List ℕ) (n : ℕ) (s : List ℕ) (len index : ℕ) → Lists (WritingRefused g t n s len index)
   pub listedRewriting : (g d : List ℕ) (capacity len index : ℕ) → Lists (RewritingRefused g d capacity len index)
   pub listedRoutes : (g first second : List ℕ) (e : NamedReason) → RouteRefused g first second e → Listed (unnamed e)
+  pub listedChoosing : (l d : List ℕ) → Lists (ChoosingRefused l d)
   -- "and a refusal alters no buffer lent to the call": a slice of numbers or bytes, rows, the output. They would be empty if no call were
   -- refused: `reading-C` of proofs/Examples.antt is
   pub fillsNothing : (o : Outcome Reason (List ℕ)) (a : Outcome Reason (Unit {0})) (entry exit : List ℕ) → Fills o a entry exit → (e : Reason) → a ≡ refused e → exit ≡ entry

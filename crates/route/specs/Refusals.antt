@@ -21,6 +21,8 @@ use Rattle.rows.specs.Walk.{walk}
 use Rattle.reading.specs.Calls.{parseValOf, demarshallOf}
 use Rattle.sizing.specs.InGrammar.{checkInGrammar}
 use Rattle.comparing.specs.SameRoute.{NamedReason, ofGrammar, ofFirst, ofSecond}
+use Rattle.choosing.specs.Choose.{listCount, countAt, grammarOf}
+use Rattle.choosing.specs.Rule.{ListRule, ListPasses, Accepts}
 
 -- the errors of an outcome are exactly those with Q
 abbrev pub Refuses : {E A : Type 0} → (E → Type 0) → Outcome E A → Type 0
@@ -118,10 +120,18 @@ pub data RouteRefused (g first second : List ℕ) : NamedReason → Type 0 where
   byFirst : {e : Reason} → checkGrammar g ≡ accepted tt → WholeRefused g first 4096 e → RouteRefused g first second (ofFirst e)
   bySecond : {e : Reason} → (t : Step State Val) → checkGrammar g ≡ accepted tt → demarshallOf g first 4096 ≡ accepted t → WholeRefused g second 4096 e → RouteRefused g first second (ofSecond e)
 
+-- `choose_grammar`: 21, then 1 to 5 of the first grammar of the list that does not pass, at word w of the grammar, which is placed by word of
+-- the list, then 6, and 22 last
+pub data ChoosingRefused (l d : List ℕ) : Reason → Type 0 where
+  listBroken : (ListRule l → ⊥) → ChoosingRefused l d (reason 21 (word 0))
+  badGrammar : ListRule l → (j : ℕ) → j < listCount l → ((i : ℕ) → i < j → checkGrammar (grammarOf l i) ≡ accepted tt) → (n w : ℕ) → FirstRefusal (grammarOf l j) (reason n (word w)) → ChoosingRefused l d (reason n (word (countAt l j + 1 + w)))
+  recordLong : ListPasses l → 1048576 < length d → ChoosingRefused l d (reason 6 (byte 0))
+  noneAccepts : ListPasses l → length d ≤ 1048576 → ((j : ℕ) → j < listCount l → ¬ (Accepts l d j)) → ChoosingRefused l d (reason 22 (byte 0))
+
 -- ---- the table
 
--- numbers 1 to 18 of document 01's table and 20 of document 02, each with its kind of place; the relations above fix the place itself, and
--- 19 is the program's
+-- numbers 1 to 18 of document 01's table and 20 to 22 of document 02, each with its kind of place; the relations above fix the place itself,
+-- and 19 is the program's
 pub data Listed : Reason → Type 0 where
   ofWord : (n w : ℕ) → 0 < n → n ≤ 5 → Listed (reason n (word w))
   ofByte : (n b : ℕ) → 5 < n → n ≤ 11 → Listed (reason n (byte b))
@@ -129,6 +139,8 @@ pub data Listed : Reason → Type 0 where
   ofRow : (n r : ℕ) → 11 < n → n ≤ 16 → Listed (reason n (row r))
   ofLocator : (r : ℕ) → Listed (reason 18 (row r))
   ofSigned : (r : ℕ) → Listed (reason 20 (row r))
+  ofList : (w : ℕ) → Listed (reason 21 (word w))
+  ofChoice : (b : ℕ) → Listed (reason 22 (byte b))
 
 -- every refusal with Q is one of these
 abbrev pub Lists : (Reason → Type 0) → Type 0

@@ -11,9 +11,11 @@ ghost use Rattle.admission.specs.Admission.{capacityOf};
 ghost use Rattle.reading.specs.Calls.{parseValOf, demarshallOf, countsOf};
 ghost use Rattle.sizing.specs.Writes.{marshallValOf};
 ghost use Rattle.previewing.specs.Preview.{previewOf};
-ghost use Rattle.answer_c.specs.Answer.{answerOf, noValue, oneValue, signedValue, partValues, countValues, previewValues, Answers, AnswersRows, AnswersBytes, AnswersSame};
+ghost use Rattle.choosing.specs.Choose.{chooseOf};
+ghost use Rattle.answer_c.specs.Answer.{answerOf, noValue, oneValue, signedValue, partValues, countValues, previewValues, choiceValues, Answers, AnswersRows, AnswersBytes, AnswersSame};
 use answer_c::RouteAnswer;
 use answer_c::of_answer;
+use answer_c::of_chosen;
 use answer_c::of_located;
 use answer_c::of_parsed;
 use answer_c::of_previewed;
@@ -204,4 +206,11 @@ pub extern "C" fn route_same_route(grammar: &[u32], first: &[u8], second: &[u8])
     ensures { λ r. ⌜ AnswersSame (now (grammar .entry)) (now (first .entry)) (now (second .entry)) r ⌝ }
 {
     of_same_route(comparing::same_route(grammar, first, second))
+}
+
+#[no_mangle]
+pub extern "C" fn route_choose_grammar(list: &[u32], record: &[u8]) -> RouteAnswer
+    ensures { λ r. ⌜ r ≡ answerOf (map choiceValues (chooseOf (now (list .entry)) (now («record» .entry)))) ⌝ }
+{
+    of_chosen(choosing::choose_grammar(list, record))
 }
