@@ -24,7 +24,7 @@ use Rattle.answer_c.specs.declared.RouteAnswer.{RouteAnswer}
 pub data Values : Type 0 where
   values : ℕ → ℕ → Values
 
--- a location's kind: 1 grammar word, 2 byte, 3 row
+-- a location's kind: 1 word, 2 byte, 3 row
 abbrev pub kindOf : Location → ℕ
 kindOf (word n) = 1
 kindOf (byte n) = 2

@@ -4,7 +4,7 @@ use mathlib.Core.List.{List}
 use Prim.Native.Nat.{ℕ}
 use mathlib.Core.Bool.{Bool, true, false}
 
--- document 01's place: a grammar word, a byte or a row, each with its number
+-- document 01's place: a grammar word, a byte or a row, each with its number; the word is one of a grammar list where that is what a call takes
 pub data Location : Type 0 where
   word : ℕ → Location
   byte : ℕ → Location

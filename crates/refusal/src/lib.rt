@@ -48,7 +48,7 @@ pub const LIST_LAYOUT: u64 = 21;
 
 pub const NO_GRAMMAR_ACCEPTS: u64 = 22;
 
-// Where a refusal was found: a grammar word, a byte or a row.
+// Where a refusal was found: a word of a grammar or of a grammar list, a byte or a row.
 pub enum Place {
     Word(u64),
     Byte(u64),

@@ -1,4 +1,4 @@
--- The three demands of 00-demands.md, with document 02's signed numbers and preview, as statements over the definitions that the contracts of
+-- The three demands of 00-demands.md, with document 02's signed numbers, preview and chooser, as statements over the definitions that the contracts of
 -- the public calls cite. Above each part stand the words that it says, and what would leave it empty; proofs/Demand1.antt to Demand3.antt
 -- prove them.
 use mathlib.Core.Path.{_≡_}
