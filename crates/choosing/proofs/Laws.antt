@@ -7,7 +7,7 @@ use native.Mathlib.Nat.{add-zero}
 use native.Mathlib.Numerals.{add-one}
 use native.Mathlib.Omega.{arith}
 use lib.ListN.{length, getD, take, drop}
-use lib.Dec.{leb, eqb}
+use lib.Dec.{eqb}
 use borrow.Author.Tests.{le-leb}
 use Rattle.refusal.specs.Outcome.{Outcome, accepted, refused, bind, test, map, word, byte, Reason, reason}
 use Rattle.refusal.specs.Meaning.{locationOf, reasonOf}
@@ -21,7 +21,8 @@ use Rattle.value.proofs.Begun.{begins-whole}
 use Rattle.grammar.specs.Check.{checkGrammar}
 use Rattle.grammar.proofs.Rule.{refused-exactly, refused-word}
 use Rattle.grammar.specs.Tree.{treeOf}
-use Rattle.admission.specs.Admission.{checkLength, admitOf}
+use Rattle.admission.specs.Admission.{checkLength}
+use Rattle.admission.proofs.Admission.{length-fits, admit-length}
 use Rattle.readers.specs.Root.{beforeStart, readRoot}
 use Rattle.choosing.specs.Choose.{listCount, countAt, grammarOf, checkList, placedReason, inList, checkGrammars, tryOf, Choice, tried, tryGrammars, chooseOf}
 use Rattle.choosing.specs.Rule.{ListRule}
@@ -104,11 +105,8 @@ refusal-word g r h w e =
     let q : w ≡ f .1 = cc in
     omega (arith, f .3)
 
--- one grammar more, of n
-abbrev Left : ℕ → ℕ → Type 0
-Left j n = n - j ≡ suc (n - suc j)
-
-left : (j n : ℕ) → j < n → Left j n
+-- grammar j is one of those left of n
+left : (j n : ℕ) → j < n → n - j ≡ suc (n - suc j)
 left j n h = omega arith
 
 module _ (l : List ℕ) (j n : ℕ) where
@@ -116,22 +114,25 @@ module _ (l : List ℕ) (j n : ℕ) where
   unfolding checkGrammars
   grammars-none h = let e : n - j ≡ 0 = omega arith in rw e
 
-  pub grammar-passed : j < n → accepted tt ≡ checkGrammar (grammarOf l j) → checkGrammars l (j + 1) (n - (j + 1)) ≡ checkGrammars l j (n - j)
+  -- by what the check of grammar j came to
+  grammar-step : j < n → {o : Outcome Reason (Unit {0})} → o ≡ checkGrammar (grammarOf l j) → bind (inList (countAt l j + 1) o) (λ _. checkGrammars l (suc j) (n - suc j)) ≡ checkGrammars l j (n - j)
   unfolding checkGrammars
-  grammar-passed h e = rw (add-one j, left j n h) (ap (λ (o : Outcome Reason (Unit {0})). bind (inList (countAt l j + 1) o) (λ _. checkGrammars l (suc j) (n - suc j))) e)
+  grammar-step h e = rw (left j n h) (ap (λ (o : Outcome Reason (Unit {0})). bind (inList (countAt l j + 1) o) (λ _. checkGrammars l (suc j) (n - suc j))) e)
+
+  pub grammar-passed : j < n → accepted tt ≡ checkGrammar (grammarOf l j) → checkGrammars l (j + 1) (n - (j + 1)) ≡ checkGrammars l j (n - j)
+  grammar-passed h e = rw (add-one j) (grammar-step h e)
 
   pub grammar-refused : j < n → {r : Reason} → refused r ≡ checkGrammar (grammarOf l j) → refused (placedReason (countAt l j + 1) r) ≡ checkGrammars l j (n - j)
-  unfolding checkGrammars
-  grammar-refused h e = rw (left j n h) (ap (λ (o : Outcome Reason (Unit {0})). bind (inList (countAt l j + 1) o) (λ _. checkGrammars l (suc j) (n - suc j))) e)
+  grammar-refused h e = grammar-step h e
 
 -- ---- the tries
 
 -- a try of a grammar that passes is a whole reading
 pub try-whole : (g d : List ℕ) (capacity : ℕ) → checkGrammar g ≡ accepted tt → length d ≤ 1048576 → readRoot g d 0 capacity true ≡ readWhole capacity d (treeOf g 0)
-unfolding readRoot admitOf readWhole
+unfolding readRoot readWhole
 try-whole g d capacity p h =
-    ap (λ (o : Outcome Reason (Unit {0})). bind (beforeStart 0 (bind o (λ _. test (leb (length d) 1048576) (reason 6 (byte 0)) (λ _. test (leb 0 (length d)) (reason 7 (byte 0)) accepted)))) (λ _. next (readVal capacity d (treeOf g 0) (start 0)) (atEnd d))) p
-    ∙ rw (le-leb (length d) 1048576 h, le-leb 0 (length d) (omega arith))
+    let a = sym (test-true _ _ (le-leb 0 (length d) (omega arith))) ∙ admit-length g d 0 (sym p) (length-fits d h) in
+    ap (λ (o : Outcome Reason (Unit {0})). bind (beforeStart 0 o) (λ _. next (readVal capacity d (treeOf g 0) (start 0)) (atEnd d))) (sym a)
 
 pub tries-none : (l d : List ℕ) (j before n : ℕ) → n ≤ j → refused (reason 22 (byte 0)) ≡ tryGrammars l d j before (n - j)
 unfolding tryGrammars
@@ -139,13 +140,16 @@ tries-none l d j before n h = let e : n - j ≡ 0 = omega arith in rw e
 
 -- the try of grammar j, of n, where the tries before it have begun so many values
 module _ (l d : List ℕ) (j n : ℕ) (h : j < n) (before : ℕ) where
-  pub tries-accepted : {t : Step State Val} → tryOf l d j ≡ accepted t → accepted (record { number = j; begun = before + t .state .begun }) ≡ tryGrammars l d j before (n - j)
+  -- by what it came to
+  try-step : {o : Reading Val} → tryOf l d j ≡ o → tried j before o (λ begun. tryGrammars l d (suc j) begun (n - suc j)) ≡ tryGrammars l d j before (n - j)
   unfolding tryGrammars
-  tries-accepted e = rw (left j n h) (ap (λ (y : Reading Val). tried j before y (λ begun. tryGrammars l d (suc j) begun (n - suc j))) (sym e))
+  try-step e = rw (left j n h) (ap (λ (o : Reading Val). tried j before o (λ begun. tryGrammars l d (suc j) begun (n - suc j))) (sym e))
+
+  pub tries-accepted : {t : Step State Val} → tryOf l d j ≡ accepted t → accepted (record { number = j; begun = before + t .state .begun }) ≡ tryGrammars l d j before (n - j)
+  tries-accepted e = try-step e
 
   pub tries-refused : {x : Stop} → tryOf l d j ≡ refused x → tryGrammars l d (j + 1) (before + x .state .begun) (n - (j + 1)) ≡ tryGrammars l d j before (n - j)
-  unfolding tryGrammars
-  tries-refused e = rw (add-one j, left j n h) (ap (λ (y : Reading Val). tried j before y (λ begun. tryGrammars l d (suc j) begun (n - suc j))) (sym e))
+  tries-refused e = rw (add-one j) (try-step e)
 
 -- what is known at the try of grammar j, of n, by the words g
 pub record Trying (l d g : List ℕ) (j n : ℕ) : Type 0 where
