@@ -6,6 +6,7 @@
 #![forbid(unsafe_code)]
 #![deny(missing_docs)]
 
+mod choosing;
 mod grammar;
 mod packed;
 mod preview;
@@ -17,6 +18,7 @@ mod show;
 mod signed;
 mod writing;
 
+pub use choosing::{choose_grammar, Chosen};
 pub use grammar::check_grammar;
 pub use packed::{pack, pack_seq, unpack, unpack_seq};
 pub use preview::{preview, Preview};

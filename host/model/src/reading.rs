@@ -22,16 +22,28 @@ pub fn capacity(words: usize) -> usize {
     MOST_ROWS.min(words / 4)
 }
 
-/// A reader of values: the table of a checked grammar, the record, the next byte to read and the
-/// number of rows still free.
+/// A reader of values: the table of a checked grammar, the record, the next byte to read, the
+/// number of rows still free and the number of values begun.
 struct Reader<'g, 'a> {
     grammar: &'g [u32],
     record: &'a [u8],
     position: usize,
     rows_left: usize,
+    begun: usize,
 }
 
-impl<'a> Reader<'_, 'a> {
+impl<'g, 'a> Reader<'g, 'a> {
+    /// A reader from `index` on with so many rows.
+    fn new(grammar: &'g [u32], record: &'a [u8], index: usize, capacity: usize) -> Self {
+        Reader {
+            grammar,
+            record,
+            position: index,
+            rows_left: capacity,
+            begun: 0,
+        }
+    }
+
     /// Reads a number of `width` bytes.
     fn number(&mut self, width: usize) -> Result<u64, Refusal> {
         let number = unpack(width, self.record, self.position)?;
@@ -74,8 +86,9 @@ impl<'a> Reader<'_, 'a> {
         Ok(V::Case(tag, Box::new(value)))
     }
 
-    /// Reads a value of a node.
+    /// Reads a value of a node. It is begun when it asks for its row, be there one or not.
     fn value(&mut self, number: u32) -> Result<V<'a>, Refusal> {
+        self.begun += 1;
         if self.rows_left == 0 {
             return Err(at_byte(8, self.position));
         }
@@ -97,6 +110,15 @@ impl<'a> Reader<'_, 'a> {
             9 => self.number(4).map(|pattern| V::Int32(pattern as u32)),
             _ => self.number(8).map(V::Int64),
         }
+    }
+
+    /// Reads a value of the root, with which the record ends.
+    fn whole(&mut self) -> Result<V<'a>, Refusal> {
+        let value = self.value(0)?;
+        if self.position < self.record.len() {
+            return Err(at_byte(11, self.position));
+        }
+        Ok(value)
     }
 }
 
@@ -151,12 +173,7 @@ fn read<'a>(
     if index > record.len() {
         return Err(at_byte(7, index));
     }
-    let mut reader = Reader {
-        grammar,
-        record,
-        position: index,
-        rows_left: capacity,
-    };
+    let mut reader = Reader::new(grammar, record, index, capacity);
     let value = reader.value(0)?;
     Ok((value, reader.position))
 }
@@ -167,11 +184,17 @@ pub(crate) fn read_whole<'a>(
     record: &'a [u8],
     capacity: usize,
 ) -> Result<V<'a>, Refusal> {
-    let (value, rest_index) = read(grammar, record, 0, capacity)?;
-    if rest_index < record.len() {
-        return Err(at_byte(11, rest_index));
-    }
-    Ok(value)
+    check_grammar(grammar)?;
+    check_length(record)?;
+    Reader::new(grammar, record, 0, capacity).whole()
+}
+
+/// Whether a record is a value of a checked grammar's root, of at most 4,096 rows, and the number of
+/// values begun until this is known. The record is of at most 1,048,576 bytes.
+pub(crate) fn try_whole(grammar: &[u32], record: &[u8]) -> (bool, usize) {
+    let mut reader = Reader::new(grammar, record, 0, MOST_ROWS);
+    let is_accepted = reader.whole().is_ok();
+    (is_accepted, reader.begun)
 }
 
 /// Reads a value of the grammar's root from `index`, in at most `capacity` rows. A capacity is at

@@ -1,6 +1,6 @@
 //! What a refusal says.
 
-/// A place: a word of the grammar, a byte or a row.
+/// A place: a word of the grammar or of the grammar list, a byte or a row.
 #[derive(Clone, Copy, Debug, PartialEq, Eq)]
 #[allow(missing_docs)]
 pub enum Place {
@@ -17,7 +17,7 @@ pub struct Refusal {
     pub place: Place,
 }
 
-/// The refusal of this number at a word of the grammar.
+/// The refusal of this number at a word of the grammar or of the grammar list.
 pub(crate) fn at_word(number: u64, word: usize) -> Refusal {
     Refusal {
         number,
