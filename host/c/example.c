@@ -1,11 +1,13 @@
 /* example.c: previews and writes a route as a record, reads it back with a trim below zero,
- * compares it with another box's records, previews a save over one of them, and reads the record
- * from a link that drops its tail, sending for it again on refusal 9 alone.
+ * compares it with another box's records, previews a save over one of them, reads the record from a
+ * link that drops its tail, sending for it again on refusal 9 alone, and chooses the grammar of
+ * records of two kinds.
  *
  *     cc -std=c11 -Wall -Wextra -Werror -Ihost/c host/c/example.c target/staticlib/libroute_c.a */
 
 #include <inttypes.h>
 #include <stdio.h>
+#include <string.h>
 
 #include "route_record.h"
 
@@ -24,6 +26,9 @@ static const uint32_t grammar[] = {
     2,                             /* of node 1 */
     5, 3, 4,                       /* of node 2 */
 };
+
+/* Another kind of record: a box's serial number alone, a uint32. */
+static const uint32_t serial_grammar[] = {1, ROUTE_KIND_UINT32, 0, 0, 0};
 
 /* The gain steps of both channels, packed: pack_steps fills it. */
 static uint8_t store[24];
@@ -46,6 +51,8 @@ static const uint64_t rows[] = {
 
 enum {
     GRAMMAR_WORDS = sizeof grammar / sizeof *grammar,
+    SERIAL_GRAMMAR_WORDS = sizeof serial_grammar / sizeof *serial_grammar,
+    LIST_WORDS = 1 + 1 + SERIAL_GRAMMAR_WORDS + 1 + GRAMMAR_WORDS, /* counts and both grammars */
     WORDS = sizeof rows / sizeof *rows,
     ROWS = WORDS / ROUTE_ROW_WORDS,
     TRIM_ROW = 5, /* the row of the first channel's trim */
@@ -163,6 +170,31 @@ static int read_from_link(const uint8_t *record, size_t length)
     return answer.number == 0;
 }
 
+/* Puts a grammar behind a list of so many words, and gives how many they are then. */
+static size_t put_grammar(uint32_t *list, size_t length, const uint32_t *words, size_t count)
+{
+    list[0]++;
+    list[length] = (uint32_t)count;
+    memcpy(list + length + 1, words, count * sizeof *words);
+    return length + 1 + count;
+}
+
+/* Prints which kind a record is of, the serial number or the route. Gives whether it is of one. */
+static int print_kind(const uint8_t *record, size_t length)
+{
+    uint32_t list[LIST_WORDS] = {0};
+    size_t list_len = put_grammar(list, 1, serial_grammar, SERIAL_GRAMMAR_WORDS);
+    list_len = put_grammar(list, list_len, grammar, GRAMMAR_WORDS);
+    route_answer answer = route_choose_grammar(list, list_len, record, length);
+    if (answer.number != 0) {
+        print_refusal("choose", answer);
+        return 0;
+    }
+    printf("%zu bytes: grammar %" PRIu64 ", values begun %" PRIu64 "\n", length, answer.first,
+           answer.second);
+    return 1;
+}
+
 int main(void)
 {
     uint8_t record[128] = {0};
@@ -186,5 +218,10 @@ int main(void)
         !print_preview("that box's record", other, length))
         return 1;
 
-    return read_from_link(record, length) ? 0 : 1;
+    if (!read_from_link(record, length))
+        return 1;
+
+    /* The record's first four bytes, the serial number, and the whole record, as two records that
+     * come over one port. */
+    return print_kind(record, 4) && print_kind(record, length) ? 0 : 1;
 }

@@ -38,6 +38,8 @@ extern "C" {
 
 enum {
     ROUTE_MAX_GRAMMAR_WORDS = 1794, /* the words of the largest grammar table */
+    ROUTE_MAX_GRAMMARS = 16,        /* the grammars of the longest grammar list */
+    ROUTE_MAX_LIST_WORDS = 28721,   /* the words of that list, with the largest grammars */
     ROUTE_MAX_BYTES = 1048576,      /* the bytes of the longest record or store */
     ROUTE_MAX_ROWS = 4096,          /* the rows of the largest value */
     ROUTE_ROW_WORDS = 4             /* the words of a row */
@@ -83,7 +85,9 @@ enum {
     ROUTE_REFUSED_OUTPUT_TOO_SHORT = 17,
     ROUTE_REFUSED_NOT_AN_ARRAY = 18,
     ROUTE_REFUSED_INPUT_LAYOUT = 19,
-    ROUTE_REFUSED_NOT_SIGNED = 20
+    ROUTE_REFUSED_NOT_SIGNED = 20,
+    ROUTE_REFUSED_LIST_LAYOUT = 21,
+    ROUTE_REFUSED_NO_GRAMMAR_ACCEPTS = 22
 };
 
 typedef struct route_answer {
@@ -151,6 +155,11 @@ static inline const char *route_refusal_meaning(uint64_t number)
         return "the input is not a grammar and a record as the program wants them";
     case ROUTE_REFUSED_NOT_SIGNED:
         return "there is no such row, or its kind is not 9 or 10";
+    case ROUTE_REFUSED_LIST_LAYOUT:
+        return "the list is empty, its count of grammars is not 1 to 16, or its length does not "
+               "fit its word counts";
+    case ROUTE_REFUSED_NO_GRAMMAR_ACCEPTS:
+        return "no grammar of the list accepts the record whole";
     default:
         return "no refusal has this number";
     }
@@ -288,7 +297,9 @@ route_answer route_signed_number(const uint64_t *rows, size_t rows_len, size_t n
  * 9 does not mean a cut record: under a tagged union without cases, which has no record, the empty
  * bytes are refused with 9, with a row lent or more. And of a reading from an index
  * (route_parse_val, route_check_val) the statement is false: under a uint32, from byte 0 on, 9
- * bytes are accepted, and the first 5 of them too. */
+ * bytes are accepted, and the first 5 of them too. Nor does it hold of route_choose_grammar: what
+ * is left of a cut record may be a whole record of another grammar of the list, and where no
+ * grammar accepts it the answer is 22. */
 
 /* Reads from byte index on. The rows lent are rows_len divided by 4, rounded down, at most 4096;
  * none with rows_len 0. Changes only rows 0 to n - 1, which stand for the value, with the record as
@@ -376,6 +387,27 @@ route_answer route_preview(const uint32_t *grammar, size_t grammar_len, const ui
 ROUTE_NODISCARD
 route_answer route_same_route(const uint32_t *grammar, size_t grammar_len, const uint8_t *first,
                               size_t first_len, const uint8_t *second, size_t second_len);
+
+/* Grammar lists: word 0 is C, the count of grammars. Then C times a word count and as many words, a
+ * grammar table, and the list ends. The grammars have the numbers 0 to C - 1. */
+
+/* Says which grammar of a list accepts a record. Tries the grammars in order, reads the record
+ * under each as route_check_whole does, and ends at the first that accepts. Gives in `first` the
+ * number of that grammar, in `second` the values begun by all tries up to it, the refused ones
+ * included: one for each time a row is asked for, also when none is left. They are at most 65552; a
+ * refusal does not give them. It uses less than 64 KiB of stack, on grammars as deep as 256 nodes
+ * can be. Changes nothing.
+ * Refused: 21 at word 0, when list_len is 0, when C is 0 or above 16, when a word count or a word
+ * of a grammar is missing, or when words are left over;
+ * then, grammar after grammar, from number 0 on, also behind one that would accept:
+ * 1 to 5 as route_check_grammar, the place being a word of the list: the grammar's own word plus
+ * the number of words before the grammar, its word count included. For a grammar of no words it is
+ * the word behind the word count, which may be list_len;
+ * then 6 at byte 0, when record_len is above 1048576;
+ * 22 at byte 0, when no grammar accepts the record. */
+ROUTE_NODISCARD
+route_answer route_choose_grammar(const uint32_t *list, size_t list_len, const uint8_t *record,
+                                  size_t record_len);
 
 #ifdef __cplusplus
 }

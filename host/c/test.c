@@ -126,7 +126,8 @@ typedef struct argument {
     CALL(marshall_val, "wrnbBn", ARRAY(0), ARRAY(1), NUMBER(2), ARRAY(3), ARRAY(4), NUMBER(5)) \
     CALL(marshall, "wrnbB", ARRAY(0), ARRAY(1), NUMBER(2), ARRAY(3), ARRAY(4))                 \
     CALL(preview, "wrnbbn", ARRAY(0), ARRAY(1), NUMBER(2), ARRAY(3), ARRAY(4), NUMBER(5))      \
-    CALL(same_route, "wbb", ARRAY(0), ARRAY(1), ARRAY(2))
+    CALL(same_route, "wbb", ARRAY(0), ARRAY(1), ARRAY(2))                                      \
+    CALL(choose_grammar, "wb", ARRAY(0), ARRAY(1))
 
 #define NUMBER(i) a[i].number
 #define ARRAY(i) a[i].array, a[i].length
@@ -318,6 +319,7 @@ static void test_lengths(void)
 {
     static const uint8_t bytes[8];
     static const uint32_t no_nodes[] = {0}, constant[] = {1, 0, 0, 0, 0};
+    static const uint32_t no_grammars[] = {0}, list[] = {1, 5, 1, 0, 0, 0, 0};
     uint8_t *forbidden = pages[0] + PAGES_SIZE, out[8];
     uint32_t *u32 = (uint32_t *)(void *)forbidden;
     uint64_t *u64 = (uint64_t *)(void *)forbidden;
@@ -339,6 +341,8 @@ static void test_lengths(void)
         CHECK(
             refused(route_compute_size_of(u64, of_u64[i], ROUTE_MAX_ROWS + 1, bytes, 8), 12, 3, 0));
         CHECK(refused(route_check_whole(constant, of_u32[i], bytes, 8), 2, 1, 4));
+        CHECK(refused(route_choose_grammar(no_grammars, of_u32[i], bytes, 8), 21, 1, 0));
+        CHECK(refused(route_choose_grammar(list, of_u32[i], bytes, 8), 21, 1, 0));
     }
     for (int i = 0; i < 2; i++) {
         CHECK(refused(route_unpack_u32(forbidden, of_u8[i], of_u8[i]), 9, 2, of_u8[i]));
@@ -350,6 +354,7 @@ static void test_lengths(void)
         CHECK(refused(route_demarshall(constant, 5, forbidden, of_u8[i], u64, of_u64[0]), 6, 2, 0));
         CHECK(equal(route_same_route(constant, 5, bytes, 0, forbidden, of_u8[i]),
                     (route_answer){6, 2, 0, 0, 2}));
+        CHECK(refused(route_choose_grammar(list, 7, forbidden, of_u8[i]), 6, 2, 0));
         CHECK(gives(route_marshall(constant, 5, (const uint64_t[]){0, 1, 0, 0}, of_u64[i], 1, NULL,
                                    0, forbidden, of_u8[i]),
                     0));
@@ -382,6 +387,8 @@ static void test_longest(void)
 {
     enum { COUNT = ROUTE_MAX_BYTES - 8, OUT = ROUTE_MAX_BYTES + 14 };
     static const uint32_t grammar[] = {1, ROUTE_KIND_BYTE_ARRAY, 0, 0, 0};
+    static const uint32_t list[] = {
+        2, 5, 1, ROUTE_KIND_UINT64, 0, 0, 0, 5, 1, ROUTE_KIND_BYTE_ARRAY, 0, 0, 0};
     static uint8_t record[ROUTE_MAX_BYTES] = {0xf8, 0xff, 0x0f}, other[ROUTE_MAX_BYTES], out[OUT];
     uint64_t rows[ROUTE_ROW_WORDS], different = 8;
 
@@ -410,6 +417,8 @@ static void test_longest(void)
     CHECK(gives(route_same_route(grammar, 5, record, ROUTE_MAX_BYTES, other, ROUTE_MAX_BYTES), 1));
     other[ROUTE_MAX_BYTES - 1] ^= 1;
     CHECK(gives(route_same_route(grammar, 5, record, ROUTE_MAX_BYTES, other, ROUTE_MAX_BYTES), 0));
+    CHECK(gives_two(route_choose_grammar(list, 13, record, ROUTE_MAX_BYTES), 1, 2));
+    CHECK(refused(route_choose_grammar(list, 13, record, ROUTE_MAX_BYTES - 1), 22, 2, 0));
 }
 
 /* Arrays that are only read may be the same one, or overlap. */
@@ -418,6 +427,7 @@ static void test_overlapping(void)
     static const uint32_t bytes[] = {1, ROUTE_KIND_BYTE_ARRAY, 0, 0, 0};
     static const uint8_t record[] = {2, 0, 0, 0, 0, 0, 0, 0, 0, 0, 0, 0, 0, 0, 0, 0};
     static const uint64_t row[] = {ROUTE_KIND_BYTE_ARRAY, 1, 2, 8};
+    static const uint32_t list[] = {1, 5, 1, ROUTE_KIND_UINT32, 0, 0, 0};
 
     subject = "records that overlap";
     CHECK(gives(route_same_route(bytes, 5, record, 10, record, 10), 1));
@@ -425,6 +435,10 @@ static void test_overlapping(void)
     CHECK(gives(route_same_route(bytes, 5, record + 1, 8, record + 2, 8), 1));
     CHECK(
         equal(route_same_route(bytes, 5, record + 1, 8, record, 9), (route_answer){9, 2, 0, 0, 2}));
+
+    subject = "a list and a record that overlap";
+    CHECK(gives_two(route_choose_grammar(list, 7, (const uint8_t *)list, 4), 0, 1));
+    CHECK(refused(route_choose_grammar(list, 7, (const uint8_t *)list, sizeof list), 22, 2, 0));
 
     subject = "a store and an output that overlap";
     CHECK(gives_two(route_preview(bytes, 5, row, 4, 1, record, 10, record, 10, 0), 10, 0));
@@ -453,10 +467,10 @@ static void test_casts(void)
 static void test_meanings(void)
 {
     subject = "meanings";
-    for (uint64_t number = 1; number <= ROUTE_REFUSED_NOT_SIGNED; number++)
+    for (uint64_t number = 1; number <= ROUTE_REFUSED_NO_GRAMMAR_ACCEPTS; number++)
         CHECK(strcmp(route_refusal_meaning(number), route_refusal_meaning(0)) != 0);
-    CHECK(strcmp(route_refusal_meaning(ROUTE_REFUSED_NOT_SIGNED + 1), route_refusal_meaning(0)) ==
-          0);
+    CHECK(strcmp(route_refusal_meaning(ROUTE_REFUSED_NO_GRAMMAR_ACCEPTS + 1),
+                 route_refusal_meaning(0)) == 0);
 }
 
 int main(void)

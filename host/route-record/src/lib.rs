@@ -4,8 +4,9 @@
 //!
 //! A [`Grammar`] is a table of words that passed its check. It reads a record into a [`Value`],
 //! whose [`Row`]s are a tree, writes a value as its record, and says by a [`Preview`] what writing
-//! would change. [`Value::build`] makes a value that was not read. What is refused is refused by a
-//! [`Refusal`] with number, place and meaning.
+//! would change. [`Value::build`] makes a value that was not read. A [`GrammarList`] says by a
+//! [`Chosen`] which of its grammars accepts a record. What is refused is refused by a [`Refusal`]
+//! with number, place and meaning.
 //!
 //! ```
 #![doc = include_str!("../examples/first_use.rs")]
@@ -30,10 +31,12 @@
 //! 9 does not mean a cut record: a union without cases has no record, and under it the empty bytes
 //! are refused with 9, with a row lent or more. And of a reading from an index
 //! ([`calls::parse_val`], [`calls::check_val`]) the statement is false: under a uint32, from byte 0
-//! on, 9 bytes are accepted, and the first 5 of them too.
+//! on, 9 bytes are accepted, and the first 5 of them too. Nor does it hold of a [`GrammarList`]:
+//! what is left of a cut record may be a whole record of another grammar of the list, and where no
+//! grammar accepts it the answer is 22.
 //!
 //! ```
-//! use route_record::{Grammar, Refusal};
+//! use route_record::{Grammar, GrammarList, Refusal};
 //!
 //! let no_case = "union()".parse::<Grammar>()?;
 //! assert_eq!(no_case.check_whole(&[]).unwrap_err().number, Refusal::BYTES_MISSING);
@@ -42,6 +45,11 @@
 //! let record = [7, 0, 0, 0, 8, 0, 0, 0, 9];
 //! assert_eq!(uint32.check_val(&record, 0)?.rest_index, 4);
 //! assert_eq!(uint32.check_val(&record[..5], 0)?.rest_index, 4);
+//!
+//! let list = GrammarList::new(&["u64".parse()?, uint32])?;
+//! assert_eq!(list.choose(&record[..8])?.number, 0);
+//! assert_eq!(list.choose(&record[..4])?.number, 1);
+//! assert_eq!(list.choose(&record[..7]).unwrap_err().number, Refusal::NO_GRAMMAR_ACCEPTS);
 //! # Ok::<(), Box<dyn std::error::Error>>(())
 //! ```
 //!
@@ -60,17 +68,19 @@
 //! # Where it runs
 //!
 //! On x86-64 Linux, which the archive is built for; a build for another target stops and says so.
-//! Firmware is kept out by that, and by the stack: reading and comparing take less than 64 KiB, but
-//! what walks rows, so writing and its preview, up to 1 MiB. The library itself needs no allocator
-//! and no operating system; these bindings use `std`.
+//! Firmware is kept out by that, and by the stack: reading, comparing and choosing a grammar take
+//! less than 64 KiB, but what walks rows, so writing and its preview, up to 1 MiB. The library
+//! itself needs no allocator and no operating system; these bindings use `std`.
 
 #![deny(missing_docs, unsafe_code)]
 
 mod builder;
 pub mod calls;
+mod chosen;
 #[allow(unsafe_code)]
 mod ffi;
 mod grammar;
+mod grammar_list;
 mod kind;
 mod limits;
 mod parsed;
@@ -80,9 +90,11 @@ mod text;
 mod value;
 
 pub use builder::Builder;
+pub use chosen::Chosen;
 pub use grammar::Grammar;
+pub use grammar_list::GrammarList;
 pub use kind::{Class, Kind, KINDS};
-pub use limits::{MAX_BYTES, MAX_GRAMMAR_WORDS, MAX_ROWS, ROW_WORDS};
+pub use limits::{MAX_BYTES, MAX_GRAMMARS, MAX_GRAMMAR_WORDS, MAX_LIST_WORDS, MAX_ROWS, ROW_WORDS};
 pub use parsed::Parsed;
 pub use preview::Preview;
 pub use refusal::{Place, Refusal, SameRouteRefusal, REFUSALS};

@@ -11,3 +11,9 @@ pub const MAX_BYTES: usize = 1_048_576;
 
 /// The most words of a grammar table: of 256 nodes and 1,024 child words.
 pub const MAX_GRAMMAR_WORDS: usize = 2 + 3 * 256 + 1_024;
+
+/// The most grammars of a grammar list.
+pub const MAX_GRAMMARS: usize = 16;
+
+/// The most words of a grammar list: its count, and each grammar behind its word count.
+pub const MAX_LIST_WORDS: usize = 1 + MAX_GRAMMARS * (1 + MAX_GRAMMAR_WORDS);

@@ -5,10 +5,10 @@ use std::fmt;
 
 use crate::ffi::Answer;
 
-/// Where a refusal was found: a word of the grammar, a byte or a row.
+/// Where a refusal was found: a word of the grammar or of the list, a byte or a row.
 #[derive(Clone, Copy, Debug, PartialEq, Eq, Hash)]
 pub enum Place {
-    /// A word of the grammar table.
+    /// A word of the grammar table; where a grammar is chosen, of the grammar list.
     Word(u64),
     /// A byte of the record, of the store, of packed numbers or of the output.
     Byte(u64),
@@ -74,6 +74,8 @@ refusals! {
     18 NOT_AN_ARRAY "there is no such row, or its kind is not 5, 6 or 7"
     19 INPUT_LAYOUT "the input is not a grammar and a record as the program wants them"
     20 NOT_SIGNED "there is no such row, or its kind is not 9 or 10"
+    21 LIST_LAYOUT "the list is empty, its count of grammars is not 1 to 16, or its length does not fit its word counts"
+    22 NO_GRAMMAR_ACCEPTS "no grammar of the list accepts the record whole"
 }
 
 impl fmt::Display for Place {

@@ -2,7 +2,9 @@
 //! of C are those of a program that the gate compiles and runs.
 
 use route_record::{Place, Refusal, KINDS, REFUSALS};
-use route_record::{MAX_BYTES, MAX_GRAMMAR_WORDS, MAX_ROWS, ROW_WORDS};
+use route_record::{
+    MAX_BYTES, MAX_GRAMMARS, MAX_GRAMMAR_WORDS, MAX_LIST_WORDS, MAX_ROWS, ROW_WORDS,
+};
 
 const HEADER: &str = include_str!("../../c/route_record.h");
 
@@ -45,6 +47,8 @@ fn kind_name(of_source: &str) -> String {
 fn the_names_are_those_of_the_bindings() {
     let limits = [
         ("MAX_GRAMMAR_WORDS", MAX_GRAMMAR_WORDS),
+        ("MAX_GRAMMARS", MAX_GRAMMARS),
+        ("MAX_LIST_WORDS", MAX_LIST_WORDS),
         ("MAX_BYTES", MAX_BYTES),
         ("MAX_ROWS", MAX_ROWS),
         ("ROW_WORDS", ROW_WORDS),

@@ -3,7 +3,7 @@
 use std::ffi::{OsStr, OsString};
 use std::slice::Iter;
 
-use route_record::Grammar;
+use route_record::{Grammar, GrammarList};
 
 use crate::answer::Stop;
 use crate::commands::{Command, COMMANDS};
@@ -19,7 +19,8 @@ pub enum Request {
 
 /// What a command is given.
 pub struct Arguments {
-    pub grammar: Source,
+    /// One grammar, or several for a command that takes a list.
+    pub grammars: Vec<Source>,
     pub records: Vec<Source>,
     /// Where a record would be written, for a command that takes it.
     pub output: Option<Source>,
@@ -35,7 +36,22 @@ pub struct Arguments {
 
 impl Arguments {
     pub fn grammar(&self) -> Result<Grammar, Stop> {
-        self.grammar.grammar()
+        self.grammars[0].grammar()
+    }
+
+    /// The list of the grammars. A refusal of one says its number, and so does a wrong text that no
+    /// file holds.
+    pub fn list(&self) -> Result<GrammarList, Stop> {
+        let mut grammars = Vec::new();
+        for (number, source) in self.grammars.iter().enumerate() {
+            let numbered = |lines| format!("grammar {number}: {lines}");
+            grammars.push(source.grammar().map_err(|stop| match (stop, source) {
+                (Stop::Refused(lines), _) => Stop::Refused(numbered(lines)),
+                (Stop::Failed(lines), Source::Text(_)) => Stop::Failed(numbered(lines)),
+                (stop, _) => stop,
+            })?);
+        }
+        Ok(GrammarList::new(&grammars)?)
     }
 
     /// The record with this number among those given.
@@ -56,7 +72,7 @@ struct Given<'a> {
     help: bool,
     hex: bool,
     all: bool,
-    grammar: Option<&'a str>,
+    grammars: Vec<&'a str>,
     index: Option<usize>,
     c: Option<&'a str>,
     /// The options by name.
@@ -133,11 +149,7 @@ impl<'a> Given<'a> {
             ("-h" | "--help", None) => self.help = true,
             ("--hex", None) => self.hex = true,
             ("--all", None) => self.all = true,
-            ("-g" | "--grammar", _) => {
-                if self.grammar.replace(value()?).is_some() {
-                    return Err(misused("the grammar is given twice"));
-                }
-            }
+            ("-g" | "--grammar", _) => self.grammars.push(value()?),
             ("--index", _) => {
                 let value = value()?;
                 let fault = format!("{option} wants a number below 2^64, not '{value}'");
@@ -170,20 +182,31 @@ impl<'a> Given<'a> {
     fn arguments_of(self, command: &Command) -> Result<Arguments, Stop> {
         let fault = |fault: &str| Err(misused(&format!("{fault}: {}", command.usage())));
         let stray = self.stray_option(command);
-        let mut sources = self.names.into_iter().map(|name| Source::of(name));
-        let text = self.grammar.map(|text| Source::Text(text.to_string()));
-        let Some(grammar) = text.or_else(|| sources.next()) else {
-            return fault("the grammar is missing");
+        let texts = self.grammars.iter();
+        let texts = texts.map(|text| Source::Text(text.to_string()));
+        let mut sources = texts.chain(self.names.iter().map(|name| Source::of(name)));
+        let (least, most) = command.count.clone().into_inner();
+        // Where there is no text, names are grammars: the first, for a list all but the record's.
+        let grammar_count = match self.grammars.len() {
+            0 if command.takes_list => self.names.len().saturating_sub(most).max(1),
+            0 => 1,
+            count => count,
         };
+        let grammars: Vec<Source> = sources.by_ref().take(grammar_count).collect();
+        if grammars.is_empty() {
+            return fault("the grammar is missing");
+        }
+        if grammars.len() > 1 && !command.takes_list {
+            return fault("the grammar is given twice");
+        }
         if let Some(option) = stray {
             return fault(&format!("{option} is for another command"));
         }
         let mut records: Vec<Source> = sources.collect();
-        let (least, most) = command.count.clone().into_inner();
         let has_output = command.takes_output && records.len() > most;
         let output = has_output.then(|| records.pop()).flatten();
         let is_stdin = |source: &&Source| **source == Source::StandardInput;
-        let sources = records.iter().chain(&output).chain([&grammar]);
+        let sources = records.iter().chain(&output).chain(&grammars);
         let (count, stdin_uses) = (records.len(), sources.filter(is_stdin).count());
         let faults = [
             (count < least, "a record is missing"),
@@ -196,7 +219,7 @@ impl<'a> Given<'a> {
             return fault(words);
         }
         Ok(Arguments {
-            grammar,
+            grammars,
             records,
             output,
             hex: self.hex,

@@ -9,13 +9,15 @@ use crate::tree::{tree, SHOWN};
 /// A command: what it takes, what the help says of it, and what it does.
 pub struct Command {
     pub name: &'static str,
+    /// Whether it takes several grammars.
+    pub takes_list: bool,
     /// How many records it takes.
     pub count: RangeInclusive<usize>,
     /// Whether an output stands behind the records.
     pub takes_output: bool,
     /// The options that not every command takes.
     pub options: &'static [&'static str],
-    /// What it takes behind the grammar, as the help writes it.
+    /// What it takes behind its grammars, as the help writes it.
     pub records: &'static str,
     pub summary: &'static str,
     /// A line that can be typed.
@@ -29,16 +31,18 @@ pub struct Command {
 impl Command {
     /// How the command is written.
     pub fn usage(&self) -> String {
-        format!("route {} GRAMMAR {}", self.name, self.records)
+        let dots = if self.takes_list { ".." } else { "" };
+        format!("route {} GRAMMAR{dots} {}", self.name, self.records)
             .trim_end()
             .to_string()
     }
 }
 
 /// All commands, in the order of the help.
-pub static COMMANDS: [Command; 6] = [
+pub static COMMANDS: [Command; 7] = [
     Command {
         name: "check",
+        takes_list: false,
         count: 0..=1,
         takes_output: false,
         options: &[],
@@ -52,6 +56,7 @@ pub static COMMANDS: [Command; 6] = [
     },
     Command {
         name: "tree",
+        takes_list: false,
         count: 1..=1,
         takes_output: false,
         options: &["--index", "--all"],
@@ -63,6 +68,7 @@ pub static COMMANDS: [Command; 6] = [
     },
     Command {
         name: "same",
+        takes_list: false,
         count: 2..=2,
         takes_output: false,
         options: &[],
@@ -75,7 +81,24 @@ pub static COMMANDS: [Command; 6] = [
         run: same,
     },
     Command {
+        name: "choose",
+        takes_list: true,
+        count: 1..=1,
+        takes_output: false,
+        options: &[],
+        records: "RECORD",
+        summary: "Gives the first of up to 16 grammars that accepts the whole record, counted\n\
+                  from 0, and how many values were begun by all tries, the refused ones too.\n\
+                  All grammars are checked first. The refusal of one says its number, and\n\
+                  its place is a word of that grammar's own table.",
+        example: "echo 07000000 0200000000000000 4142 | \
+                  route choose -g u32 -g 'array(constant)' -g 'tuple(u32, bytes)' --hex -",
+        printed: "grammar 2, values begun 5\n",
+        run: choose,
+    },
+    Command {
         name: "size",
+        takes_list: false,
         count: 1..=1,
         takes_output: false,
         options: &["--index"],
@@ -87,6 +110,7 @@ pub static COMMANDS: [Command; 6] = [
     },
     Command {
         name: "preview",
+        takes_list: false,
         count: 1..=1,
         takes_output: true,
         options: &["--index"],
@@ -101,6 +125,7 @@ pub static COMMANDS: [Command; 6] = [
     },
     Command {
         name: "words",
+        takes_list: false,
         count: 0..=0,
         takes_output: false,
         options: &["--c"],
@@ -144,6 +169,15 @@ fn same(arguments: &Arguments) -> Result<String, Stop> {
         true => Ok("same\n".to_string()),
         false => Err(Stop::Different),
     }
+}
+
+fn choose(arguments: &Arguments) -> Result<String, Stop> {
+    let list = arguments.list()?;
+    let chosen = list.choose(&arguments.record(0)?)?;
+    Ok(format!(
+        "grammar {}, values begun {}\n",
+        chosen.number, chosen.begun
+    ))
 }
 
 fn size(arguments: &Arguments) -> Result<String, Stop> {

@@ -15,7 +15,8 @@ space or commas.
 
 Options:
     -g, --grammar TEXT    the grammar itself; there is no argument GRAMMAR then.
-                          Also -gTEXT and --grammar=TEXT
+                          Also -gTEXT and --grammar=TEXT. For choose once for
+                          each grammar
     --hex                 records and outputs are hexadecimal digits; white
                           space is ignored
     --index I             the byte where the value starts, for preview in the
@@ -46,7 +47,8 @@ pub fn text(command: Option<&Command>) -> String {
     let forms = format!("{},\n    {}", without.join(", "), with_children.join(", "));
     format!(
         "\
-Checks, shows and compares route records, and previews writing them.
+Checks, shows and compares route records, chooses their grammars and previews
+writing them.
 
 {commands}\
 Arguments are files; one may be -, standard input. Records and outputs are raw

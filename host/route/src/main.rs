@@ -1,4 +1,5 @@
-//! The command line tool: checks, shows and compares route records, and previews writing them.
+//! The command line tool: checks, shows and compares route records, chooses their grammars and
+//! previews writing them.
 
 #![forbid(unsafe_code)]
 

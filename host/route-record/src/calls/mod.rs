@@ -14,6 +14,7 @@
 //! assert_eq!(unpack_u32(&out, 7), Err(Refusal { number: 9, place: Place::Byte(7) }));
 //! ```
 
+mod choosing;
 mod grammar;
 mod packed;
 mod reading;
@@ -21,6 +22,7 @@ mod rows;
 mod same_route;
 mod writing;
 
+pub use choosing::choose_grammar;
 pub use grammar::check_grammar;
 pub use packed::{
     pack_u32, pack_u32_seq, pack_u64, pack_u64_seq, unpack_u32, unpack_u32_seq, unpack_u64,

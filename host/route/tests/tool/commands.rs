@@ -180,6 +180,60 @@ fn same_leaves_out_the_first_field_of_a_root_that_is_a_tuple() {
     assert_eq!(answer("array(tuple(u32))", seven, eight), different);
 }
 
+/// What is printed of a choice.
+fn chosen(number: usize, begun: usize) -> Run {
+    printed(0, &format!("grammar {number}, values begun {begun}\n"))
+}
+
+#[test]
+fn choose_gives_the_first_grammar_that_accepts_and_the_values_begun() {
+    let choose = |record: &[u8]| route(&["choose", "-gu64", "-gu32", "-gconstant", "-"], record);
+    assert_eq!(choose(&[0; 8]), chosen(0, 1));
+    assert_eq!(choose(&[0; 4]), chosen(1, 2));
+    assert_eq!(choose(&[]), chosen(2, 3));
+    assert_eq!(choose(&[0]), refused(22, Place::Byte(0)));
+
+    let five = ["u32", "array(constant)", "union(u32)", TYPES, WORDS];
+    let grammars = five.map(|text| format!("--grammar={text}"));
+    let grammars = grammars.iter().map(String::as_str);
+    let arguments: Vec<&str> = ["choose", "-"].into_iter().chain(grammars).collect();
+    assert_eq!(route(&arguments, &RECORD), chosen(3, 1 + 1 + 1 + 3));
+}
+
+#[test]
+fn choose_takes_grammars_and_a_record_as_files_or_standard_input() {
+    let folder = folder("choose");
+    let uint32 = &file(&folder, "uint32", "u32");
+    let types = &file(&folder, "types", TYPES);
+    let words = &file(&folder, "words", WORDS);
+    let record = &file(&folder, "record", RECORD);
+    let hex = &file(&folder, "record.hex", HEX);
+    let choose = |arguments: &[&str], stdin: &[u8], expected: Run| {
+        let got = route(&[&["choose"], arguments].concat(), stdin);
+        assert_eq!(got, expected, "{arguments:?}");
+    };
+    choose(&[types, record], b"", chosen(0, 3));
+    choose(&[uint32, words, types, record], b"", chosen(1, 4));
+    choose(&[uint32, types, "-"], &RECORD, chosen(1, 4));
+    choose(&[uint32, "-", types, record], b"u64", chosen(2, 5));
+    choose(&["--hex", uint32, types, hex], b"", chosen(1, 4));
+    choose(&[record, "-g", TYPES], b"", chosen(0, 3));
+    choose(&["-gu32", record, "--grammar", WORDS], b"", chosen(1, 4));
+}
+
+#[test]
+fn choose_takes_at_most_16_grammars() {
+    let choose = |count| {
+        let grammars = vec!["-gu32"; count];
+        route(
+            &[&["choose"], &grammars[..], &["-gu64", "-"]].concat(),
+            &[0; 8],
+        )
+    };
+    assert_eq!(choose(15), chosen(15, 16));
+    assert_eq!(choose(16), refused(21, Place::Word(0)));
+}
+
 #[test]
 fn size_starts_at_the_index_and_ignores_what_follows() {
     let record = [&[0xff, 0xff], &RECORD[..], &[0xee]].concat();

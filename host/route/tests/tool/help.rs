@@ -9,7 +9,9 @@ use route_record::{Kind, KINDS};
 
 use crate::run::{folder, printed, route, run, Run};
 
-const COMMANDS: [&str; 6] = ["check", "tree", "same", "size", "preview", "words"];
+const COMMANDS: [&str; 7] = [
+    "check", "tree", "same", "choose", "size", "preview", "words",
+];
 
 /// The example of each command that a help shows: the line, and what it prints.
 fn examples(help: &str) -> Vec<(String, String)> {

@@ -34,6 +34,19 @@ fn every_command_refuses_a_refused_grammar() {
         let arguments: Vec<&str> = [command].into_iter().chain(arguments).collect();
         assert_eq!(route(&arguments, b""), refusal, "{command}");
     }
+
+    // Among several it is named, whether one before it accepts the record or not.
+    let of_number = |number| printed(1, &format!("grammar {number}: {}", refusal.stdout));
+    let got = route(&["choose", "-g", grammar, "-g", grammar, record], b"");
+    assert_eq!(got, of_number(0));
+    for before in ["constant", "u32"] {
+        let arguments = ["choose", "-g", before, "-g", grammar, record];
+        assert_eq!(route(&arguments, b""), of_number(1), "{before}");
+    }
+    let grammar = &file(&folder, "grammar", grammar);
+    let sound = &file(&folder, "sound", "constant");
+    let got = route(&["choose", sound, sound, grammar, record], b"");
+    assert_eq!(got, of_number(2));
 }
 
 #[test]
@@ -43,5 +56,10 @@ fn a_record_longer_than_the_library_reads() {
     let got = route(&["check", "-g", "bytes", "-"], &most);
     assert_eq!(got, printed(0, "accepted: rows 1, bytes 1048576\n"));
     let got = route(&["tree", "-g", "bytes", "-"], &[&most[..], &[0]].concat());
+    assert_eq!(got, refused(6, Place::Byte(0)));
+    let got = route(&["choose", "-gu32", "-gbytes", "-"], &most);
+    assert_eq!(got, printed(0, "grammar 1, values begun 2\n"));
+    let longer = [&most[..], &[0]].concat();
+    let got = route(&["choose", "-gu32", "-gbytes", "-"], &longer);
     assert_eq!(got, refused(6, Place::Byte(0)));
 }

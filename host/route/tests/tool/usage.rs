@@ -26,7 +26,6 @@ fn commands_and_options_that_are_none() {
         ("tree --raw", "there is no option '--raw'"),
         ("tree -x", "there is no option '-x'"),
         ("tree -g", "-g wants a value"),
-        ("tree -g u32 --grammar u64", "the grammar is given twice"),
         ("size --index", "--index wants a value"),
         (
             "size --index -1",
@@ -37,7 +36,6 @@ fn commands_and_options_that_are_none() {
             "--index wants a number below 2^64, not '1.5'",
         ),
         ("tree --all=1", "there is no option '--all=1'"),
-        ("tree -gu32 --grammar=u64", "the grammar is given twice"),
         ("tree -gu32 --index 0 --index=1 -", "--index is given twice"),
         ("words --c a --c b -gu32", "--c is given twice"),
         ("words --c int -gu32", "--c wants a name in C, not 'int'"),
@@ -55,13 +53,33 @@ fn arguments_that_a_command_does_not_take() {
     let check = "route check GRAMMAR [RECORD]";
     let tree = "route tree GRAMMAR RECORD [--index I] [--all]";
     let same = "route same GRAMMAR FIRST SECOND";
+    let choose = "route choose GRAMMAR.. RECORD";
     let preview = "route preview GRAMMAR RECORD OUTPUT [--index I]";
     let words = "route words GRAMMAR [--c NAME]";
     for (line, fault, usage) in [
         ("check", "the grammar is missing", check),
         ("tree g", "a record is missing", tree),
         ("tree -g u32", "a record is missing", tree),
+        (
+            "tree -g u32 --grammar u64 r",
+            "the grammar is given twice",
+            tree,
+        ),
+        (
+            "words -gu32 --grammar=u64",
+            "the grammar is given twice",
+            words,
+        ),
         ("same g r", "a record is missing", same),
+        ("choose", "the grammar is missing", choose),
+        ("choose g", "a record is missing", choose),
+        ("choose -g u32 -g u64", "a record is missing", choose),
+        ("choose -g u32 g r", "there are too many arguments", choose),
+        (
+            "choose g g r --index 0",
+            "--index is for another command",
+            choose,
+        ),
         ("preview", "the grammar is missing", preview),
         ("preview -g u32", "a record is missing", preview),
         ("preview g r", "the output is missing", preview),
@@ -95,6 +113,16 @@ fn arguments_that_a_command_does_not_take() {
             "standard input can be only one of them",
             preview,
         ),
+        (
+            "choose g - -",
+            "standard input can be only one of them",
+            choose,
+        ),
+        (
+            "choose - - r",
+            "standard input can be only one of them",
+            choose,
+        ),
     ] {
         assert_misused(line, &format!("{fault}: {usage}"));
     }
@@ -111,6 +139,8 @@ fn files_that_cannot_be_read() {
         &["tree", grammar, missing],
         &["preview", grammar, missing, grammar],
         &["preview", grammar, grammar, missing],
+        &["choose", grammar, missing, grammar],
+        &["choose", grammar, grammar, missing],
     ] {
         let got = route(arguments, b"");
         let start = format!("route: cannot read {missing}: ");
@@ -134,6 +164,12 @@ fn a_wrong_text_is_said_with_its_source_line_and_column() {
     assert_eq!(got, failed(&format!("standard input:1:7: {expected}")));
     let got = route(&["check", "-g", "x"], b"");
     assert_eq!(got, failed(&format!("--grammar:1:1: {expected}")));
+    let got = route(&["choose", "-g", "u32", "-g", "x", "-"], b"");
+    let numbered = format!("grammar 1: --grammar:1:1: {expected}");
+    assert_eq!(got, failed(&numbered));
+    let sound = &file(&folder, "sound.txt", "u32");
+    let got = route(&["choose", sound, grammar, "-"], b"");
+    assert_eq!(got, failed(&format!("{grammar}:2:15: {expected}")));
 
     let digit = "expected a hexadecimal digit, found";
     let got = route(&["check", "-g", "u32", "--hex", "-"], b"0700\n0 000x");
