@@ -32,7 +32,8 @@ pub use row_table::{RowInput, RowTable};
 pub use run::{on_large_stack, run, Answers};
 pub use show::{show, show_by_model, show_by_program, show_from, show_in_pieces, show_input};
 pub use shrink::shrink;
-pub use table::{chain, chain_and_number, leaf, root_kinds, table, Table};
+pub use table::{chain, chain_and_number, doubling, grammar_list, grammars_of, leaf};
+pub use table::{root_kinds, table, Table};
 pub use writing::Value;
 
 /// The refusal of the model in the bindings' type.

@@ -1,6 +1,6 @@
 //! A case and what comes of it as a line of JSON.
 
-use route_record::{Place, Refusal};
+use route_record::{Place, Refusal, MAX_GRAMMARS};
 
 use crate::json::{decimal, Fields, Json};
 use crate::list::{self, Layout};
@@ -40,16 +40,19 @@ const fn numbers<N: PartialEq + ToString>() -> Layout<N> {
     }
 }
 
-/// The list of a grammar: N, the nodes, M, the child words. A part that is not there is left out.
-fn grammar_list(words: &[u32]) -> Vec<Json> {
+/// Takes so many of the words that are left, or all where there are fewer.
+fn take_words<'a>(rest: &mut &'a [u32], count: usize) -> &'a [u32] {
+    let (taken, behind) = rest.split_at(count.min(rest.len()));
+    *rest = behind;
+    taken
+}
+
+/// The parts of a grammar: N, the nodes, M, the child words. A part that is not there is left out.
+fn grammar_parts(words: &[u32]) -> Vec<Json> {
     let nodes = words.first().map_or(0, |&n| n as usize);
     let sections = [1, nodes.saturating_mul(3), 1];
     let mut rest = words;
-    let [n, nodes, m] = sections.map(|length| {
-        let (section, behind) = rest.split_at(length.min(rest.len()));
-        rest = behind;
-        section
-    });
+    let [n, nodes, m] = sections.map(|length| take_words(&mut rest, length));
     [
         numbers().list(n),
         NODES.list(nodes),
@@ -59,15 +62,32 @@ fn grammar_list(words: &[u32]) -> Vec<Json> {
     .concat()
 }
 
+/// The parts of a grammar list: its count, and for each grammar, up to one more than a list may have,
+/// its word count and its parts. The words behind these come last.
+fn grammar_list_parts(words: &[u32]) -> Vec<Json> {
+    let mut rest = words;
+    let count = take_words(&mut rest, 1);
+    let mut parts = numbers().list(count);
+    let count = count.first().map_or(0, |&count| count as usize);
+    for _ in 0..count.min(MAX_GRAMMARS + 1) {
+        let [length, ..] = *rest else { break };
+        parts.extend(numbers().list(take_words(&mut rest, 1)));
+        parts.extend(grammar_parts(take_words(&mut rest, length as usize)));
+    }
+    parts.extend(numbers().list(rest));
+    parts
+}
+
 impl Field<'_> {
-    /// The field in JSON. Its name says which slices are grammars and rows.
+    /// The field in JSON. Its name says which slices are grammars, lists of them and rows.
     fn to_json(&self, name: &str) -> Json {
         match self {
             Field::Uint32(number) => Json::Text(number.to_string()),
             Field::Uint64(number) => Json::Text(number.to_string()),
             Field::Size(number) => Json::Text(number.to_string()),
             Field::Bytes(bytes) => Json::List(BYTES.list(bytes)),
-            Field::Uint32s(words) if name == "grammar" => Json::List(grammar_list(words)),
+            Field::Uint32s(words) if name == "grammar" => Json::List(grammar_parts(words)),
+            Field::Uint32s(words) if name == "list" => Json::List(grammar_list_parts(words)),
             Field::Uint32s(words) => Json::List(numbers().list(words)),
             Field::Uint64s(words) if name == "rows" => Json::List(ROWS.list(words)),
             Field::Uint64s(words) => Json::List(numbers().list(words)),

@@ -6,6 +6,7 @@ use crate::Random;
 const KINDS: [u32; 16] = [0, 1, 2, 5, 6, 7, 9, 10, 3, 3, 4, 4, 4, 8, 8, 8];
 
 /// A grammar table.
+#[derive(Clone)]
 pub struct Table {
     /// Kind, first and count of each node.
     pub nodes: Vec<[u32; 3]>,
@@ -126,6 +127,29 @@ pub fn table(nodes: &[[u32; 3]], children: &[u32]) -> Vec<u32> {
     [&[n], nodes.concat().as_slice(), &[m], children].concat()
 }
 
+/// The list of these grammars: their count, and each behind its word count.
+pub fn grammar_list(grammars: &[impl AsRef<[u32]>]) -> Vec<u32> {
+    let mut list = vec![grammars.len() as u32];
+    for grammar in grammars.iter().map(AsRef::as_ref) {
+        list.push(grammar.len() as u32);
+        list.extend(grammar);
+    }
+    list
+}
+
+/// The grammars of a list whose length is that of its counts.
+pub fn grammars_of(list: &[u32]) -> Option<Vec<Vec<u32>>> {
+    let (&count, mut rest) = list.split_first()?;
+    let mut grammars = Vec::new();
+    for _ in 0..count {
+        let (&length, behind) = rest.split_first()?;
+        let (grammar, behind) = behind.split_at_checked(length as usize)?;
+        grammars.push(grammar.to_vec());
+        rest = behind;
+    }
+    rest.is_empty().then_some(grammars)
+}
+
 /// The kind of a sound table's root and, if it is a tuple with at least one field, that of the
 /// first.
 pub fn root_kinds(words: &[u32]) -> (u32, Option<u32>) {
@@ -162,5 +186,14 @@ pub fn chain_and_number(kind: u32) -> Vec<u32> {
         .chain([[1, 0, 0]])
         .collect();
     let children: Vec<u32> = [1, 255].into_iter().chain(2..256).collect();
+    table(&nodes, &children)
+}
+
+/// The words of so many nodes, at least one: each but the last a tuple of the next one twice, and the
+/// last of this kind. Its tree has 2 to the power of one less leaves.
+pub fn doubling(nodes: u32, kind: u32) -> Vec<u32> {
+    let parents = (1..nodes).map(|k| [4, 2 * k - 2, 2]);
+    let children: Vec<u32> = (1..nodes).flat_map(|k| [k, k]).collect();
+    let nodes: Vec<[u32; 3]> = parents.chain([[kind, 0, 0]]).collect();
     table(&nodes, &children)
 }

@@ -3,11 +3,12 @@
 
 use std::thread;
 
-use compare::{chain, chain_and_number, Case};
-use route_record::{calls, Parsed, Place, Refusal, SameRouteRefusal};
+use compare::{chain, chain_and_number, grammar_list, leaf, Case};
+use route_record::{calls, Chosen, Parsed, Place, Refusal, SameRouteRefusal};
 
 type Answer = Result<Parsed, Refusal>;
 type SameRoute = Result<bool, SameRouteRefusal>;
+type Choice = Result<Chosen, Refusal>;
 
 /// The bytes of stack within which a reading stays.
 const STACK: usize = 64 * 1_024;
@@ -22,13 +23,15 @@ fn on_small_stack<T: Send>(work: impl FnOnce() -> T + Send) -> T {
     })
 }
 
-/// The library's answers, with rows and as a check, and whether the record is the same route as
-/// itself.
-fn answers(grammar: &[u32], record: &[u8]) -> ([Answer; 2], SameRoute) {
+/// The library's answers, with rows and as a check, whether the record is the same route as itself,
+/// and which grammar of a list accepts it: the grammar stands behind a union without cases.
+fn answers(grammar: &[u32], record: &[u8]) -> ([Answer; 2], SameRoute, Choice) {
     let mut words = vec![0; 4 * 256];
     let lent = calls::demarshall(grammar, record, &mut words);
     let check = calls::check_whole(grammar, record);
-    ([lent, check], calls::same_route(grammar, record, record))
+    let same = calls::same_route(grammar, record, record);
+    let list = grammar_list(&[&leaf(8)[..], grammar]);
+    ([lent, check], same, calls::choose_grammar(&list, record))
 }
 
 /// The answers to a chain of this kind, each value of which begins with these bytes, on the small
@@ -56,7 +59,11 @@ fn compare_chain(kind: u32, own: &[u8]) {
         assert_eq!(answer, expected.map(parsed));
         let answers = on_small_stack(|| answers(&grammar, record));
         let same = expected.map(|_| true).map_err(SameRouteRefusal::First);
-        assert_eq!(answers, ([expected; 2], same));
+        let (number, begun) = (1, 1 + 256);
+        let chosen = expected.map(|_| Chosen { number, begun });
+        let (number, place) = (22, Place::Byte(0));
+        let chosen = chosen.map_err(|_| Refusal { number, place });
+        assert_eq!(answers, ([expected; 2], same, chosen));
     }
 }
 

@@ -62,19 +62,23 @@ fn packed_everywhere() {
     assert_eq!(packed(&U64), [91, 91, 337, 337]);
 }
 
-/// How many of all sequences of words whose word i is one of `choices[i]` are sound tables.
-fn sound_tables(choices: &[&[u32]]) -> usize {
-    let cases = choices.iter().map(|words| words.len()).product();
-    accepted((0..cases).map(|case| {
-        let mut rest = case;
+/// All sequences of words whose word i is one of `choices[i]`.
+fn sequences<'a>(choices: &'a [&'a [u32]]) -> impl Iterator<Item = Vec<u32>> + 'a {
+    let count = choices.iter().map(|words| words.len()).product();
+    (0..count).map(|number: usize| {
+        let mut rest = number;
         let word = |words: &&[u32]| {
             let word = words[rest % words.len()];
             rest /= words.len();
             word
         };
-        let grammar = choices.iter().map(word).collect();
-        Case::CheckGrammar { grammar }
-    }))
+        choices.iter().map(word).collect()
+    })
+}
+
+/// How many of all sequences of words whose word i is one of `choices[i]` are sound tables.
+fn sound_tables(choices: &[&[u32]]) -> usize {
+    accepted(sequences(choices).map(|grammar| Case::CheckGrammar { grammar }))
 }
 
 #[test]
@@ -98,6 +102,42 @@ fn tables_of_two_nodes_and_two_child_words() {
     // node 0 each of them goes with all 16 pairs of child words, each of the four nodes with one
     // child (kind 3 or 4, first 0 or 1) with 4 pairs, and the tuple of two with 1.
     assert_eq!(sound_tables(&table), 4 * (4 * 16 + 4 * 4 + 1));
+}
+
+/// How many of all sequences of words whose word i is one of `choices[i]` are laid out as lists, and
+/// how many of these lists accept the empty record.
+fn sound_lists(choices: &[&[u32]]) -> (usize, usize) {
+    let (mut laid_out, mut accepted) = (0, 0);
+    for list in sequences(choices) {
+        let record = vec![];
+        let case = Case::ChooseGrammar { list, record };
+        let number = case.compare().answer.number();
+        laid_out += usize::from(number != 21);
+        accepted += usize::from(number == 0);
+    }
+    (laid_out, accepted)
+}
+
+#[test]
+fn lists_of_up_to_five_words() {
+    let words: &[u32] = &[0, 1, 2, 3, 4, 16, 17, u32::MAX];
+    let sound = [0, 1, 2, 3, 4, 5].map(|length| sound_lists(&vec![words; length]));
+    // Of k grammars with w words there are 8^w, times the ways to share w among k: for lists of 2 to
+    // 5 words 1, then 8 + 1, then 8^2 + 2 * 8 + 1, then 8^3 + 3 * 8^2 + 3 * 8 + 1. No grammar of 3
+    // words is sound.
+    assert_eq!(sound, [0, 0, 1, 9, 81, 729].map(|laid_out| (laid_out, 0)));
+}
+
+#[test]
+fn lists_of_two_grammars() {
+    let (count, length): (&[u32], &[u32]) = (&[0, 1, 2, 3, u32::MAX], &[0, 4, 5, 6, 11, u32::MAX]);
+    let (one, zero, kind): (&[u32], &[u32], &[u32]) = (&[1], &[0], &[0, 1, 11]);
+    let grammar = [length, one, kind, zero, zero, zero];
+    let list = [&[count], &grammar[..], &grammar].concat();
+    // Laid out are one grammar of 11 words, whichever of 6 is its sixth; two of 5; three of 4, 0 and 5;
+    // three of 5, 4 and 0: each with 9 pairs of kinds. Of two of 5 words, none of kind 11, all but two
+    // uint32 accept.
+    assert_eq!(sound_lists(&list), ((6 + 1 + 1 + 1) * 9, 4 - 1));
 }
 
 type Row = [u64; 4];

@@ -1,7 +1,7 @@
 //! Cases as lines of JSON: what is written is read back, and what is not such a line is refused.
 
 use compare::json::Json;
-use compare::{leaf, Case, Line, Value};
+use compare::{grammar_list, leaf, Case, Line, Value};
 
 /// The line of a case.
 fn line(case: Case) -> Line {
@@ -85,6 +85,19 @@ fn texts() {
         text(refused),
         r#"{"name": "a name", "call": "same_route", "grammar": ["1", "2 0 0", "0"], "first": ["0000000000000000"], "second": [{"repeat": "00", "times": 17}], "refused": {"number": 11, "place": "byte", "at": "8", "record": 2}}"#
     );
+    let choosing = |grammars: &[Vec<u32>]| Case::ChooseGrammar {
+        list: grammar_list(grammars),
+        record: vec![7, 0, 0, 0],
+    };
+    let array = vec![2, 3, 0, 1, 0, 0, 0, 1, 1];
+    assert_eq!(
+        text(choosing(&[array.clone(), leaf(1)])),
+        r#"{"name": "a name", "call": "choose_grammar", "list": ["2", "9", "2", "3 0 1", "0 0 0", "1", "1", "5", "1", "1 0 0", "0"], "record": ["07000000"], "accepted": {"number": "1", "begun": "2"}}"#
+    );
+    assert_eq!(
+        text(choosing(&[array, vec![]])),
+        r#"{"name": "a name", "call": "choose_grammar", "list": ["2", "9", "2", "3 0 1", "0 0 0", "1", "1", "0"], "record": ["07000000"], "refused": {"number": 1, "place": "word", "at": "12"}}"#
+    );
 }
 
 #[test]
@@ -125,6 +138,25 @@ fn grammars_of_any_words_read_back() {
     for table in tables {
         let grammar = table.to_vec();
         let line = line(Case::CheckGrammar { grammar });
+        assert_eq!(read(&line.to_json().to_string()), Ok(line));
+    }
+}
+
+#[test]
+fn grammar_lists_of_any_words_read_back() {
+    let lists: [&[u32]; 8] = [
+        &[],
+        &[0],
+        &[2],
+        &[1, 5, 1, 0],
+        &[1, u32::MAX, 1, 0, 0, 0, 0],
+        &[u32::MAX, 0, 0],
+        &[1, 5, 1, 0, 0, 0, 0, 9],
+        &[3, 1, u32::MAX, 2, 1, 1, 0],
+    ];
+    for list in lists {
+        let (list, record) = (list.to_vec(), vec![]);
+        let line = line(Case::ChooseGrammar { list, record });
         assert_eq!(read(&line.to_json().to_string()), Ok(line));
     }
 }

@@ -2,8 +2,9 @@
 
 use std::process::{Command, Output};
 
-use compare::{run, Answer, Answers, Case, Outcome, Value};
-use route_record::{Place, Refusal};
+use compare::{grammar_list, grammars_of, run};
+use compare::{Answer, Answers, Case, Difference, Outcome, Value};
+use route_record::{Place, Refusal, ROW_WORDS};
 
 /// The answers of a run of so many cases.
 fn run_cases(seed: u64, cases: u64) -> Answers {
@@ -22,7 +23,7 @@ fn run_cases(seed: u64, cases: u64) -> Answers {
 /// Every call gives every answer that it can give, and no other.
 #[test]
 fn each_call_gives_each_of_its_answers() {
-    let answers = run_cases(1, 12_000);
+    let answers = run_cases(1, 20_000);
     let mut total = 0;
     for blank in Case::blanks() {
         for &number in blank.answer_numbers() {
@@ -42,6 +43,14 @@ fn a_seed_gives_the_same_cases_again() {
     assert_ne!(answers, run_cases(5, 1_000));
 }
 
+/// The difference between the model and a false library that a seed shows within so many cases.
+fn difference(seed: u64, library: impl Fn(&Case) -> Outcome + Send, cases: u64) -> Box<Difference> {
+    let mut answers = Answers::default();
+    let difference = run(seed, library, || true, &mut answers).expect_err("a difference");
+    assert!(answers.total() < cases);
+    difference
+}
+
 /// A library that accepts every grammar is found out, by the smallest table that is refused.
 #[test]
 fn a_false_library_is_found_out() {
@@ -49,8 +58,7 @@ fn a_false_library_is_found_out() {
         Case::CheckGrammar { .. } => Outcome::with(Answer::Accepted(vec![]), case),
         _ => case.of_library(),
     };
-    let mut answers = Answers::default();
-    let difference = run(6, library, || true, &mut answers).expect_err("a difference");
+    let difference = difference(6, library, 1_000);
     let grammar = vec![];
     assert_eq!(difference.case, Case::CheckGrammar { grammar });
     assert_eq!(
@@ -58,7 +66,6 @@ fn a_false_library_is_found_out() {
         r#"{"name": "by the model", "call": "check_grammar", "grammar": [], "refused": {"number": 1, "place": "word", "at": "0"}}
 {"name": "by the library", "call": "check_grammar", "grammar": [], "accepted": {}}"#
     );
-    assert!(answers.total() < 1_000);
 }
 
 type Comparison = fn(&[u8], &[u8]) -> bool;
@@ -85,10 +92,8 @@ fn a_false_comparison_of_routes_is_found_out() {
                 _ => outcome,
             }
         };
-        let mut answers = Answers::default();
-        let difference = run(7, library, || true, &mut answers).expect_err("a difference");
+        let difference = difference(7, library, 1_000);
         assert_eq!(difference.case.call(), "same_route");
-        assert!(answers.total() < 1_000);
     }
 }
 
@@ -131,10 +136,8 @@ fn a_false_count_of_changed_bytes_is_found_out() {
                 _ => outcome,
             }
         };
-        let mut answers = Answers::default();
-        let difference = run(8, library, || true, &mut answers).expect_err("a difference");
+        let difference = difference(8, library, 2_000);
         assert_eq!(difference.case.call(), "preview");
-        assert!(answers.total() < 2_000);
     }
 }
 
@@ -154,8 +157,7 @@ fn a_preview_unlike_the_writing_is_found_out() {
         }
         _ => case.of_library(),
     };
-    let mut answers = Answers::default();
-    let difference = run(9, library, || true, &mut answers).expect_err("a difference");
+    let difference = difference(9, library, 2_000);
     assert_eq!(difference.case.call(), "preview");
     assert_eq!(difference.model.answer, difference.library.answer);
     assert!(difference.library.contradiction().is_some());
@@ -166,7 +168,83 @@ fn a_preview_unlike_the_writing_is_found_out() {
         last.starts_with(r#"{"name": "by the library's writing""#),
         "{last}"
     );
-    assert!(answers.total() < 2_000);
+}
+
+/// A chooser's answer by the grammars of the list and the record, where the sound one accepts and
+/// gives these numbers.
+type Choice = fn(&[Vec<u32>], &[u8], [u64; 2]) -> [u64; 2];
+
+/// Choices that are not the first grammar that accepts and the values begun by all tries: the last
+/// that accepts, and how many do not; as the values begun those of the last try, the number of tries,
+/// and those of all tries but the first.
+const FALSE_CHOICES: [Choice; 5] = [
+    |grammars, record, [_, begun]| {
+        let accepts = |grammar: &Vec<u32>| model::check_whole(grammar, record).is_ok();
+        let last = grammars.iter().rposition(accepts).expect("one accepts");
+        [last as u64, begun]
+    },
+    |grammars, record, [_, begun]| {
+        let refuses = |grammar: &&Vec<u32>| model::check_whole(grammar, record).is_err();
+        [grammars.iter().filter(refuses).count() as u64, begun]
+    },
+    |grammars, record, [number, _]| {
+        let grammar = &grammars[number as usize];
+        let reading = model::check_whole(grammar, record).expect("it accepts");
+        [number, (reading.rows.len() / ROW_WORDS) as u64]
+    },
+    |_, _, [number, _]| [number, number + 1],
+    |grammars, record, [number, begun]| match number {
+        0 => [number, begun],
+        _ => {
+            let others = grammar_list(&grammars[1..]);
+            let chosen = model::choose_grammar(&others, record).expect("one accepts");
+            [number, chosen.begun as u64]
+        }
+    },
+];
+
+#[test]
+fn a_false_choice_is_found_out() {
+    for choice in FALSE_CHOICES {
+        let library = |case: &Case| {
+            let outcome = case.of_library();
+            match (case, &outcome.answer) {
+                (Case::ChooseGrammar { list, record }, Answer::Accepted(given)) => {
+                    let grammars = grammars_of(list).expect("a list that is laid out");
+                    let given = choice(&grammars, record, [given[0], given[1]]);
+                    Outcome::with(Answer::Accepted(given.to_vec()), case)
+                }
+                _ => outcome,
+            }
+        };
+        let difference = difference(11, library, 1_000);
+        assert_eq!(difference.case.call(), "choose_grammar");
+    }
+}
+
+/// A library that checks a grammar only when it comes to try it, so not behind one that accepts, is
+/// found out.
+#[test]
+fn a_late_check_of_a_grammar_is_found_out() {
+    let library = |case: &Case| {
+        let outcome = case.of_library();
+        let (Case::ChooseGrammar { list, record }, 1..=5) = (case, outcome.answer.number()) else {
+            return outcome;
+        };
+        let grammars = grammars_of(list).expect("a list that is laid out");
+        let is_sound = |grammar: &&Vec<u32>| model::check_grammar(grammar).is_ok();
+        let before = grammars.iter().take_while(is_sound).count();
+        let list = grammar_list(&grammars[..before]);
+        match model::choose_grammar(&list, record) {
+            Ok(chosen) => {
+                let given = [chosen.number, chosen.begun].map(|number| number as u64);
+                Outcome::with(Answer::Accepted(given.to_vec()), case)
+            }
+            Err(_) => outcome,
+        }
+    };
+    let difference = difference(12, library, 2_000);
+    assert_eq!(difference.case.call(), "choose_grammar");
 }
 
 /// Answers that are wrong of every proper front part of an accepted record: accepted, refused with
@@ -200,8 +278,7 @@ fn a_false_answer_to_a_front_part_is_found_out() {
             }),
             _ => case.of_library(),
         };
-        let mut answers = Answers::default();
-        let difference = run(10, library, || true, &mut answers).expect_err("a difference");
+        let difference = difference(10, library, 1_000);
         let Case::CheckWhole { record, .. } = &difference.case else {
             panic!("a check of a whole record");
         };
@@ -217,7 +294,6 @@ fn a_false_answer_to_a_front_part_is_found_out() {
             lines[2],
             "a front part of the record, to be refused with 9:"
         );
-        assert!(answers.total() < 1_000);
     }
 }
 

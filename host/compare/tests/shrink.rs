@@ -2,9 +2,10 @@
 
 use std::hash::{DefaultHasher, Hash, Hasher};
 
-use route_record::{MAX_BYTES, MAX_ROWS, ROW_WORDS};
+use route_record::{Place, Refusal, MAX_BYTES, MAX_GRAMMARS, MAX_ROWS, ROW_WORDS};
 
-use compare::{shrink, Answer, Case, Field, Outcome, Random, Record, RowTable, Table, Value};
+use compare::{grammar_list, leaf, shrink, Answer, Case, Field, Outcome, Random, Record, RowTable};
+use compare::{Table, Value};
 
 /// A library that answers as the model does, but for an error.
 type Library = fn(&Case) -> Outcome;
@@ -197,6 +198,60 @@ fn previews() {
         assert!(value.n <= 2 && value.rows.len() == ROW_WORDS * value.n);
         assert!(value.grammar.len() <= 9 && value.store.is_empty());
         assert!(out.len() <= 8 && out.iter().all(|&byte| byte == 0));
+    }
+}
+
+/// The error of a chooser that places a refused grammar as if the first one began at word 0 of the
+/// list.
+fn leaves_out_the_first_counts(case: &Case) -> Outcome {
+    let outcome = case.of_model();
+    match outcome.answer {
+        Answer::Refused { refusal, record } if refusal.number <= 5 => {
+            let place = match refusal.place {
+                Place::Word(word) => Place::Word(word - 2),
+                place => place,
+            };
+            let refusal = Refusal { place, ..refusal };
+            Outcome::with(Answer::Refused { refusal, record }, case)
+        }
+        _ => outcome,
+    }
+}
+
+/// The error of choosing grammar 0 where no grammar accepts.
+fn chooses_without_need(case: &Case) -> Outcome {
+    match case.of_model() {
+        outcome if outcome.answer.number() == 22 => {
+            Outcome::with(Answer::Accepted(vec![0, 1]), case)
+        }
+        outcome => outcome,
+    }
+}
+
+#[test]
+fn lists_of_grammars() {
+    for seed in 0..3 {
+        let (grammar, mut record) = large_record(&mut Random::new(seed));
+        record.push(7);
+        let mut grammars = vec![grammar; MAX_GRAMMARS];
+        let large = Case::ChooseGrammar {
+            list: grammar_list(&grammars),
+            record: record.clone(),
+        };
+        let expected = Case::ChooseGrammar {
+            list: grammar_list(&[leaf(0)]),
+            record: vec![0],
+        };
+        assert_eq!(smallest(chooses_without_need, &large), expected);
+        // A kind that is none, in node 20 of the last grammar.
+        grammars[MAX_GRAMMARS - 1][1 + 3 * 20] = 11;
+        let list = grammar_list(&grammars);
+        let large = Case::ChooseGrammar { list, record };
+        let expected = Case::ChooseGrammar {
+            list: vec![1, 0],
+            record: vec![],
+        };
+        assert_eq!(smallest(leaves_out_the_first_counts, &large), expected);
     }
 }
 

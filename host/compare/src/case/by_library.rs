@@ -123,3 +123,8 @@ pub fn same_route(grammar: &[u32], first: &[u8], second: &[u8]) -> Answer {
     };
     Answer::Refused { refusal, record }
 }
+
+pub fn choose_grammar(list: &[u32], record: &[u8]) -> Answer {
+    let chosen = calls::choose_grammar(list, record);
+    Answer::of(chosen.map(|chosen| [chosen.number as u64, chosen.begun as u64]))
+}

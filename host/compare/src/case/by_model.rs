@@ -162,3 +162,8 @@ pub fn same_route(grammar: &[u32], first: &[u8], second: &[u8]) -> Answer {
     let refusal = refusal(of_model);
     Answer::Refused { refusal, record }
 }
+
+pub fn choose_grammar(list: &[u32], record: &[u8]) -> Answer {
+    let chosen = model::choose_grammar(list, record);
+    answer(chosen.map(|chosen| [chosen.number as u64, chosen.begun as u64]))
+}

@@ -129,6 +129,8 @@ cases! {
     } lends [] gives [size, changed];
     SameRoute same_route { grammar: Vec<u32>, first: Vec<u8>, second: Vec<u8> }
         lends [] gives [same];
+    ChooseGrammar choose_grammar { list: Vec<u32>, record: Vec<u8> }
+        lends [] gives [number, begun];
 }
 
 impl Case {
@@ -157,6 +159,7 @@ impl Case {
             Case::MarshallVal { .. } | Case::Marshall { .. } | Case::Preview { .. } => {
                 &[0, 1, 2, 3, 4, 5, 6, 12, 13, 14, 15, 16, 17]
             }
+            Case::ChooseGrammar { .. } => &[0, 1, 2, 3, 4, 5, 6, 21, 22],
         }
     }
 

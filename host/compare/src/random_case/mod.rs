@@ -1,5 +1,6 @@
 //! Random cases of every call: sound ones, and ones with a fault or with several.
 
+mod choosing;
 mod preview;
 mod reading;
 mod same_route;
@@ -13,7 +14,7 @@ impl Case {
     /// A random case of any call. The calls on grammars, rows and records come more often than the
     /// packers and unpackers, which have fewer answers.
     pub fn random(random: &mut Random) -> Case {
-        match random.below(43) {
+        match random.below(47) {
             0..4 => packed(random, &U32),
             4..8 => packed(random, &U64),
             8..11 => check_grammar(random),
@@ -21,7 +22,8 @@ impl Case {
             20..29 => reading::case(random),
             29..35 => writing::case(random),
             35..39 => preview::case(random),
-            _ => same_route::case(random),
+            39..43 => same_route::case(random),
+            _ => choosing::case(random),
         }
     }
 }

@@ -95,7 +95,7 @@ pub(super) fn grammar(random: &mut Random) -> (Table, Vec<u32>) {
 }
 
 /// A grammar and a record: an array of numbers, about as long as a record may be.
-fn long_array(random: &mut Random) -> (Vec<u32>, Input) {
+pub(super) fn long_array(random: &mut Random) -> (Vec<u32>, Input) {
     let (kind, width) = random.pick(&[(5, 1), (6, 4), (7, 8)]);
     let length = random.within(MAX_BYTES - 9..=MAX_BYTES + 1);
     let count = (length - 8) / width + random.below(2);

@@ -15,7 +15,8 @@ const MOST_LOWERED: usize = 128;
 /// How many smaller cases are tried at most.
 const MOST_TRIES: usize = 200_000;
 
-/// What makes a case smaller. A field is meant by its place among the case's fields.
+/// What makes a case smaller. A field is meant by its place among the case's fields, a grammar by its
+/// number in the list; the only grammar of a call is number 0.
 enum Edit {
     /// Keeps the rows of this row's value alone.
     KeepValue(usize),
@@ -25,10 +26,12 @@ enum Edit {
     DropChildren(Range<usize>),
     /// Leaves out the rows of this row's value.
     DropValue(usize),
-    /// Leaves out a node of the grammar, and lowers the child words above it.
-    DropNode(usize),
-    /// Leaves out a child word of the grammar, and takes it from the nodes that have it.
-    DropChild(usize),
+    /// Leaves out these grammars of a list.
+    DropGrammars(Range<usize>),
+    /// Leaves out a node of a grammar, and lowers the child words above it.
+    DropNode(usize, usize),
+    /// Leaves out a child word of a grammar, and takes it from the nodes that have it.
+    DropChild(usize, usize),
     /// Leaves out elements of a slice.
     Drop(usize, Range<usize>),
     /// Makes elements of a slice 0.
@@ -88,8 +91,9 @@ impl Edit {
             Edit::KeepChild(child) => tables::keep_child(&mut case, *child),
             Edit::DropChildren(range) => tables::drop_children(&mut case, range),
             Edit::DropValue(row) => tables::drop_value(&mut case, *row),
-            Edit::DropNode(node) => tables::drop_node(&mut case, *node),
-            Edit::DropChild(child) => tables::drop_child(&mut case, *child),
+            Edit::DropGrammars(range) => tables::drop_grammars(&mut case, range),
+            Edit::DropNode(grammar, node) => tables::drop_node(&mut case, *grammar, *node),
+            Edit::DropChild(grammar, child) => tables::drop_child(&mut case, *grammar, *child),
             Edit::Drop(at, _) | Edit::Clear(at, _) | Edit::Halve(at, _) | Edit::Lower(at, _) => {
                 let field = case.fields().into_iter().nth(*at);
                 edit_field(field.expect("a field of the case").1, self);
@@ -131,11 +135,11 @@ fn table_edits(case: &mut Case) -> Vec<Edit> {
     let tables::Counts {
         rows,
         in_root,
-        nodes,
-        child_words,
+        in_list,
+        grammars,
     } = tables::counts(case);
     let mut edits: Vec<Edit> = Vec::new();
-    if nodes == 0 {
+    if grammars.iter().all(|&(_, nodes, _)| nodes == 0) {
         edits.extend((1..rows).rev().map(Edit::KeepValue));
     }
     let step = in_root / MOST_PARTS + 1;
@@ -144,8 +148,13 @@ fn table_edits(case: &mut Case) -> Vec<Edit> {
     if rows <= MOST_LOWERED {
         edits.extend((1..rows).rev().map(Edit::DropValue));
     }
-    edits.extend((0..nodes).rev().map(Edit::DropNode));
-    edits.extend((0..child_words).rev().map(Edit::DropChild));
+    edits.extend(parts(in_list).map(Edit::DropGrammars));
+    for (grammar, nodes, child_words) in grammars {
+        let nodes = (0..nodes).rev();
+        edits.extend(nodes.map(|node| Edit::DropNode(grammar, node)));
+        let child_words = (0..child_words).rev();
+        edits.extend(child_words.map(|child| Edit::DropChild(grammar, child)));
+    }
     edits
 }
 
@@ -167,8 +176,8 @@ fn edits(case: &Case) -> Vec<Edit> {
     edits
 }
 
-/// A case that `holds`, as small as single edits make it from one that does: fewer rows, nodes,
-/// words and bytes, and lower numbers.
+/// A case that `holds`, as small as single edits make it from one that does: fewer rows, grammars,
+/// nodes, words and bytes, and lower numbers.
 pub fn shrink(case: &Case, holds: impl Fn(&Case) -> bool) -> Case {
     let (mut smallest, mut tries) = (case.clone(), 0);
     // Edits that did not help are tried again only when all others did not help either.

@@ -1,11 +1,11 @@
-//! Leaving out rows, nodes and child words, so that a sound table stays sound where it can, and the
-//! row that a call asks for stays the same one. Any content of the tables is possible.
+//! Leaving out rows, grammars, nodes and child words, so that a sound table or list stays sound where
+//! it can, and the row that a call asks for stays the same one. Any content of the tables is possible.
 
 use std::ops::Range;
 
 use route_record::ROW_WORDS;
 
-use crate::{Case, Field};
+use crate::{grammar_list, grammars_of, Case, Field};
 
 /// The words of the grammar that a call is given.
 fn grammar_of(case: &mut Case) -> Option<&mut Vec<u32>> {
@@ -13,6 +13,32 @@ fn grammar_of(case: &mut Case) -> Option<&mut Vec<u32>> {
         ("grammar", Field::Uint32s(words)) => Some(words),
         _ => None,
     })
+}
+
+/// The words of the grammar list that a call is given.
+fn list_of(case: &mut Case) -> Option<&mut Vec<u32>> {
+    case.fields().into_iter().find_map(|field| match field {
+        ("list", Field::Uint32s(words)) => Some(words),
+        _ => None,
+    })
+}
+
+/// Changes the grammars of a list whose length is that of its counts.
+fn edit_list(case: &mut Case, edit: impl FnOnce(&mut Vec<Vec<u32>>)) {
+    if let Some(list) = list_of(case) {
+        if let Some(mut grammars) = grammars_of(list) {
+            edit(&mut grammars);
+            *list = grammar_list(&grammars);
+        }
+    }
+}
+
+/// Changes the grammar of this number, that of a call without a list or one of the list.
+fn edit_grammar(case: &mut Case, number: usize, edit: impl FnOnce(&mut Vec<u32>)) {
+    match grammar_of(case) {
+        Some(words) => edit(words),
+        None => edit_list(case, |grammars| edit(&mut grammars[number])),
+    }
 }
 
 /// The rows that a call reads.
@@ -55,16 +81,23 @@ pub(super) struct Counts {
     pub(super) rows: usize,
     /// Values directly in the root of the row table.
     pub(super) in_root: usize,
-    /// Nodes of the grammar.
-    pub(super) nodes: usize,
-    /// Child words of the grammar.
-    pub(super) child_words: usize,
+    /// Grammars of the list.
+    pub(super) in_list: usize,
+    /// The number of each grammar whose length is that of its counts, its nodes and its child words.
+    pub(super) grammars: Vec<(usize, usize, usize)>,
 }
 
 /// The counts of a case.
 pub(super) fn counts(case: &mut Case) -> Counts {
-    let grammar = grammar_of(case).and_then(|words| sections(words));
-    let (nodes, child_words) = grammar.unwrap_or((0, 0));
+    let list = list_of(case).and_then(|words| grammars_of(words));
+    let in_list = list.as_ref().map_or(0, Vec::len);
+    let only = || grammar_of(case).map(|words| vec![words.clone()]);
+    let grammars = list.or_else(only).unwrap_or_default();
+    let grammars = grammars.iter().enumerate().filter_map(|(number, words)| {
+        let (nodes, child_words) = sections(words)?;
+        Some((number, nodes, child_words))
+    });
+    let grammars = grammars.collect();
     let (rows, in_root) = match rows_of(case) {
         Some(Rows { words, n, .. }) if (1..=words.len() / ROW_WORDS).contains(n) => {
             (*n, children(words, *n).len())
@@ -74,8 +107,8 @@ pub(super) fn counts(case: &mut Case) -> Counts {
     Counts {
         rows,
         in_root,
-        nodes,
-        child_words,
+        in_list,
+        grammars,
     }
 }
 
@@ -192,19 +225,24 @@ fn remove_node(words: &mut Vec<u32>, node: usize) {
     }
 }
 
-/// Leaves out a node of the grammar.
-pub(super) fn drop_node(case: &mut Case, node: usize) {
-    if let Some(words) = grammar_of(case) {
-        remove_node(words, node);
-    }
+/// Leaves out grammars of a list.
+pub(super) fn drop_grammars(case: &mut Case, range: &Range<usize>) {
+    edit_list(case, |grammars| drop(grammars.drain(range.clone())));
+}
+
+/// Leaves out a node of a grammar.
+pub(super) fn drop_node(case: &mut Case, grammar: usize, node: usize) {
+    edit_grammar(case, grammar, |words| remove_node(words, node));
+}
+
+/// Leaves out a child word of a grammar.
+pub(super) fn drop_child(case: &mut Case, grammar: usize, child: usize) {
+    edit_grammar(case, grammar, |words| remove_child(words, child));
 }
 
 /// Leaves out a child word. Nodes that have it get a count that is one less, and those whose child
 /// words stand behind it a first that is one less.
-pub(super) fn drop_child(case: &mut Case, child: usize) {
-    let Some(words) = grammar_of(case) else {
-        return;
-    };
+fn remove_child(words: &mut Vec<u32>, child: usize) {
     let children = 2 + 3 * words[0] as usize;
     words.remove(children + child);
     words[children - 1] -= 1;
