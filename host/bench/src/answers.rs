@@ -88,6 +88,10 @@ pub fn of_rust(case: &Case) -> Outcome {
                 (of_rust, _) => of_rust,
             }
         }
+        Case::ChooseGrammar { list, record } => {
+            let chosen = peer::choose_grammar(list, record);
+            answer(chosen.map(|chosen| [chosen.number as u64, chosen.begun as u64]))
+        }
         Case::UnpackU32Seq {
             packed,
             index,
@@ -144,6 +148,10 @@ pub fn case_of(call: Call, input: &Input) -> Case {
             grammar,
             first: record,
             second: input.other.clone(),
+        },
+        Call::Choose => Case::ChooseGrammar {
+            list: input.list.clone(),
+            record,
         },
         Call::Unpack => Case::UnpackU32Seq {
             packed: input.packed().to_vec(),

@@ -23,6 +23,8 @@ pub enum Call {
     Size,
     /// Whether the record and the input's other one are the same route.
     SameRoute,
+    /// Which grammar of the input's list is the first that accepts the record.
+    Choose,
     /// Unpacking the numbers of a record that is a uint32 array.
     Unpack,
     /// Packing those numbers.
@@ -40,6 +42,7 @@ impl Call {
             Call::Preview => "preview",
             Call::Size => "size",
             Call::SameRoute => "same route",
+            Call::Choose => "choose",
             Call::Unpack => "unpack",
             Call::Pack => "pack",
         }
@@ -76,6 +79,7 @@ macro_rules! contender {
             grammar,
             record,
             other,
+            list,
         } = input;
         match $call {
             Call::CheckGrammar => Contender::new(|| calls::check_grammar(black_box(grammar))),
@@ -112,6 +116,9 @@ macro_rules! contender {
             Call::SameRoute => Contender::new(|| {
                 calls::same_route(black_box(grammar), black_box(record), black_box(other))
             }),
+            Call::Choose => {
+                Contender::new(|| calls::choose_grammar(black_box(list), black_box(record)))
+            }
             Call::Unpack => {
                 let (packed, count) = (input.packed(), input.numbers().len());
                 let (mut buffer, start) = apart(packed, count);
@@ -160,7 +167,8 @@ impl Program for Rust {
 
 /// The model's calls with the library's parameters.
 mod of_model {
-    pub use model::{check_grammar, check_whole, compute_size_of, marshall, preview, same_route};
+    pub use model::{check_grammar, check_whole, choose_grammar, compute_size_of};
+    pub use model::{marshall, preview, same_route};
     use model::{Reading, Refusal};
 
     pub fn demarshall(grammar: &[u32], record: &[u8], rows: &[u64]) -> Result<Reading, Refusal> {

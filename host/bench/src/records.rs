@@ -2,7 +2,7 @@
 //! every run.
 
 use compare::table;
-use route_record::{Grammar, MAX_BYTES, MAX_ROWS, ROW_WORDS};
+use route_record::{Grammar, GrammarList, MAX_BYTES, MAX_ROWS, ROW_WORDS};
 
 /// A grammar table and records to be read by it.
 pub struct Input {
@@ -13,19 +13,23 @@ pub struct Input {
     /// The bytes of another record of the same route: a copy, or the record under another serial
     /// number.
     pub other: Vec<u8>,
+    /// The words of a grammar list with the grammar, alone or behind others.
+    pub list: Vec<u32>,
 }
 
 /// The words of the most rows.
 pub const WORDS: usize = ROW_WORDS * MAX_ROWS;
 
 impl Input {
-    /// A record and a copy of it.
+    /// A record, a copy of it and a list of the grammar alone.
     fn new(grammar: Vec<u32>, record: Vec<u8>) -> Input {
         let other = record.clone();
+        let list = list(&[Grammar::check(&grammar).expect("a sound grammar")]);
         Input {
             grammar,
             record,
             other,
+            list,
         }
     }
 
@@ -104,18 +108,34 @@ pub fn mixed(rows: usize) -> Input {
     Input::new(table(&nodes, &children), record)
 }
 
+/// The grammar of a serial number and the mix.
+const WITH_SERIAL: &str = "n = u32; w = u64; b = bytes
+    tuple(n, array(union(n, tuple(n, w, b, u32s), array(n), tuple(b, w))))";
+
 /// A serial number, a uint32, and behind it the mix of `rows` rows, in a tuple. The other record has
 /// another serial number.
 pub fn with_serial(rows: usize) -> Input {
-    let types = "n = u32; w = u64; b = bytes
-                 tuple(n, array(union(n, tuple(n, w, b, u32s), array(n), tuple(b, w))))";
-    let grammar = types.parse::<Grammar>().expect("a grammar");
+    let grammar = WITH_SERIAL.parse::<Grammar>().expect("a grammar");
     let mix = mixed(rows).record;
     let record = |serial: u32| [&serial.to_le_bytes(), &mix[..]].concat();
     Input {
-        grammar: grammar.words().to_vec(),
-        record: record(7),
         other: record(8),
+        ..Input::new(grammar.words().to_vec(), record(7))
+    }
+}
+
+/// The mix of `rows` rows, its grammar behind four others, which refuse it: a uint64 array and an
+/// array of uint32, behind which bytes are left over; an array of the first two cases of the mix,
+/// which has others; and the tuple with a serial number.
+pub fn five_grammars(rows: usize) -> Input {
+    let two_cases = "n = u32; array(union(n, tuple(n, u64, bytes, u32s)))";
+    let others = ["u64s", "array(u32)", two_cases, WITH_SERIAL];
+    let others = others.map(|types| types.parse::<Grammar>().expect("a grammar"));
+    let mix = mixed(rows);
+    let own = Grammar::check(&mix.grammar).expect("a sound grammar");
+    Input {
+        list: list(&[&others[..], &[own]].concat()),
+        ..mix
     }
 }
 
@@ -159,6 +179,12 @@ pub fn shared_children(leaf: u32, record: Vec<u8>) -> Input {
     let nodes: Vec<_> = tuples.chain([[leaf, 0, 0]]).collect();
     let children: Vec<_> = (1..256).flat_map(|k| [k, k]).collect();
     Input::new(table(&nodes, &children), record)
+}
+
+/// The words of the list of these grammars.
+fn list(grammars: &[Grammar]) -> Vec<u32> {
+    let list = GrammarList::new(grammars).expect("1 to 16 grammars");
+    list.words().to_vec()
 }
 
 fn put_u32(record: &mut Vec<u8>, number: usize) {

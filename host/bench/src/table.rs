@@ -52,6 +52,11 @@ pub fn calls(report: &mut Report, programs: &[&dyn Program]) {
     }
     let input = ("a serial and 300 rows", records::with_serial(300));
     line(report, programs, Call::SameRoute, input, beside_rust);
+    let input = (
+        "five grammars, the last accepts 300 rows",
+        records::five_grammars(300),
+    );
+    line(report, programs, Call::Choose, input, beside_rust);
     let input = ("300 rows", records::mixed(300));
     line(report, programs, Call::CheckGrammar, input, None);
     for call in [Call::Unpack, Call::Pack] {

@@ -54,6 +54,8 @@ fn assert_accepted(input: &Input, rows: usize) {
     let given = vec![size, size / 64];
     assert_eq!(answer(Call::Preview, input), Answer::Accepted(given));
     assert_eq!(answer(Call::SameRoute, input), Answer::Accepted(vec![1]));
+    let given = vec![0, rows as u64];
+    assert_eq!(answer(Call::Choose, input), Answer::Accepted(given));
 }
 
 #[test]
@@ -70,6 +72,20 @@ fn what_the_bench_accepts() {
     assert_accepted(&records::wide_tuple(), 1_025);
     assert_accepted(&records::long_array(), 1);
     assert_eq!(records::long_array().record.len(), MAX_BYTES);
+}
+
+/// The values begun are the uint64 array; the array of uint32 and as many elements as the mix has
+/// cases; the array, a case of two rows, one of six and the next; the tuple, the serial number and an
+/// empty array; and those of the mix.
+#[test]
+fn what_the_bench_chooses() {
+    let input = records::five_grammars(300);
+    assert_eq!(input.record[..8], 77_u64.to_le_bytes());
+    let begun = 1 + (1 + 77) + (1 + 2 + 6 + 1) + 3 + 300;
+    assert_eq!(
+        answer(Call::Choose, &input),
+        Answer::Accepted(vec![4, begun])
+    );
 }
 
 #[test]

@@ -37,7 +37,7 @@ impl<'a> Grammar<'a> {
     }
 
     /// The two sections of the words: refusal 1, then 2.
-    fn split(words: &'a [u32]) -> Result<Grammar<'a>, Refusal> {
+    pub fn split(words: &'a [u32]) -> Result<Grammar<'a>, Refusal> {
         let (&n, rest) = words.split_first().ok_or(Refusal::at_word(1, 0))?;
         let n = n as usize;
         if n == 0 || n > MOST_NODES {

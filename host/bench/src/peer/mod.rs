@@ -1,6 +1,7 @@
 //! The library's calls in safe Rust: the same algorithm, written as a Rust program is, with slices,
 //! `Result` and `?`. Beside these the library's times are measured; nothing else uses them.
 
+mod choosing;
 mod grammar;
 mod packed;
 mod reading;
@@ -8,6 +9,7 @@ mod refusal;
 mod rows;
 mod writing;
 
+pub use choosing::{choose_grammar, Chosen};
 pub use grammar::check_grammar;
 pub use packed::{pack_u32_seq, unpack_u32_seq};
 pub use reading::{check_whole, demarshall, same_route, Parsed};

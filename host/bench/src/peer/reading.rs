@@ -64,6 +64,13 @@ fn check(grammar: Grammar, record: &[u8], capacity: usize) -> Result<Parsed, Ref
     Ok(parsed)
 }
 
+/// Whether a check accepts a record that is not too long, and the values that it begins.
+pub fn try_whole(grammar: Grammar, record: &[u8]) -> (bool, usize) {
+    let mut reader = Reader::new(grammar, record, &mut [], MAX_ROWS);
+    let accepted = reader.value(0).is_ok() && reader.at == record.len();
+    (accepted, reader.begun)
+}
+
 /// Reads a value of node k from byte 0 on.
 fn read(
     grammar: Grammar,
@@ -72,32 +79,42 @@ fn read(
     rows: &mut [[u64; 4]],
     capacity: usize,
 ) -> Result<Parsed, Refusal> {
-    let mut reader = Reader {
-        grammar,
-        record,
-        rows,
-        capacity,
-        at: 0,
-        used: 0,
-    };
+    let mut reader = Reader::new(grammar, record, rows, capacity);
     reader.value(k)?;
     Ok(Parsed {
-        rows: reader.used,
+        rows: reader.begun,
         rest_index: reader.at,
     })
 }
 
-/// A reading under way: the position and the rows used.
+/// A reading under way: the position and the values begun, each of which asks for a row.
 struct Reader<'a> {
     grammar: Grammar<'a>,
     record: &'a [u8],
     rows: &'a mut [[u64; 4]],
     capacity: usize,
     at: usize,
-    used: usize,
+    begun: usize,
 }
 
-impl Reader<'_> {
+impl<'a> Reader<'a> {
+    /// A reading from byte 0 on.
+    fn new(
+        grammar: Grammar<'a>,
+        record: &'a [u8],
+        rows: &'a mut [[u64; 4]],
+        capacity: usize,
+    ) -> Reader<'a> {
+        Reader {
+            grammar,
+            record,
+            rows,
+            capacity,
+            at: 0,
+            begun: 0,
+        }
+    }
+
     /// Reads the value of a node that starts here.
     fn value(&mut self, k: usize) -> Result<(), Refusal> {
         let start = self.at;
@@ -117,7 +134,7 @@ impl Reader<'_> {
             }
             3 => {
                 let count = self.take_u64()?;
-                if count > (self.capacity - self.used) as u64 {
+                if count > (self.capacity - self.begun) as u64 {
                     return Err(Refusal::at_byte(8, start));
                 }
                 for _ in 0..count {
@@ -160,13 +177,13 @@ impl Reader<'_> {
         Ok(())
     }
 
-    /// Takes a row for the value that starts here.
+    /// Begins the value that starts here and takes a row for it.
     fn claim(&mut self) -> Result<usize, Refusal> {
-        if self.used == self.capacity {
+        let row = self.begun;
+        self.begun += 1;
+        if row == self.capacity {
             return Err(Refusal::at_byte(8, self.at));
         }
-        let row = self.used;
-        self.used += 1;
         Ok(row)
     }
 
@@ -186,9 +203,9 @@ impl Reader<'_> {
         Ok(*bytes)
     }
 
-    /// The rows used since this one, itself included.
+    /// The rows taken since this one, itself included.
     fn span_from(&self, row: usize) -> u64 {
-        (self.used - row) as u64
+        (self.begun - row) as u64
     }
 
     /// Puts a row, where rows are lent.

@@ -1,9 +1,9 @@
 //! Refusals: document 01's numbers, each with its place.
 
-/// A word of the grammar, a byte or a row.
+/// A word of the grammar or of the list, a byte or a row.
 #[derive(Clone, Copy, Debug, PartialEq, Eq)]
 pub enum Place {
-    /// A word of the grammar table.
+    /// A word of the grammar table; where a grammar is chosen, of the grammar list.
     Word(usize),
     /// A byte of the record, of the store or of the output.
     Byte(usize),
@@ -21,12 +21,20 @@ pub struct Refusal {
 }
 
 impl Refusal {
-    /// A refusal at a word of the grammar.
+    /// A refusal at a word of the grammar or of the list.
     pub(super) fn at_word(number: u8, word: usize) -> Refusal {
         Refusal {
             number,
             place: Place::Word(word),
         }
+    }
+
+    /// The refusal of a grammar that starts at word `start` of a list, with its place in the list.
+    pub(super) fn words_on(mut self, start: usize) -> Refusal {
+        if let Place::Word(word) = &mut self.place {
+            *word += start;
+        }
+        self
     }
 
     /// A refusal at a byte.
