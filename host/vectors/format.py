@@ -1,12 +1,14 @@
 """Runs the Python text of docs/FORMAT.md over the test vectors: `python3 host/vectors/format.py`.
 
-The readings, the check of row tables, the size, the signed number, the writers, preview and same
-route answer as each line says. Preview also answers as each line of `marshall_val` says that
-writing does, and preview and same route as each row of the page's own tables says. Prints a line
-for each failure, the number of lines of each call and, last, 'N passed, M failed'.
+The check of grammars, the readings, the check of row tables, the size, the signed number, the
+writers, preview, same route and the chooser answer as each line says. Preview also answers as each
+line of `marshall_val` says that writing does, and preview, same route and the chooser as each row
+of the page's own tables says. Prints a line for each failure, the number of lines of each call and,
+last, 'N passed, M failed'.
 """
 
 import collections
+import itertools
 import json
 import pathlib
 import re
@@ -19,21 +21,19 @@ exec("\n".join(re.findall(r"^```python\n(.*?)^```$", text, re.M | re.S)), page)
 sys.setrecursionlimit(10000)
 
 
-def elements(parts, of_text):
-    """The elements of a slice."""
+def texts(parts):
+    """Each part of a slice: its text, and how often it stands there."""
     for part in parts:
-        times = 1
-        if isinstance(part, dict):
-            part, times = part["repeat"], part["times"]
-        yield from of_text(part) * times
+        yield (part["repeat"], part["times"]) if isinstance(part, dict) else (part, 1)
 
 
 def words(line, name):
-    return list(elements(line[name], lambda text: [int(word) for word in text.split()]))
+    slices = ([int(word) for word in text.split()] * times for text, times in texts(line[name]))
+    return list(itertools.chain.from_iterable(slices))
 
 
 def data(line, name):
-    return bytes(elements(line[name], bytes.fromhex))
+    return b"".join(bytes.fromhex(text) * times for text, times in texts(line[name]))
 
 
 def table(line):
@@ -43,6 +43,11 @@ def table(line):
 
 # Each of these asks the text and says whether its answer is the accepted one of the line. The text
 # raises a ValueError for a refusal.
+
+
+def check_grammar(line):
+    page["check_grammar"](words(line, "grammar"))
+    return "accepted" in line
 
 
 def read(line):
@@ -100,7 +105,13 @@ def same_route(line):
     return line.get("accepted") == {"same": "1" if same else "0"}
 
 
+def choose_grammar(line):
+    number, begun = page["choose_grammar"](words(line, "list"), data(line, "record"))
+    return line.get("accepted") == {"number": str(number), "begun": str(begun)}
+
+
 CALLS = {
+    "check_grammar": check_grammar,
     "parse_val": read,
     "demarshall": read,
     "check_val": read,
@@ -115,6 +126,8 @@ CALLS = {
     "preview on the page": preview,
     "same_route": same_route,
     "same_route on the page": same_route,
+    "choose_grammar": choose_grammar,
+    "choose_grammar on the page": choose_grammar,
 }
 
 
@@ -133,35 +146,29 @@ def previews_of_writing():
             yield line
 
 
+GRAMMARS = dict(re.findall(r"\*\*([A-E])\. [^`]*`([^`]*)`", text))
+GRAMMARS.update(re.findall(r"^\| (\w+) \| `([^`]*)` \| [^|]* \|$", text, re.M))
+
+
 def page_table(title, call):
-    """Each row of the page's table with this title: a line, and the cells behind its grammar."""
-    grammars = dict(re.findall(r"\*\*([A-E])\. [^`]*`([^`]*)`", text))
-    grammars.update(re.findall(r"^\| (\w+) \| `([^`]*)` \| [^|]* \|$", text, re.M))
+    """Each row of the page's table with this title: a line of the call, and the row's cells."""
     rows = re.search(rf"^\*\*{title}\.\*\*.*\n\n\|.*\n\|.*\n((?:\|.*\n)+)", text, re.M)[1]
     for row in rows.splitlines():
-        grammar, *cells = [cell.strip() for cell in row.split("|")][1:-1]
-        if not grammar.startswith("`"):
-            grammar = grammars[grammar]
-        yield {"name": row, "call": call, "grammar": listed(grammar)}, cells
+        yield {"name": row, "call": call}, [cell.strip() for cell in row.split("|")][1:-1]
 
 
 def previews_on_page():
     for line, cells in page_table("Preview", "preview on the page"):
-        rows, n, store, out, index, answer, _ = cells
-        line |= {"rows": listed(rows), "n": n, "index": index}
+        named, rows, n, store, out, index, answer, _ = cells
+        line |= {"grammar": of_name(named), "rows": listed(rows), "n": n, "index": index}
         line |= {"store": parts(store), "out": parts(out)}
-        numbers = re.fullmatch(r"size (?P<size>\d+), changed (?P<changed>\d+)", answer)
-        if numbers:
-            line["accepted"] = numbers.groupdict()
-        else:
-            line["refused"] = refused_in(answer)
-        yield line
+        yield line | numbers_or_refusal(r"size (?P<size>\d+), changed (?P<changed>\d+)", answer)
 
 
 def same_routes_on_page():
     for line, cells in page_table("Same route", "same_route on the page"):
-        first, second, answer, _ = cells
-        line |= {"first": parts(first), "second": parts(second)}
+        named, first, second, answer, _ = cells
+        line |= {"grammar": of_name(named), "first": parts(first), "second": parts(second)}
         if answer in ("yes", "no"):
             line["accepted"] = {"same": "1" if answer == "yes" else "0"}
         else:
@@ -171,10 +178,42 @@ def same_routes_on_page():
         yield line
 
 
+def choices_on_page():
+    for line, cells in page_table("Choosing a grammar", "choose_grammar on the page"):
+        named, record, answer, _ = cells
+        line |= {"list": list_in(named), "record": parts(record)}
+        yield line | numbers_or_refusal(r"grammar (?P<number>\d+), begun (?P<begun>\d+)", answer)
+
+
+def numbers_or_refusal(form, cell):
+    """The answer of a cell, as a line has it. Numbers given have this form."""
+    numbers = re.fullmatch(form, cell)
+    return {"accepted": numbers.groupdict()} if numbers else {"refused": refused_in(cell)}
+
+
 def refused_in(cell):
     """The refusal of a cell, as a line has it."""
     number, place, at = re.fullmatch(r"(\d+) at (\w+) (\d+)", cell).groups()
     return {"number": int(number), "place": place, "at": at}
+
+
+def of_name(cell):
+    """The grammar of a cell, its name or its words, as a line has it."""
+    return listed(cell if cell.startswith("`") else GRAMMARS[cell])
+
+
+def list_in(cell):
+    """The grammar list of a cell, the names of its grammars or its words, as a line has it."""
+    if cell == "none":
+        return []
+    if cell.startswith("`"):
+        return listed(cell)
+    grammars = []
+    for name in cell.split(", "):
+        name, _, times = name.partition(" × ")
+        grammars += [of_name(name)] * int(times or 1)
+    counted = [[str(len(" ".join(grammar).split())), *grammar] for grammar in grammars]
+    return [str(len(grammars)), *itertools.chain.from_iterable(counted)]
 
 
 def listed(cell):
@@ -190,27 +229,29 @@ def parts(cell):
     return [] if text == "-" else [text]
 
 
-# Each source with the refusals that the text does not give: the grammar check's and the locator's.
-GRAMMAR_CHECK = (1, 2, 3, 4, 5)
 SOURCES = [
-    (vectors("reading"), GRAMMAR_CHECK),
-    (vectors("rows"), (18,)),
-    (vectors("signed"), ()),
-    (vectors("writing"), GRAMMAR_CHECK),
-    (vectors("preview"), GRAMMAR_CHECK),
-    (previews_of_writing(), GRAMMAR_CHECK),
-    (previews_on_page(), GRAMMAR_CHECK),
-    (vectors("same_route"), GRAMMAR_CHECK),
-    (same_routes_on_page(), GRAMMAR_CHECK),
+    vectors("grammar"),
+    vectors("reading"),
+    vectors("rows"),
+    vectors("signed"),
+    vectors("writing"),
+    vectors("preview"),
+    previews_of_writing(),
+    previews_on_page(),
+    vectors("same_route"),
+    same_routes_on_page(),
+    vectors("choosing"),
+    choices_on_page(),
 ]
+
+LOCATOR = 18  # the refusal that the text does not give
 
 
 def lines():
     """The lines that the text answers."""
-    for source, not_given in SOURCES:
-        for line in source:
-            if line.get("refused", {}).get("number") not in not_given:
-                yield line
+    for line in itertools.chain.from_iterable(SOURCES):
+        if line.get("refused", {}).get("number") != LOCATOR:
+            yield line
 
 
 def holds(line):

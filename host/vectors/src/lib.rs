@@ -30,7 +30,7 @@ pub struct File {
 }
 
 /// All files.
-pub const FILES: [File; 9] = [
+pub const FILES: [File; 10] = [
     File {
         name: "packed.jsonl",
         vectors: || of_cases(cases::packed(), vec![]),
@@ -62,6 +62,10 @@ pub const FILES: [File; 9] = [
     File {
         name: "same_route.jsonl",
         vectors: || of_cases(cases::same_route(), vec![]),
+    },
+    File {
+        name: "choosing.jsonl",
+        vectors: || of_cases(cases::choosing(), vec![]),
     },
     File {
         name: "show.jsonl",

@@ -5,7 +5,8 @@ use std::collections::{BTreeMap, BTreeSet, HashSet};
 use std::fs;
 use std::process::Command;
 
-use compare::{on_large_stack, own_bytes, root_kinds, Answer, Case, Line};
+use compare::{grammar_list, grammars_of, on_large_stack, own_bytes, root_kinds};
+use compare::{Answer, Case, Line};
 use route_record::{Place, MAX_ROWS, ROW_WORDS};
 use vectors::{check, Counts, Show, Vector, FILES};
 
@@ -204,6 +205,81 @@ fn same_route_of_refused_records() {
     assert_eq!(other_lengths, (0..=10).collect());
 }
 
+/// Of lists of each length, 1 to 16, the first grammar accepts, the last does, and none does. Of 16
+/// grammars each is refused, and of three each with each refusal.
+#[test]
+fn choosing_at_each_place() {
+    let (mut firsts, mut lasts, mut nones) = (BTreeSet::new(), BTreeSet::new(), BTreeSet::new());
+    let (mut of_three, mut of_16) = (BTreeSet::new(), BTreeSet::new());
+    for line in calls() {
+        let Case::ChooseGrammar { list, .. } = line.case else {
+            continue;
+        };
+        let grammars = grammars_of(&list).unwrap_or_default();
+        let count = grammars.len();
+        match (line.outcome.answer.number(), line.outcome.answer) {
+            (0, Answer::Accepted(given)) => {
+                firsts.extend((given[0] == 0).then_some(count));
+                lasts.extend((given[0] as usize == count - 1).then_some(count));
+            }
+            (22, _) => {
+                nones.insert(count);
+            }
+            (number @ 1..=5, _) => {
+                let is_refused = |grammar: &Vec<u32>| model::check_grammar(grammar).is_err();
+                let place = grammars.iter().position(is_refused);
+                of_three.extend((count == 3).then_some((number, place)));
+                of_16.extend((count == 16).then_some(place));
+            }
+            _ => (),
+        }
+    }
+    for lengths in [firsts, lasts, nones] {
+        assert_eq!(lengths, (1..=16).collect());
+    }
+    let each = (1..=5).flat_map(|number| [0, 1, 2].map(|place| (number, Some(place))));
+    assert_eq!(of_three, each.collect());
+    assert_eq!(of_16, (0..16).map(Some).collect());
+}
+
+/// Roots of each kind accept, and refuse before one that accepts. Tries are refused with each number
+/// at their first value and behind others, 8 also where no row is left.
+#[test]
+fn choosing_behind_each_refusal() {
+    let (mut accepting, mut refusing) = (BTreeSet::new(), BTreeSet::new());
+    let mut tries = BTreeSet::new();
+    for line in calls() {
+        let (Case::ChooseGrammar { list, record }, Answer::Accepted(given)) =
+            (line.case, line.outcome.answer)
+        else {
+            continue;
+        };
+        let mut grammars = grammars_of(&list).expect("a list that is laid out");
+        grammars.truncate(given[0] as usize + 1);
+        let last = grammars.pop().expect("the one that accepts");
+        accepting.insert(root_kinds(&last).0);
+        let begun = |list: &[&Vec<u32>]| {
+            let chosen = model::choose_grammar(&grammar_list(list), &record);
+            chosen.expect("the last accepts").begun
+        };
+        for grammar in &grammars {
+            refusing.insert(root_kinds(grammar).0);
+            let refusal = model::check_whole(grammar, &record).expect_err("a refused try");
+            let how = match begun(&[grammar, &last]) - begun(&[&last]) {
+                1 => "first value",
+                2..=MAX_ROWS => "behind others",
+                _ => "no row",
+            };
+            tries.insert((refusal.number, how));
+        }
+    }
+    assert_eq!(accepting, (0..=10).collect());
+    assert_eq!(refusing, (0..=10).collect());
+    let ways = ["first value", "behind others"];
+    let each = (8..=11).flat_map(|number| ways.map(|how| (number, how)));
+    assert_eq!(tries, each.chain([(8, "no row")]).collect());
+}
+
 /// The grammar, the capacity and the record of a whole reading.
 fn whole_reading(case: &Case) -> Option<(&[u32], usize, &[u8])> {
     match case {
@@ -335,7 +411,7 @@ fn preview_of_each_length() {
 /// Refusals with their borders: the number, the call, what the line shows that just passes its test,
 /// and what the one that just does not.
 #[rustfmt::skip]
-const BORDERS: [(u64, &str, &str, &str); 93] = [
+const BORDERS: [(u64, &str, &str, &str); 102] = [
     (1, "check_grammar", "example F, N 256", "example F, N 257"),
     (1, "check_grammar", "example B, constant", "N 0"),
     (1, "preview", "N 256", "N 257"),
@@ -369,6 +445,7 @@ const BORDERS: [(u64, &str, &str, &str); 93] = [
     (6, "marshall", "a store of 1,048,576 bytes", "a store of 1,048,577 bytes"),
     (6, "preview", "a store of 1,048,576 bytes", "a store of 1,048,577 bytes"),
     (6, "same_route", "records of 1,048,576 bytes", "6 of both records"),
+    (6, "choose_grammar", "a record of 1,048,576 bytes", "a record of 1,048,577 bytes"),
     (7, "unpack_u32", "index at the length", "index above the length, 7 before 9"),
     (7, "unpack_u64_seq", "no numbers at the length", "no numbers above the length"),
     (7, "parse_val", "index at the length of a constant", "index above the length"),
@@ -429,6 +506,14 @@ const BORDERS: [(u64, &str, &str, &str); 93] = [
     (20, "signed_number", "the int32 -3 in a tuple", "row number n"),
     (20, "signed_number", "the int32 -3 in a tuple", "the byte array in a tuple"),
     (20, "signed_number", "row 4,095 of 4,096", "row 4,096 of 4,096"),
+    (21, "choose_grammar", "one constant", "count 0"),
+    (21, "choose_grammar", "16 constants", "17 constants"),
+    (21, "choose_grammar", "one constant", "the last word of the only grammar is missing"),
+    (21, "choose_grammar", "one constant", "a word left over"),
+    (21, "choose_grammar", "an int32 as the last of 16", "count 16 and 15 of int32"),
+    (22, "choose_grammar", "an int32 as the last of 16", "16 of int64, an int32"),
+    (22, "choose_grammar", "the only grammar, 4096 rows", "the only grammar, 4097 rows"),
+    (22, "choose_grammar", "uint64, uint32 and constant, no bytes", "uint64, uint32 and constant, 1 byte"),
 ];
 
 /// The line that passes a border and is refused by what is behind it: no byte is left at the length.
@@ -453,7 +538,7 @@ fn both_sides_of_each_border() {
         assert_eq!(number_of(&is_refused), number, "{is_refused}");
     }
     let numbers: BTreeSet<u64> = BORDERS.iter().map(|border| border.0).collect();
-    assert!(numbers.into_iter().eq((1..=18).chain([20])));
+    assert!(numbers.into_iter().eq((1..=18).chain(20..=22)));
 }
 
 /// The borders of refusal 19, which the show program alone gives.

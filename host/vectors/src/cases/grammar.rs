@@ -1,9 +1,9 @@
 //! Grammar tables.
 
-use compare::Case;
+use compare::{doubling, Case};
 
 use super::magnitudes;
-use super::{doubling, numbers, table, Cases, List};
+use super::{numbers, table, Cases, List};
 use super::{A, ARR, B, BYT, C, D, E, I32, I64, KIND_11, MIX, PAIR, TUP0, U32, U64, UNI};
 
 /// Adds the check of a table.
@@ -195,7 +195,7 @@ fn limits(list: &mut List) {
         "first 1,024 with count 0",
         &table(&[[8, 1_024, 0], CONSTANT], &[1; 1_024]),
     );
-    check(list, "a tree of 2^255 leaves", &doubling(0));
+    check(list, "a tree of 2^255 leaves", &doubling(256, 0));
     check(list, "256 levels of arrays", &compare::chain(3));
 }
 

@@ -1,7 +1,7 @@
 //! Numbers of every magnitude, for implementations that hold one of them in 8, 16 or 32 bits, or
 //! in a signed type: each just above a power of two, beside a small number with the same low bits.
 
-use compare::{Case, Value};
+use compare::{grammar_list, Case, Value};
 
 use super::packed::{pack_u32, pack_u64};
 use super::signed::signed_number;
@@ -995,6 +995,72 @@ pub fn same_route() -> Cases {
         most.clone(),
         most,
     );
+    list.0
+}
+
+/// The cases of the chooser: counts of the list, and counts and tags of a record.
+pub fn choosing() -> Cases {
+    let mut list = List::default();
+    let mut add = |name: String, words: Vec<u32>, record: Vec<u8>| {
+        list.add(
+            &name,
+            Case::ChooseGrammar {
+                list: words,
+                record,
+            },
+        );
+    };
+    let constants = grammar_list(&[numbers::<u32>(B), numbers(B)]);
+    for (step, more) in &STEPS[..3] {
+        for (what, at) in [
+            ("list count", 0),
+            ("first word count", 1),
+            ("last word count", 7),
+        ] {
+            let mut words = constants.clone();
+            words[at] += *more as u32;
+            add(format!("the {what} is {step} too much"), words, vec![]);
+        }
+    }
+    // Of 257 grammars of 0 words, and of 65,537, the lowest bits count one.
+    for (step, more) in &STEPS[..2] {
+        let words = grammar_list(&vec![[0u32; 0]; 1 + *more as usize]);
+        add(format!("{step} + 1 grammars of 0 words"), words, vec![]);
+    }
+    for more in [1 << 8, 40_000, 1 << 16] {
+        for place in [0, 1] {
+            let mut grammars = vec![numbers::<u32>(B); 2];
+            grammars[place].resize(5 + more, 0);
+            let name = format!("{more} words too many in grammar {place}");
+            add(name, grammar_list(&grammars), vec![]);
+        }
+    }
+    // In 32 bits the first grammar of the first list ends before word 0, whose 2 is then the word count
+    // of the second, and this one ends with the list. As signed numbers the large counts are below 0.
+    for words in [
+        "2, 4294967294, 5",
+        "1, 4294967295",
+        "1, 4294967295, 1, 0 0 0, 0",
+        "2, 4294967295, 5, 1, 0 0 0, 0",
+        "1, 4294967294, 1, 0 0 0, 0",
+        "4294967295, 5, 1, 0 0 0, 0",
+    ] {
+        add(format!("words {words}"), numbers(words), vec![]);
+    }
+    for (step, more) in STEPS {
+        for (what, grammar, behind) in [
+            ("byte array", BYT, 1),
+            ("uint32 array", E, 4),
+            ("uint64 array", A64, 8),
+            ("array of constants", C, 0),
+            ("array of values", ARR, 4),
+            ("union", UNI, 4),
+        ] {
+            let name = format!("{what} whose count or tag is {step} + 1, and a uint64");
+            let words = grammar_list(&[numbers::<u32>(grammar), numbers(U64)]);
+            add(name, words, counted(1 + more, &vec![7; behind]));
+        }
+    }
     list.0
 }
 

@@ -2,6 +2,7 @@
 //! and commas between them, bytes in hexadecimal.
 
 pub mod borders;
+mod choosing;
 mod grammar;
 mod long;
 mod magnitudes;
@@ -14,6 +15,7 @@ mod show;
 mod signed;
 mod writing;
 
+pub use choosing::choosing;
 pub use grammar::grammar;
 pub use packed::packed;
 pub use preview::preview;
@@ -114,13 +116,4 @@ fn counted(count: u64, behind: &[u8]) -> Vec<u8> {
 /// A table of these nodes and child words.
 fn table(nodes: &[[u32; 3]], children: &[u32]) -> Vec<u32> {
     compare::table(nodes, children)
-}
-
-/// 256 nodes, each but the last a tuple of the next one twice, and the last of this kind: a tree of
-/// 2 to the power 255 leaves.
-fn doubling(kind: u32) -> Vec<u32> {
-    let parents = (0..255).map(|k| [4, 2 * k, 2]);
-    let nodes: Vec<[u32; 3]> = parents.chain([[kind, 0, 0]]).collect();
-    let children: Vec<u32> = (1..256).flat_map(|k| [k, k]).collect();
-    table(&nodes, &children)
 }

@@ -2,11 +2,11 @@
 
 use std::collections::BTreeSet;
 
-use compare::{own_bytes, Case};
+use compare::{doubling, own_bytes, Case};
 
 use super::long::{fields_of_each_kind, record};
 use super::magnitudes;
-use super::{counted, doubling, hex, numbers, table, Cases, List, MAX_BYTES, ROW_WORDS};
+use super::{counted, hex, numbers, table, Cases, List, MAX_BYTES, ROW_WORDS};
 use super::{A, A64, ARR, A_RECORD, B, BYT, C, D, E, I32, I64, KIND_11, MIX, MIX_RECORD, NUMBERS};
 use super::{PAIR, REFUSED_GRAMMARS, TUP0, U32, U64, UNI};
 
@@ -526,15 +526,15 @@ fn large_grammars(list: &mut List) {
     );
     list.add(
         "2^255 leaves, all constants",
-        check_whole(&doubling(0), &[]),
+        check_whole(&doubling(256, 0), &[]),
     );
     list.add(
         "2^255 leaves, all uint32",
-        check_whole(&doubling(1), &[0; 7]),
+        check_whole(&doubling(256, 1), &[0; 7]),
     );
     list.add(
         "2^255 leaves, all empty unions",
-        check_whole(&doubling(8), &[0; 8]),
+        check_whole(&doubling(256, 8), &[0; 8]),
     );
     let most = table(&[[0, 0, 0]; 256], &[]);
     list.add("example F, N 256", demarshall(&most, &[], 4));

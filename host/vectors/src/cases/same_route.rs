@@ -214,7 +214,7 @@ const LISTED: [(&str, &str, &str, &str); 43] = [
 ];
 
 /// Each kind of root that is no tuple with fields: a grammar, an accepted and a refused record.
-const ROOTS: [(&str, &str, &str, &str); 11] = [
+pub(super) const ROOTS: [(&str, &str, &str, &str); 11] = [
     ("constant", B, "", "00"),
     ("uint32", U32, "05000000", ""),
     ("uint64", U64, "0500000000000000", "05000000000000"),

@@ -4,12 +4,16 @@
 mod driver;
 mod flat;
 
+use std::fs::File;
 use std::io::{BufReader, Write};
 use std::panic::{self, AssertUnwindSafe};
 use std::{env, fs, io, thread};
 
 use flat::Call;
 use model::variant;
+
+/// The calls of a file.
+type Calls = flat::Calls<BufReader<File>>;
 
 /// Whether the model, as it is switched, answers this call as the vector says.
 fn holds(number: usize, call: &Call) -> bool {
@@ -20,12 +24,14 @@ fn holds(number: usize, call: &Call) -> bool {
 
 /// Prints what is seen of each place of a list of modes: a line with the type's bits and the
 /// greatest number; then for each kind or width and each mode a line with the calls that may tell.
-fn survey(calls: &[Call], list: &str) {
+fn survey(calls: &mut Calls, list: &str) {
     let mode = |mode: &str| mode.parse().expect("a mode");
     let modes = |line: &str| line.split_whitespace().map(mode).collect();
     variant::begin_survey(list.lines().map(modes).collect());
-    for (number, call) in calls.iter().enumerate() {
+    let mut number = 0;
+    while let Some(call) = calls.get(number).expect("a call") {
         assert!(holds(number, call), "{} is sound", call.name);
+        number += 1;
     }
     for seen in variant::end_survey() {
         println!("place {} {}", seen.bits, seen.greatest);
@@ -44,8 +50,20 @@ fn has(set: &[u64], number: usize) -> bool {
         .is_some_and(|bits| bits >> (number % 64) & 1 == 1)
 }
 
+/// The name of the first call that may tell and whose outcome is another one.
+fn caught_by(calls: &mut Calls, tells: impl Fn(usize) -> bool) -> Option<String> {
+    let mut number = 0;
+    while let Some(call) = calls.get(number).expect("a call") {
+        if tells(number) && !holds(number, call) {
+            return Some(call.name.clone());
+        }
+        number += 1;
+    }
+    None
+}
+
 /// Runs the listed variants from one on, each with the calls that may tell, or with all.
-fn run(calls: &[Call], list: &str, from: usize) {
+fn run(calls: &mut Calls, list: &str, from: usize) {
     for line in list.lines().skip(from) {
         let number = |text: &str| text.parse::<u64>().expect("a number");
         let mut set = None;
@@ -60,9 +78,8 @@ fn run(calls: &[Call], list: &str, from: usize) {
             set = Some(words.iter().map(|word| number(word)).collect::<Vec<u64>>());
         }
         let tells = |number| set.as_ref().is_none_or(|set| has(set, number));
-        let mut numbered = calls.iter().enumerate();
-        match numbered.find(|(number, call)| tells(*number) && !holds(*number, call)) {
-            Some((_, call)) => println!("caught {}", call.name),
+        match caught_by(calls, tells) {
+            Some(name) => println!("caught {name}"),
             None => println!("passed"),
         }
         io::stdout().flush().expect("standard output");
@@ -74,17 +91,17 @@ fn main() {
     let [_, calls, command, argument, ..] = &arguments[..] else {
         panic!("usage: child CALLS survey MODES | child CALLS run LIST FROM");
     };
-    let calls = fs::File::open(calls).expect("the calls");
-    let calls = flat::take(&mut BufReader::new(calls)).expect("the calls");
+    let calls = File::open(calls).expect("the calls");
+    let mut calls = Calls::of(BufReader::new(calls)).expect("the calls");
     let list = fs::read_to_string(argument).expect("a list");
     let (is_survey, from) = (command == "survey", arguments.get(4));
     let from = from.map_or(0, |from| from.parse().expect("a number"));
     let work = move || {
         if is_survey {
-            return survey(&calls, &list);
+            return survey(&mut calls, &list);
         }
         panic::set_hook(Box::new(|_| ()));
-        run(&calls, &list, from);
+        run(&mut calls, &list, from);
     };
     let thread = thread::Builder::new().stack_size(64 << 20).spawn(work);
     if thread.expect("a thread").join().is_err() {

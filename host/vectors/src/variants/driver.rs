@@ -1,6 +1,6 @@
 //! The calls of the vectors, made of the model.
 
-use model::{Place, Preview, Reading, Refusal, SameRouteRefusal, Writing};
+use model::{Chosen, Place, Preview, Reading, Refusal, SameRouteRefusal, Writing};
 
 use super::flat::{Call, Given, Outcome};
 
@@ -100,6 +100,12 @@ fn same_route(grammar: &[u32], first: &[u8], second: &[u8]) -> Outcome {
     }
 }
 
+/// The outcome of the chooser.
+fn chosen(chosen: Result<Chosen, Refusal>) -> Outcome {
+    let numbers = |chosen: Chosen| vec![chosen.number as u64, chosen.begun as u64];
+    outcome(chosen.map(|chosen| (numbers(chosen), None)))
+}
+
 /// What comes of a call by the model.
 pub fn of_model(call: &Call) -> Outcome {
     let width = if call.call.contains("u32") { 4 } else { 8 };
@@ -170,6 +176,9 @@ pub fn of_model(call: &Call) -> Outcome {
         }
         ("same_route", [grammar, first, second]) => {
             same_route(&short_words(grammar), bytes(first), bytes(second))
+        }
+        ("choose_grammar", [list, record]) => {
+            chosen(model::choose_grammar(&short_words(list), bytes(record)))
         }
         ("show", [input]) => (vec![0], Some(Given::Bytes(model::show(bytes(input))))),
         (other, given) => panic!("{other} of {} fields", given.len()),

@@ -27,12 +27,70 @@ struct Exception {
 
 const BYTES: u64 = 1_048_577;
 const ROWS: u64 = 4_097;
+const BEGUN: u64 = 4_098;
+const LIST_WORDS: u64 = 28_722;
 
 /// The reason of variants that only a slice of 2^31 or more elements can tell.
 pub const LONG: &str = "only a slice of 2^31 or more elements can tell";
 
 /// The bounds. A number that is written down is below the next one; those are not listed.
-const BOUNDS: [Bound; 55] = [
+const BOUNDS: [Bound; 65] = [
+    Bound {
+        file: "choosing.rs",
+        functions: &["grammars"],
+        texts: &["MOST_GRAMMARS", "count#2"],
+        below: 17,
+        why: "a list has at most 16 grammars, and the count is compared before",
+    },
+    Bound {
+        file: "choosing.rs",
+        functions: &["grammars"],
+        texts: &["length"],
+        below: 1 << 32,
+        why: "a word",
+    },
+    Bound {
+        file: "choosing.rs",
+        functions: &["in_list"],
+        texts: &["refusal.number"],
+        below: 6,
+        why: "the number of a grammar's refusal",
+    },
+    Bound {
+        file: "choosing.rs",
+        functions: &["in_list"],
+        texts: &["word"],
+        below: 1_795,
+        why: "a word of a grammar",
+    },
+    Bound {
+        file: "choosing.rs",
+        functions: &["in_list", "choose_grammar"],
+        texts: &["first"],
+        below: LIST_WORDS,
+        why: "the grammars before one that is refused pass",
+    },
+    Bound {
+        file: "choosing.rs",
+        functions: &["choose_grammar"],
+        texts: &["number"],
+        below: 16,
+        why: "the number of a grammar",
+    },
+    Bound {
+        file: "choosing.rs",
+        functions: &["choose_grammar"],
+        texts: &["begun"],
+        below: 16 * BEGUN,
+        why: "the values begun by 16 tries",
+    },
+    Bound {
+        file: "choosing.rs",
+        functions: &["choose_grammar"],
+        texts: &["in_try"],
+        below: BEGUN,
+        why: "the values begun by a try",
+    },
     Bound {
         file: "grammar.rs",
         functions: &["~"],
@@ -219,6 +277,7 @@ const BOUNDS: [Bound; 55] = [
             "rest.len()",
             "(rest.len() / width)",
             "record.len()",
+            "self.record.len()",
             "reader.position",
             "index#2",
             "word3",
@@ -231,6 +290,20 @@ const BOUNDS: [Bound; 55] = [
     },
     Bound {
         file: "reading.rs",
+        functions: &["new"],
+        texts: &["index"],
+        below: BYTES,
+        why: "an index is compared with the length before",
+    },
+    Bound {
+        file: "reading.rs",
+        functions: &["try_whole"],
+        texts: &["reader.begun"],
+        below: BEGUN,
+        why: "the values begun by a try",
+    },
+    Bound {
+        file: "reading.rs",
         functions: &["words"],
         texts: &["count"],
         below: BYTES,
@@ -240,15 +313,15 @@ const BOUNDS: [Bound; 55] = [
         file: "refusal.rs",
         functions: &["~"],
         texts: &["number"],
-        below: 21,
+        below: 23,
         why: "a refusal's number",
     },
     Bound {
         file: "refusal.rs",
         functions: &["at_word"],
         texts: &["word"],
-        below: 1_795,
-        why: "a word of a grammar",
+        below: LIST_WORDS,
+        why: "a word of a grammar list",
     },
     Bound {
         file: "rows.rs",
@@ -468,7 +541,63 @@ const BOUNDS: [Bound; 55] = [
 ];
 
 /// The exceptions.
-const EXCEPTIONS: [Exception; 58] = [
+const EXCEPTIONS: [Exception; 66] = [
+    Exception {
+        file: "choosing.rs",
+        functions: &["grammars"],
+        texts: &["count == 0"],
+        ways: &["<="],
+        why: "no number is below 0",
+    },
+    Exception {
+        file: "choosing.rs",
+        functions: &["grammars"],
+        texts: &["count == 0", "count#0"],
+        ways: &["left8", "left16", "cut8", "cut16", "extend8", "extend16"],
+        why: "a count of 256 or more is refused by the next test, with the same answer",
+    },
+    Exception {
+        file: "choosing.rs",
+        functions: &["grammars"],
+        texts: &["count > MOST_GRAMMARS"],
+        ways: &["signed32"],
+        why: LONG,
+    },
+    Exception {
+        file: "choosing.rs",
+        functions: &["grammars"],
+        texts: &["end == list.len()"],
+        ways: &[">="],
+        why: "a list that ends before its grammars do is refused before",
+    },
+    Exception {
+        file: "choosing.rs",
+        functions: &["grammars"],
+        texts: &["end == list.len()", "end", "first", "length", "list.len()"],
+        ways: &["left32", "right32", "cut32", "extend32"],
+        why: LONG,
+    },
+    Exception {
+        file: "choosing.rs",
+        functions: &["grammars"],
+        texts: &["first#1"],
+        ways: &["cut16", "extend16"],
+        why: "a grammar that starts at word 28,722 or behind it is behind one that is refused",
+    },
+    Exception {
+        file: "choosing.rs",
+        functions: &["grammars"],
+        texts: &["first#2"],
+        ways: &["cut16"],
+        why: "a grammar that starts at word 28,722 or behind it is behind one that is refused",
+    },
+    Exception {
+        file: "choosing.rs",
+        functions: &["~"],
+        texts: &["~if count == 0", "~let length =", "check_length(record)?;"],
+        ways: &["two statements"],
+        why: "the statement behind it refuses nothing",
+    },
     Exception {
         file: "grammar.rs",
         functions: &["check_grammar"],
@@ -588,8 +717,8 @@ const EXCEPTIONS: [Exception; 58] = [
     },
     Exception {
         file: "reading.rs",
-        functions: &["read_whole"],
-        texts: &["rest_index < record.len()"],
+        functions: &["whole"],
+        texts: &["self.position < self.record.len()"],
         ways: &["!="],
         why: "a reading stops at the record's end at the latest",
     },
@@ -784,8 +913,8 @@ const EXCEPTIONS: [Exception; 58] = [
     },
     Exception {
         file: "reading.rs",
-        functions: &["read_whole"],
-        texts: &["~if rest_index < record.len()"],
+        functions: &["whole"],
+        texts: &["~if self.position < self.record.len()"],
         ways: &["a refusal after"],
         why: "what follows accepts",
     },
@@ -911,7 +1040,7 @@ const EXCEPTIONS: [Exception; 58] = [
 ];
 
 /// Variants by hand: file, pieces of its text with what stands for each, what is broken.
-pub(super) const BY_HAND: [(&str, &[(&str, &str)], &str); 27] = [
+pub(super) const BY_HAND: [(&str, &[(&str, &str)], &str); 38] = [
     (
         "rows.rs",
         &[
@@ -1177,6 +1306,112 @@ pub(super) const BY_HAND: [(&str, &[(&str, &str)], &str); 27] = [
             "        let tag = self.number(8).map_err(|_| at_byte(10, start))?;",
         )],
         "a missing tag is refused with 10",
+    ),
+    (
+        "choosing.rs",
+        &[
+            (
+                "    let mut begun = 0;",
+                "    let mut begun = 0;
+    let mut last = Err(at_byte(22, 0));",
+            ),
+            (
+                "            return Ok(Chosen { number, begun });",
+                "            last = Ok(Chosen { number, begun });",
+            ),
+            (
+                "    Err(at_byte(22, 0))
+}",
+                "    last
+}",
+            ),
+        ],
+        "the last grammar that accepts is chosen",
+    ),
+    (
+        "choosing.rs",
+        &[
+            (
+                "    for &(first, grammar) in &grammars {
+        check_grammar(grammar).map_err(|refusal| in_list(refusal, first))?;
+    }",
+                "",
+            ),
+            ("(number, (_, grammar))", "(number, (first, grammar))"),
+            (
+                "        let (is_accepted, in_try)",
+                "        check_grammar(grammar).map_err(|refusal| in_list(refusal, first))?;
+        let (is_accepted, in_try)",
+            ),
+        ],
+        "a grammar is checked when it is tried",
+    ),
+    (
+        "choosing.rs",
+        &[(
+            "    check_length(record)?;",
+            "    check_length(record).map_err(|_| at_byte(22, 0))?;",
+        )],
+        "a record that is too long is one that no grammar accepts",
+    ),
+    (
+        "choosing.rs",
+        &[("first + word as usize", "word as usize")],
+        "a place is a word of the grammar",
+    ),
+    (
+        "choosing.rs",
+        &[("grammars.push((first,", "grammars.push((first - 2 - grammars.len(),")],
+        "a place counts the words of the grammars alone",
+    ),
+    (
+        "choosing.rs",
+        &[("begun += in_try;", "begun += 1;")],
+        "the tries are counted",
+    ),
+    (
+        "reading.rs",
+        &[("(is_accepted, reader.begun)", "(is_accepted, MOST_ROWS - reader.rows_left)")],
+        "the rows used are counted",
+    ),
+    (
+        "reading.rs",
+        &[(
+            "        if count > self.rows_left as u64 {",
+            "        if count > self.rows_left as u64 {
+            self.begun += self.rows_left + 1;",
+        )],
+        "elements that are too many are begun until no row is left",
+    ),
+    (
+        "reading.rs",
+        &[(
+            "        if tag >= cases.len() as u64 {",
+            "        if tag >= cases.len() as u64 {
+            self.begun += 1;",
+        )],
+        "the value behind a tag that is refused is begun",
+    ),
+    (
+        "reading.rs",
+        &[(
+            "        if self.position < self.record.len() {",
+            "        if self.position < self.record.len() {
+            self.begun = 0;",
+        )],
+        "a try that is refused with 11 begins no value",
+    ),
+    (
+        "reading.rs",
+        &[(
+            "    let is_accepted = reader.whole().is_ok();",
+            "    let outcome = reader.whole().map(|_| ());
+    if outcome == Err(at_byte(9, 0)) {
+        return (false, 0);
+    }
+    let is_accepted = outcome.is_ok();",
+        )],
+        "a try that is refused with 9 at byte 0 begins no value",
     ),
 ];
 

@@ -98,24 +98,45 @@ pub fn put(to: &mut impl Write, calls: &[Call]) -> io::Result<()> {
     Ok(())
 }
 
-/// Reads calls.
-pub fn take(from: &mut impl Read) -> io::Result<Vec<Call>> {
-    let length = take_number(from)?;
-    let call = |_| {
-        let (name, call) = (take_text(from)?, take_text(from)?);
-        let given = take_number(from)?;
-        let given: io::Result<_> = (0..given).map(|_| Given::take(from)).collect();
-        let (given, answer) = (given?, take_words(from)?);
-        let after = match take_number(from)? {
-            0 => None,
-            _ => Some(Given::take(from)?),
-        };
-        Ok(Call {
-            name,
-            call,
-            given,
-            outcome: (answer, after),
-        })
+/// Reads a call.
+fn take_call(from: &mut impl Read) -> io::Result<Call> {
+    let (name, call) = (take_text(from)?, take_text(from)?);
+    let given = take_number(from)?;
+    let given: io::Result<_> = (0..given).map(|_| Given::take(from)).collect();
+    let (given, answer) = (given?, take_words(from)?);
+    let after = match take_number(from)? {
+        0 => None,
+        _ => Some(Given::take(from)?),
     };
-    (0..length).map(call).collect()
+    Ok(Call {
+        name,
+        call,
+        given,
+        outcome: (answer, after),
+    })
+}
+
+/// Calls, each of which is read when it is first asked for: most variants are caught by one of the
+/// first.
+pub struct Calls<R> {
+    from: R,
+    left: u64,
+    read: Vec<Call>,
+}
+
+impl<R: Read> Calls<R> {
+    /// The calls that were written there.
+    pub fn of(mut from: R) -> io::Result<Calls<R>> {
+        let (left, read) = (take_number(&mut from)?, Vec::new());
+        Ok(Calls { from, left, read })
+    }
+
+    /// The call of this number, if there are so many.
+    pub fn get(&mut self, number: usize) -> io::Result<Option<&Call>> {
+        while self.read.len() <= number && self.left > 0 {
+            self.read.push(take_call(&mut self.from)?);
+            self.left -= 1;
+        }
+        Ok(self.read.get(number))
+    }
 }
