@@ -13,17 +13,16 @@ use Rattle.refusal.specs.Outcome.{Outcome, accepted, refused, bind, test, map, 
 use Rattle.refusal.specs.Meaning.{locationOf, reasonOf}
 use Rattle.refusal.specs.declared.Refusal.{Refusal}
 use Rattle.refusal.proofs.Tests.{reflects-leb, reflects-ltb, reflects-eqb, reflects-and, refuted}
-use Rattle.refusal.proofs.Outcome.{Post, holds, post-reflects, post-accepted, post-refused, test-true, test-false, map-accepted, map-refused}
+use Rattle.refusal.proofs.Outcome.{Post, holds, post-reflects, post-accepted, post-refused, test-true, map-accepted, map-refused}
 use Rattle.value.specs.Tree.{Val}
-use Rattle.value.specs.Step.{Step, next}
-use Rattle.value.specs.Reading.{State, Stop, Reading, start, atEnd, readVal, readWhole}
+use Rattle.value.specs.Step.{Step}
+use Rattle.value.specs.Reading.{State, Stop, Reading, readWhole}
 use Rattle.value.proofs.Begun.{begins-whole}
 use Rattle.grammar.specs.Check.{checkGrammar}
 use Rattle.grammar.proofs.Rule.{refused-exactly, refused-word}
 use Rattle.grammar.specs.Tree.{treeOf}
-use Rattle.admission.specs.Admission.{checkLength}
-use Rattle.admission.proofs.Admission.{length-fits, admit-length}
-use Rattle.readers.specs.Root.{beforeStart, readRoot}
+use Rattle.admission.specs.Admission.{checkLength, admitOf}
+use Rattle.readers.specs.Root.{readRoot}
 use Rattle.choosing.specs.Choose.{listCount, countAt, grammarOf, checkList, placedReason, inList, checkGrammars, tryOf, Choice, tried, tryGrammars, chooseOf}
 use Rattle.choosing.specs.Rule.{ListRule}
 
@@ -34,7 +33,7 @@ module _ (l : List ℕ) where
   unfolding countAt
   count-first = refl
 
-  pub count-next : (j : ℕ) → countAt l j + 1 + getD l (countAt l j) 0 ≡ countAt l (suc j)
+  count-next : (j : ℕ) → countAt l j + 1 + getD l (countAt l j) 0 ≡ countAt l (suc j)
   unfolding countAt
   count-next j = refl
 
@@ -43,8 +42,8 @@ module _ (l : List ℕ) where
   rises zero j = rw (add-zero j) (omega arith)
   rises (suc n) j = let e : j + suc n ≡ suc (j + n) = omega arith in rw e (omega (arith, rises n j, count-next (j + n)))
 
-  -- the grammars before number n end no further on
-  pub count-rises : (j n : ℕ) → j ≤ n → countAt l j + (n - j) ≤ countAt l n
+  -- from grammar j to grammar n the word count stands at least a word further on for each grammar
+  count-rises : (j n : ℕ) → j ≤ n → countAt l j + (n - j) ≤ countAt l n
   count-rises j n h = let e : j + (n - j) ≡ n = omega arith in rw e at (rises (n - j) j)
 
   -- a list that ends before a word count is cut
@@ -71,25 +70,22 @@ module _ (l : List ℕ) where
   rule-of c e = record {
     some = c .0;
     most = c .1;
-    whole = λ j h. let i = within e (suc j) h in (omega (arith, count-next j), omega (arith, count-next j));
-    ends = e;
+    whole = λ j h. omega (arith, within e (suc j) h, count-next j);
+    none = omega (arith, e);
   }
+
+  -- the last grammar ends with the list
+  pub rule-ends : ListRule l → countAt l (listCount l) ≡ length l
+  rule-ends r =
+      let n : listCount l ≡ suc (listCount l - 1) = omega (arith, r .some) in
+      omega (arith, r .none, r .whole (listCount l - 1) (omega (arith, n)), ap (countAt l) n, count-next (listCount l - 1))
 
   pub list-post : Post (λ _. ListRule l) (λ e. (e ≡ reason 21 (word 0)) × (ListRule l → ⊥)) (checkList l)
   unfolding checkList
   list-post =
       post-reflects _ _ _ (reflects-and (reflects-ltb 0 (listCount l)) (reflects-leb (listCount l) 16))
-      (λ c. post-reflects _ _ _ (reflects-eqb (countAt l (listCount l)) (length l)) (λ e. holds tt (rule-of c e)) (λ n. (refl, λ r. n (r .ends))))
+      (λ c. post-reflects _ _ _ (reflects-eqb (countAt l (listCount l)) (length l)) (λ e. holds tt (rule-of c e)) (λ n. (refl, λ r. n (rule-ends r))))
       (λ n. (refl, λ r. n (r .some, r .most)))
-
-  -- the steps of the code
-  pub list-none : listCount l ≡ 0 → refused (reason 21 (word 0)) ≡ checkList l
-  unfolding checkList
-  list-none e = sym (test-false _ _ (refuted (reflects-and (reflects-ltb 0 (listCount l)) (reflects-leb (listCount l) 16)) (λ c. omega (arith, c .0))))
-
-  pub list-many : 16 < listCount l → refused (reason 21 (word 0)) ≡ checkList l
-  unfolding checkList
-  list-many h = sym (test-false _ _ (refuted (reflects-and (reflects-ltb 0 (listCount l)) (reflects-leb (listCount l) 16)) (λ c. omega (arith, c .1))))
 
   pub list-filled : (listCount l ≡ 0 → ⊥) → listCount l ≤ 16 → test (eqb (countAt l (listCount l)) (length l)) (reason 21 (word 0)) accepted ≡ checkList l
   unfolding checkList
@@ -105,7 +101,7 @@ refusal-word g r h w e =
     let q : w ≡ f .1 = cc in
     omega (arith, f .3)
 
--- grammar j is one of those left of n
+-- of n grammars those from number j on are one more than those behind it
 left : (j n : ℕ) → j < n → n - j ≡ suc (n - suc j)
 left j n h = omega arith
 
@@ -129,10 +125,8 @@ module _ (l : List ℕ) (j n : ℕ) where
 
 -- a try of a grammar that passes is a whole reading
 pub try-whole : (g d : List ℕ) (capacity : ℕ) → checkGrammar g ≡ accepted tt → length d ≤ 1048576 → readRoot g d 0 capacity true ≡ readWhole capacity d (treeOf g 0)
-unfolding readRoot readWhole
-try-whole g d capacity p h =
-    let a = sym (test-true _ _ (le-leb 0 (length d) (omega arith))) ∙ admit-length g d 0 (sym p) (length-fits d h) in
-    ap (λ (o : Outcome Reason (Unit {0})). bind (beforeStart 0 o) (λ _. next (readVal capacity d (treeOf g 0) (start 0)) (atEnd d))) (sym a)
+unfolding readRoot admitOf readWhole
+try-whole g d capacity p h = rw (p, le-leb (length d) 1048576 h, le-leb 0 (length d) (omega arith))
 
 pub tries-none : (l d : List ℕ) (j before n : ℕ) → n ≤ j → refused (reason 22 (byte 0)) ≡ tryGrammars l d j before (n - j)
 unfolding tryGrammars

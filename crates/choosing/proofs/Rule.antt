@@ -7,7 +7,6 @@ use native.Mathlib.Nat.{sub-zero}
 use native.Mathlib.Numerals.{add-one}
 use native.Mathlib.Omega.{arith}
 use lib.ListN.{length}
-use borrow.Author.Tests.{le-leb}
 use Rattle.refusal.specs.Outcome.{Outcome, accepted, refused, bind, word, byte, Reason, reason}
 use Rattle.refusal.proofs.Tests.{reflects-eqb}
 use Rattle.refusal.proofs.Outcome.{Post, holds, fails, post-bind, post-weaken, post-accepted, post-refused, test-true, clash}
@@ -20,10 +19,10 @@ use Rattle.grammar.specs.Tree.{treeOf}
 use Rattle.grammar.proofs.Rule.{one-more}
 use Rattle.admission.proofs.Admission.{length-fits, length-post}
 use Rattle.reading.specs.Calls.{withoutState, demarshallOf}
-use Rattle.reading.proofs.Calls.{withoutState-accepted}
+use Rattle.reading.proofs.Calls.{withoutState-accepted, root-whole}
 use Rattle.choosing.specs.Choose.{listCount, countAt, grammarOf, checkList, placedReason, inList, checkGrammars, tryOf, Choice, tried, tryGrammars, chooseOf}
 use Rattle.choosing.specs.Rule.{ListRule, ListPasses, Accepts, begunOver, IsFirst, ChoosesFirst, BegunWithin}
-use Rattle.choosing.proofs.Laws.{list-post, list-filled, grammars-none, grammar-passed, grammar-refused, choose-length, tries-none, tries-accepted, tries-refused}
+use Rattle.choosing.proofs.Laws.{rule-ends, try-whole, list-post, list-filled, grammars-none, grammar-passed, grammar-refused, choose-length, tries-none, tries-accepted, tries-refused}
 
 -- ---- 21, then 1 to 5 of each grammar
 
@@ -32,7 +31,7 @@ module _ (l : List ℕ) where
   rule-held h = post-accepted (rw (sym h) at (list-post l))
 
   pub rule-passes : ListRule l → accepted tt ≡ checkList l
-  rule-passes r = sym (test-true _ _ (reflects-eqb (countAt l (listCount l)) (length l) .0 (r .ends))) ∙ list-filled l (λ e. omega (arith, r .some)) (r .most)
+  rule-passes r = sym (test-true _ _ (reflects-eqb (countAt l (listCount l)) (length l) .0 (rule-ends l r))) ∙ list-filled l (λ e. omega (arith, r .some)) (r .most)
 
   pub rule-broken : (ListRule l → ⊥) → refused (reason 21 (word 0)) ≡ checkList l
   rule-broken n = go (list-post l)
@@ -83,98 +82,70 @@ module _ (l : List ℕ) where
 
 -- where 1 to 6 are not given, the whole reading of the record is the try
 checked : (g d : List ℕ) (capacity : ℕ) → checkGrammar g ≡ accepted tt → length d ≤ 1048576 → demarshallOf g d capacity ≡ withoutState (readWhole capacity d (treeOf g 0))
-unfolding demarshallOf
-checked g d capacity p h = rw p (test-true _ _ (le-leb (length d) 1048576 h))
+checked g d capacity p h = sym (root-whole g d capacity) ∙ ap withoutState (try-whole g d capacity p h)
 
 module _ (l d : List ℕ) where
   -- the try of grammar j is refused
   abbrev Stops : ℕ → Type 0
   Stops j = (e : Stop) × (tryOf l d j ≡ refused e)
 
-  module _ (p : ListPasses l) (h : length d ≤ 1048576) (j : ℕ) (b : j < listCount l) where
-    abbrev here : demarshallOf (grammarOf l j) d 4096 ≡ withoutState (tryOf l d j)
-    here = checked (grammarOf l j) d 4096 (p .grammars j b) h
+  -- no grammar before number j accepts the record
+  abbrev NoneBefore : ℕ → Type 0
+  NoneBefore j = (i : ℕ) → i < j → ¬ (Accepts l d i)
 
-    accepts-exactly : Accepts l d j ↔ ((t : Step State Val) × (tryOf l d j ≡ accepted t))
-    accepts-exactly = (λ a. (a .0, withoutState-accepted (tryOf l d j) (a .0) (sym here ∙ a .1)), λ t. (t .0, here ∙ ap withoutState (t .1)))
+  module _ (p : ListPasses l) (h : length d ≤ 1048576) where
+    module _ (j : ℕ) (b : j < listCount l) where
+      abbrev here : demarshallOf (grammarOf l j) d 4096 ≡ withoutState (tryOf l d j)
+      here = checked (grammarOf l j) d 4096 (p .grammars j b) h
 
-    stops-not : Stops j → ¬ (Accepts l d j)
-    stops-not s a = let x = accepts-exactly .0 a in clash (sym (s .1) ∙ x .1)
+      accepts-exactly : Accepts l d j ↔ ((t : Step State Val) × (tryOf l d j ≡ accepted t))
+      accepts-exactly = (λ a. (a .0, withoutState-accepted (tryOf l d j) (a .0) (sym here ∙ a .1)), λ t. (t .0, here ∙ ap withoutState (t .1)))
 
-    not-stops : ¬ (Accepts l d j) → Stops j
-    not-stops n = go (tryOf l d j) refl
+      stops-not : Stops j → ¬ (Accepts l d j)
+      stops-not s a = let x = accepts-exactly .0 a in clash (sym (s .1) ∙ x .1)
+
+      not-stops : ¬ (Accepts l d j) → Stops j
+      not-stops n = go (tryOf l d j) refl
+        where
+          go : (o : Reading Val) → tryOf l d j ≡ o → Stops j
+          go (accepted t) e = absurd (n (accepts-exactly .1 (t, e)))
+          go (refused x) e = (x, e)
+
+    abbrev None : Reason → Type 0
+    None e = (e ≡ reason 22 (byte 0)) × NoneBefore (listCount l)
+
+    tries-from : (n j before : ℕ) → j + n ≡ listCount l → before ≡ begunOver l d j → NoneBefore j → Post (IsFirst l d) None (tryGrammars l d j before n)
+    unfolding tryGrammars begunOver
+    tries-from zero j before e s b = fails _ (refl, λ i k. b i (omega arith))
+    tries-from (suc n) j before e s b = go (tryOf l d j) refl (λ x q. tries-from n (suc j) (before + x .state .begun) (omega arith) (rw q (ap (λ (m : ℕ). m + x .state .begun) s)) (one-more b (stops-not j (omega arith) (x, q))))
       where
-        go : (o : Reading Val) → tryOf l d j ≡ o → Stops j
-        go (accepted t) e = absurd (n (accepts-exactly .1 (t, e)))
-        go (refused x) e = (x, e)
+        go : (o : Reading Val) → tryOf l d j ≡ o → ((x : Stop) → tryOf l d j ≡ refused x → Post (IsFirst l d) None (tryGrammars l d (suc j) (before + x .state .begun) n)) → Post (IsFirst l d) None (tried j before o (λ begun. tryGrammars l d (suc j) begun n))
+        go (accepted t) q k = holds (record { number = j; begun = before + t .state .begun }) (record { passes = p; short = h; below = omega arith; accepts = accepts-exactly j (omega arith) .1 (t, q); first = b; begun = rw q (ap (λ (m : ℕ). m + t .state .begun) s) })
+        go (refused x) q k = k x q
 
-  -- of the tries of all grammars one is the first that is accepted, or none is
-  record FirstTry (c : Choice) : Type 0 where
-    below : c .number < listCount l
-    before : (i : ℕ) → i < c .number → Stops i
-    end : Step State Val
-    accepts : tryOf l d (c .number) ≡ accepted end
-    begun : c .begun ≡ begunOver l d (suc (c .number))
+    -- the tries of a list that passes
+    pub tries-post : Post (IsFirst l d) None (tryGrammars l d 0 0 (listCount l))
+    unfolding begunOver
+    tries-post = tries-from (listCount l) 0 0 (omega arith) refl (λ i k. absurd (omega arith))
 
-  abbrev None : Reason → Type 0
-  None e = (e ≡ reason 22 (byte 0)) × ((i : ℕ) → i < listCount l → Stops i)
+    -- tries that are refused are passed over
+    skip-tries : (j : ℕ) → j ≤ listCount l → NoneBefore j → tryGrammars l d j (begunOver l d j) (listCount l - j) ≡ tryGrammars l d 0 0 (listCount l)
+    unfolding begunOver
+    skip-tries zero k b = ap (tryGrammars l d 0 0) (sub-zero (listCount l))
+    skip-tries (suc j) k b =
+        let x = not-stops j (omega arith) (b j (omega arith)) in
+        rw (x .1) (rw (add-one j) at (tries-refused l d j (listCount l) (omega arith) (begunOver l d j) (x .1))) ∙ skip-tries j (omega arith) (λ i m. b i (omega arith))
 
-  tries-from : (n j before : ℕ) → j + n ≡ listCount l → before ≡ begunOver l d j → ((i : ℕ) → i < j → Stops i) → Post FirstTry None (tryGrammars l d j before n)
-  unfolding tryGrammars begunOver
-  tries-from zero j before e s b = fails _ (refl, λ i h. b i (omega arith))
-  tries-from (suc n) j before e s b = go (tryOf l d j) refl (λ x p. tries-from n (suc j) (before + x .state .begun) (omega arith) (rw p (ap (λ (m : ℕ). m + x .state .begun) s)) (one-more b (x, p)))
-    where
-      go : (o : Reading Val) → tryOf l d j ≡ o → ((x : Stop) → tryOf l d j ≡ refused x → Post FirstTry None (tryGrammars l d (suc j) (before + x .state .begun) n)) → Post FirstTry None (tried j before o (λ begun. tryGrammars l d (suc j) begun n))
-      go (accepted t) p k = holds (record { number = j; begun = before + t .state .begun }) (record { below = omega arith; before = b; end = t; accepts = p; begun = rw p (ap (λ (m : ℕ). m + t .state .begun) s) })
-      go (refused x) p k = k x p
+    pub none-accepts : NoneBefore (listCount l) → tryGrammars l d 0 0 (listCount l) ≡ refused (reason 22 (byte 0))
+    none-accepts n = sym (tries-none l d (listCount l) (begunOver l d (listCount l)) (listCount l) (omega arith) ∙ skip-tries (listCount l) (omega arith) n)
 
-  -- tries that are refused are passed over
-  skip-tries : (j : ℕ) → j ≤ listCount l → ((i : ℕ) → i < j → Stops i) → tryGrammars l d j (begunOver l d j) (listCount l - j) ≡ tryGrammars l d 0 0 (listCount l)
-  unfolding begunOver
-  skip-tries zero h b = ap (tryGrammars l d 0 0) (sub-zero (listCount l))
-  skip-tries (suc j) h b =
-      let x = b j (omega arith) in
-      rw (x .1) (rw (add-one j) at (tries-refused l d j (listCount l) (omega arith) (begunOver l d j) (x .1))) ∙ skip-tries j (omega arith) (λ i k. b i (omega arith))
-
-  first-accepted : {c : Choice} → FirstTry c → tryGrammars l d 0 0 (listCount l) ≡ accepted c
+  first-accepted : {c : Choice} → IsFirst l d c → tryGrammars l d 0 0 (listCount l) ≡ accepted c
   unfolding begunOver
   first-accepted {c} f =
-      sym (skip-tries (c .number) (omega (arith, f .below)) (f .before))
-      ∙ sym (tries-accepted l d (c .number) (listCount l) (f .below) (begunOver l d (c .number)) (f .accepts))
-      ∙ ap (λ (m : ℕ). accepted (record { number = c .number; begun = m })) (sym (f .begun ∙ rw (f .accepts)))
-
-  none-refused : ((i : ℕ) → i < listCount l → Stops i) → tryGrammars l d 0 0 (listCount l) ≡ refused (reason 22 (byte 0))
-  none-refused b = sym (tries-none l d (listCount l) (begunOver l d (listCount l)) (listCount l) (omega arith) ∙ skip-tries (listCount l) (omega arith) b)
-
-  -- what is chosen, by the whole readings
-  is-first : {c : Choice} → ListPasses l → length d ≤ 1048576 → FirstTry c → IsFirst l d c
-  is-first {c} p h f = record {
-    passes = p;
-    short = h;
-    below = f .below;
-    accepts = accepts-exactly p h (c .number) (f .below) .1 (f .end, f .accepts);
-    first = λ j b. stops-not p h j (omega (arith, f .below)) (f .before j b);
-    begun = f .begun;
-  }
-
-  first-try : {c : Choice} → IsFirst l d c → FirstTry c
-  first-try {c} f =
-      let a = accepts-exactly (f .passes) (f .short) (c .number) (f .below) .0 (f .accepts) in
-      record {
-        below = f .below;
-        before = λ j b. not-stops (f .passes) (f .short) j (omega (arith, f .below)) (f .first j b);
-        end = a .0;
-        accepts = a .1;
-        begun = f .begun;
-      }
-
-  -- the tries of a list that passes
-  pub tries-post : ListPasses l → length d ≤ 1048576 → Post (IsFirst l d) (λ e. (e ≡ reason 22 (byte 0)) × ((j : ℕ) → j < listCount l → ¬ (Accepts l d j))) (tryGrammars l d 0 0 (listCount l))
-  unfolding begunOver
-  tries-post p h = post-weaken (λ c f. is-first p h f) (λ e n. (n .0, λ j b. stops-not p h j b (n .1 j b))) (tries-from (listCount l) 0 0 (omega arith) refl (λ i h. absurd (omega arith)))
-
-  pub none-accepts : ListPasses l → length d ≤ 1048576 → ((j : ℕ) → j < listCount l → ¬ (Accepts l d j)) → tryGrammars l d 0 0 (listCount l) ≡ refused (reason 22 (byte 0))
-  none-accepts p h n = none-refused (λ j b. not-stops p h j b (n j b))
+      let t = accepts-exactly (f .passes) (f .short) (c .number) (f .below) .0 (f .accepts) in
+      sym (skip-tries (f .passes) (f .short) (c .number) (omega (arith, f .below)) (f .first))
+      ∙ sym (tries-accepted l d (c .number) (listCount l) (f .below) (begunOver l d (c .number)) (t .1))
+      ∙ ap (λ (m : ℕ). accepted (record { number = c .number; begun = m })) (sym (f .begun ∙ rw (t .1)))
 
 -- ---- the choice
 
@@ -187,11 +158,11 @@ module _ (l d : List ℕ) where
       post-bind _ (post-weaken (λ _ h. h) (λ _ _. tt) (length-post d)) (λ _ h.
       post-weaken (λ _ f. f) (λ _ _. tt) (tries-post l d (record { rule = r; grammars = g }) h))))
 
-  pub first-chosen : {c : Choice} → IsFirst l d c → chooseOf l d ≡ accepted c
+  first-chosen : {c : Choice} → IsFirst l d c → chooseOf l d ≡ accepted c
   first-chosen f =
       let p = f .passes in
       sym (choose-length l d (rule-passes l (p .rule)) (grammars-pass l (p .grammars)) (length-fits d (f .short)))
-      ∙ first-accepted l d (first-try l d f)
+      ∙ first-accepted l d f
 
 pub chooses-first : ChoosesFirst
 chooses-first l d c = (λ e. post-accepted (rw e at (chosen-post l d)), λ f. first-chosen l d f)
@@ -214,10 +185,10 @@ pub begun-within : BegunWithin
 unfolding begunOver
 begun-within l d c e =
     let f = chooses-first l d c .0 e in
-    let t = first-try l d f in
-    let s : c .begun ≡ begunOver l d (c .number) + t .end .state .begun = f .begun ∙ rw (t .accepts) in
+    let t = accepts-exactly l d (f .passes) (f .short) (c .number) (f .below) .0 (f .accepts) in
+    let s : c .begun ≡ begunOver l d (c .number) + t .0 .state .begun = f .begun ∙ rw (t .1) in
     let o = over-bounds l d (c .number) in
-    let p = post-accepted (rw (t .accepts) at (begins-whole 4096 d (treeOf (grammarOf l (c .number)) 0))) in
+    let p = post-accepted (rw (t .1) at (begins-whole 4096 d (treeOf (grammarOf l (c .number)) 0))) in
     let m : c .begun < 4097 * suc (c .number) = omega (arith, s, o .1, p .1) in
     record {
       least = omega (arith, s, o .0, p .0);

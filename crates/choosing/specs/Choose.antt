@@ -20,7 +20,7 @@ use Rattle.choosing.specs.declared.Chosen.the-variants as C
 abbrev pub listCount : List ℕ → ℕ
 listCount l = getD l 0 0
 
--- the word where the word count of grammar j stands; behind the last grammar it is the first word that is none of the list's own
+-- the word where the word count of grammar j stands; where j is the count of grammars, the word behind the last one
 unfoldable pub countAt : List ℕ → ℕ → ℕ
 countAt l zero = 1
 countAt l (suc j) = countAt l j + 1 + getD l (countAt l j) 0
@@ -29,8 +29,8 @@ countAt l (suc j) = countAt l j + 1 + getD l (countAt l j) 0
 abbrev pub grammarOf : List ℕ → ℕ → List ℕ
 grammarOf l j = take (getD l (countAt l j) 0) (drop (countAt l j + 1) l)
 
--- 21: the count from 1 to 16, and the last grammar ends with the list. In a cut list it ends behind it, and where words are left over,
--- before it
+-- 21, unless the count is from 1 to 16 and the last grammar ends with the list: in a cut list it ends past the list's end, and where words
+-- are left over, before it
 unfoldable pub checkList : List ℕ → Outcome Reason (Unit {0})
 checkList l =
     test (ltb 0 (listCount l) && leb (listCount l) 16) (reason 21 (word 0))

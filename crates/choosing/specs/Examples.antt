@@ -55,13 +55,13 @@ abbrev pub twice : ℕ → ℕ → List ℕ
 twice zero k = []
 twice (suc n) k = suc k ∷ suc k ∷ twice n (suc k)
 
--- 12 of them over a constant: a value has 8,191 rows, more than there are
+-- 12 of them over a constant: a value has 8,191 rows, more than the capacity
 abbrev pub grammarW : List ℕ
 grammarW = 13 ∷ pairs 12 0 (0 ∷ 0 ∷ 0 ∷ 24 ∷ twice 12 0)
 
--- the count 4,095 in 8 bytes: C's record with as many rows as there are
-abbrev pub most : List ℕ
-most = 0xff ∷ 0x0f ∷ 0 ∷ 0 ∷ 0 ∷ 0 ∷ 0 ∷ 0 ∷ []
+-- the count 4,095 in 8 bytes: a record of C whose value has as many rows as the capacity
+abbrev pub recordC : List ℕ
+recordC = 0xff ∷ 0x0f ∷ 0 ∷ 0 ∷ 0 ∷ 0 ∷ 0 ∷ 0 ∷ []
 
 abbrev pub zeros : ℕ → List ℕ
 zeros zero = []
@@ -78,10 +78,14 @@ examples =
     ∷ record { list = listOf (leaf 1 ∷ leaf 9 ∷ []); bytes = zeros 4; expected = grammar 0 1 }
     -- a uint32, C and A: one value begun by the try that 11 ends, one by the try that 8 ends at a count, three by A
     ∷ record { list = listOf (leaf 1 ∷ grammarC ∷ grammarA ∷ []); bytes = recordA; expected = grammar 2 5 }
+    -- a pair of uint32 cut behind the first: three begun, the pair, both numbers; a tag above the cases, and a byte array cut behind its count
+    ∷ record { list = listOf ((3 ∷ 4 ∷ 0 ∷ 2 ∷ 1 ∷ 0 ∷ 0 ∷ 1 ∷ 0 ∷ 0 ∷ 2 ∷ 1 ∷ 2 ∷ []) ∷ leaf 1 ∷ []); bytes = zeros 4; expected = grammar 1 4 }
+    ∷ record { list = listOf (grammarD ∷ leaf 2 ∷ []); bytes = zeros 8; expected = grammar 1 2 }
+    ∷ record { list = listOf (leaf 5 ∷ leaf 2 ∷ []); bytes = 1 ∷ zeros 7; expected = grammar 1 2 }
     -- 16 grammars, of which the last accepts
     ∷ record { list = listOf (times 15 grammarD (grammarB ∷ [])); bytes = []; expected = grammar 15 16 }
-    -- the most values that a refused try can begin, one more than there are rows, and the most that an accepted one can
-    ∷ record { list = listOf (grammarW ∷ grammarC ∷ []); bytes = most; expected = grammar 1 8193 }
+    -- the most values that a refused try can begin, one more than the capacity, and the most that an accepted one can
+    ∷ record { list = listOf (grammarW ∷ grammarC ∷ []); bytes = recordC; expected = grammar 1 8193 }
     -- 21: no word, no grammar, 17 grammars, no word count, a word missing, 2^32 − 1 words, a word left over
     ∷ record { list = []; bytes = []; expected = refused (reason 21 (word 0)) }
     ∷ record { list = 0 ∷ []; bytes = []; expected = refused (reason 21 (word 0)) }
@@ -89,9 +93,14 @@ examples =
     ∷ record { list = 1 ∷ []; bytes = []; expected = refused (reason 21 (word 0)) }
     ∷ record { list = 1 ∷ 5 ∷ 1 ∷ 0 ∷ 0 ∷ 0 ∷ []; bytes = []; expected = refused (reason 21 (word 0)) }
     ∷ record { list = 1 ∷ 4294967295 ∷ []; bytes = []; expected = refused (reason 21 (word 0)) }
+    -- 2^32 − 2 words: added in 32 bits the list would end with its length; and a grammar of no words in a cut list
+    ∷ record { list = 2 ∷ 4294967294 ∷ 0 ∷ []; bytes = []; expected = refused (reason 21 (word 0)) }
+    ∷ record { list = 2 ∷ 0 ∷ []; bytes = []; expected = refused (reason 21 (word 0)) }
     ∷ record { list = listOf (grammarB ∷ []) ++ (0 ∷ []); bytes = []; expected = refused (reason 21 (word 0)) }
     -- a grammar of no words: 1 at the word behind its count, here the length of the list
     ∷ record { list = listOf ([] ∷ []); bytes = []; expected = refused (reason 1 (word 2)) }
+    -- 256 nodes in one word: 2 at a word far behind the list
+    ∷ record { list = listOf ((256 ∷ []) ∷ []); bytes = []; expected = refused (reason 2 (word 771)) }
     -- behind B, which accepts: no words, a kind above 10, a uint64 with a child, example F
     ∷ record { list = listOf (grammarB ∷ [] ∷ []); bytes = []; expected = refused (reason 1 (word 8)) }
     ∷ record { list = listOf (grammarB ∷ leaf 11 ∷ []); bytes = []; expected = refused (reason 3 (word 9)) }

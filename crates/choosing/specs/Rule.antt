@@ -16,10 +16,10 @@ use Rattle.choosing.specs.Choose.{listCount, countAt, grammarOf, tryOf, 
 pub record ListRule (l : List ℕ) : Type 0 where
   pub some : 0 < listCount l
   pub most : listCount l ≤ 16
-  -- the word count of every grammar is there, and so are its words
-  pub whole : (j : ℕ) → j < listCount l → (countAt l j < length l) × (countAt l j + getD l (countAt l j) 0 < length l)
-  -- and no words behind the last grammar
-  pub ends : countAt l (listCount l) ≡ length l
+  -- no cut list: the word count of every grammar is there, and so are its words
+  pub whole : (j : ℕ) → j < listCount l → countAt l j + getD l (countAt l j) 0 < length l
+  -- and no words left over behind the last grammar
+  pub none : length l ≤ countAt l (listCount l)
 
 -- "All grammars are checked": the list is laid out, and each of its grammars passes
 pub record ListPasses (l : List ℕ) : Type 0 where
@@ -49,7 +49,7 @@ ChoosesFirst = (l d : List ℕ) (c : Choice) → (chooseOf l d ≡ accepted c) �
 
 -- how many values are begun
 pub record BegunBounds (c : Choice) : Type 0 where
-  -- every try begins one, the root
+  -- every try begins at least one value, its root
   pub least : c .number < c .begun
   -- a refused try begins at most 4,097, the accepted one at most 4,096
   pub most : c .begun < 4097 * suc (c .number)

@@ -25,7 +25,7 @@ pub enum Chosen {
     Refused(Refusal),
 }
 
-// Where the word count of the next grammar stands, behind the words of the one whose count stands at a word of the list.
+// The word where the next grammar's word count stands, from the word where this one's does.
 fn next_count(list: &[u32], at: usize) -> usize
     requires { ⌜ at ≤ length (now list) ⌝ }
     ensures { λ r. ⌜ r ≡ at + 1 + getD (now (list .entry)) at 0 ⌝ }
@@ -64,7 +64,7 @@ fn check_list(list: &[u32]) -> Answer
     refusal::accept_if(fills_list(list, count), broken)
 }
 
-// A refusal of a grammar whose words begin at a word of the list, with its place in the list.
+// The refusal of a grammar whose words begin at word `start` of the list, placed by word of the list.
 fn place_in_list(start: usize, refusal: Refusal) -> Refusal
     requires { ⌜ ((w : ℕ) → locationOf (refusal .place) ≡ word w → start + w < 18446744073709551616) ⌝ }
     ensures { λ r. ⌜ reasonOf r ≡ placedReason start (reasonOf refusal) ⌝ }
@@ -120,9 +120,10 @@ fn try_grammars(list: &[u32], record: &[u8]) -> Chosen
         let end = next_count(list, at);
         match try_grammar(&list[start..end], record) {
             Step::Next(t) => {
+                let total = begun + t.begun;
                 return Chosen::Grammar {
                     number: j,
-                    begun: begun + t.begun,
+                    begun: total,
                 };
             }
             Step::Stopped(t, _) => {

@@ -464,7 +464,7 @@ module _ (g t : List ℕ) (n : ℕ) (s : List ℕ) (len index : ℕ) where
       back (sizeAbove v p w i l) = rw (p, w, in-grammar-exactly v (treeOf g 0) 0 .1 i, lt-leb (SizeOfV v) 1048576 l)
       back (noRoom v p w i m l) = rw (p, w, in-grammar-exactly v (treeOf g 0) 0 .1 i, le-leb (SizeOfV v) 1048576 m, lt-leb (index + SizeOfV v) len l)
 
--- ---- the calls of src/lib.rt
+-- ---- the calls of `rewriting`, `comparing` and `choosing`
 
 module _ (g d : List ℕ) (capacity len index : ℕ) where
   pub rewrite-refuses : Refuses (RewritingRefused g d capacity len index) (rewriteOf g d capacity len index)

@@ -348,7 +348,7 @@ NoneFits =
 
 -- (d) "Writing what was handed out, at whatever place of an output long enough, is accepted and puts exactly the record there again":
 -- `marshall_val` is given the slice as the reading left it, whatever stands behind row n − 1, n, the record as store and the same grammar.
--- Of the output's length nothing else is asked. A writer that gives 17 at once or leaves the output alone fails. `rewrite` of src/lib.rt does
+-- Of the output's length nothing else is asked. A writer that gives 17 at once or leaves the output alone fails. `rewrite` of `rewriting` does
 -- both, and its contract says this of code
 abbrev pub WritesBack : Type 0
 WritesBack =

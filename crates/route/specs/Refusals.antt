@@ -107,7 +107,7 @@ pub data WritingRefused (g t : List ℕ) (n : ℕ) (s : List ℕ) (len index : �
   sizeAbove : (v : Val) → checkGrammar g ≡ accepted tt → walk t n s ≡ accepted v → ValInGrammar v (treeOf g 0) → 1048576 < SizeOfV v → WritingRefused g t n s len index (reason 16 (row 0))
   noRoom : (v : Val) → checkGrammar g ≡ accepted tt → walk t n s ≡ accepted v → ValInGrammar v (treeOf g 0) → SizeOfV v ≤ 1048576 → len < index + SizeOfV v → WritingRefused g t n s len index (reason 17 (byte len))
 
--- ---- the calls of src/lib.rt
+-- ---- the calls of `rewriting`, `comparing` and `choosing`
 
 -- `rewrite`: 17, then the whole reading
 pub data RewritingRefused (g d : List ℕ) (capacity len index : ℕ) : Reason → Type 0 where
@@ -120,8 +120,8 @@ pub data RouteRefused (g first second : List ℕ) : NamedReason → Type 0 where
   byFirst : {e : Reason} → checkGrammar g ≡ accepted tt → WholeRefused g first 4096 e → RouteRefused g first second (ofFirst e)
   bySecond : {e : Reason} → (t : Step State Val) → checkGrammar g ≡ accepted tt → demarshallOf g first 4096 ≡ accepted t → WholeRefused g second 4096 e → RouteRefused g first second (ofSecond e)
 
--- `choose_grammar`: 21, then 1 to 5 of the first grammar of the list that does not pass, at word w of the grammar, which is placed by word of
--- the list, then 6, and 22 last
+-- `choose_grammar`: 21, then 1 to 5 of the first grammar of the list that does not pass, its word w counted from the start of the list, then
+-- 6, and 22 last
 pub data ChoosingRefused (l d : List ℕ) : Reason → Type 0 where
   listBroken : (ListRule l → ⊥) → ChoosingRefused l d (reason 21 (word 0))
   badGrammar : ListRule l → (j : ℕ) → j < listCount l → ((i : ℕ) → i < j → checkGrammar (grammarOf l i) ≡ accepted tt) → (n w : ℕ) → FirstRefusal (grammarOf l j) (reason n (word w)) → ChoosingRefused l d (reason n (word (countAt l j + 1 + w)))

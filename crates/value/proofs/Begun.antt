@@ -83,7 +83,7 @@ module _ (capacity : ℕ) where
       begins-case (gcons g gs) zero s t h e = begins-more _ t (omega arith) (λ i. begins-body g (begin t) i)
       begins-case (gcons g gs) (suc c) s t h e = begins-case gs c s t h e
 
-    pub begins-val : (g : G) (s : State) → s .begun ≤ capacity → Begins (suc (s .begun)) (readVal capacity d g s)
+    begins-val : (g : G) (s : State) → s .begun ≤ capacity → Begins (suc (s .begun)) (readVal capacity d g s)
     begins-val g s h = begins-claimed _ s h (λ i. begins-body g (begin s) i)
 
     pub begins-whole : (g : G) → Begins 1 (readWhole capacity d g)

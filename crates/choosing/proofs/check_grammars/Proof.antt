@@ -8,7 +8,7 @@ use Rattle.refusal.specs.Meaning.{reasonOf}
 use Rattle.refusal.proofs.Meaning.{done, stopped}
 use Rattle.grammar.specs.Check.{checkGrammar}
 use Rattle.choosing.specs.Choose.{listCount, countAt, placedReason, checkGrammars}
-use Rattle.choosing.proofs.Laws.{count-first, next-at, next-inside, part-grammar, within, refusal-word, grammars-none, grammar-passed, grammar-refused}
+use Rattle.choosing.proofs.Laws.{count-first, next-at, next-inside, part-grammar, within, rule-ends, refusal-word, grammars-none, grammar-passed, grammar-refused}
 use borrow.Author.Needs.{needs}
 use Rattle.choosing.proofs.check_grammars.Statement.{statement}
 use Rattle.choosing.proofs.check_grammars.Tie as tie
@@ -26,7 +26,7 @@ loop-holds : tie.Need-loop-holds Inv-loop μ-loop
 loop-holds c =
     let l = c .before .before .args .list .now in
     let e : c .word .result ≡ listCount l = c .word .ensures .0 in
-    (e, omega arith, count-first l, omega (arith, within l (c .before .before .pre .ends) 0 (omega arith), count-first l), ap (checkGrammars l 0) (sub-zero (c .word .result) ∙ e))
+    (e, omega arith, count-first l, omega (arith, within l (rule-ends l (c .before .before .pre)) 0 (omega arith), count-first l), ap (checkGrammars l 0) (sub-zero (c .word .result) ∙ e))
 
 add-start : tie.Need-add-start Inv-loop μ-loop
 add-start c = search needs
@@ -49,7 +49,7 @@ part-check-grammar-end c =
     let s = x .before .before .before in
     let l = s .args .list .now in
     let v = x .loop in
-    omega (arith, next-inside l (v .j) (v .at) (c .next-count .result) (v .inv .2) (c .next-count .ensures) (s .pre .ends) (omega (arith, v .inv .0)))
+    omega (arith, next-inside l (v .j) (v .at) (c .next-count .result) (v .inv .2) (c .next-count .ensures) (rule-ends l (s .pre)) (omega (arith, v .inv .0)))
 
 check-grammar-requires : tie.Need-check-grammar-requires Inv-loop μ-loop
 check-grammar-requires c κs = search needs
@@ -91,7 +91,7 @@ loop-again c =
     let l = s .args .list .now in
     let v = y .loop in
     let n = x .before .before .next-count in
-    (v .inv .0, omega arith, next-at l (v .j) (v .at) (n .result) (v .inv .2) (n .ensures), next-inside l (v .j) (v .at) (n .result) (v .inv .2) (n .ensures) (s .pre .ends) (omega (arith, v .inv .0)), grammar-passed l (v .j) (y .before .word .result) (x .before .before .before .loop-test .taken) (done (c .enum-told .given .1) (x .check-grammar .ensures) ∙ ap checkGrammar (part-grammar l (v .j) (v .at) (n .result) (v .inv .2) (n .ensures))) ∙ v .inv .4)
+    (v .inv .0, omega arith, next-at l (v .j) (v .at) (n .result) (v .inv .2) (n .ensures), next-inside l (v .j) (v .at) (n .result) (v .inv .2) (n .ensures) (rule-ends l (s .pre)) (omega (arith, v .inv .0)), grammar-passed l (v .j) (y .before .word .result) (x .before .before .before .loop-test .taken) (done (c .enum-told .given .1) (x .check-grammar .ensures) ∙ ap checkGrammar (part-grammar l (v .j) (v .at) (n .result) (v .inv .2) (n .ensures))) ∙ v .inv .4)
 
 returns-2 : tie.Need-returns-2 Inv-loop μ-loop
 returns-2 c = let v = c .before .loop in grammars-none (c .before .before .before .before .args .list .now) (v .j) (c .before .before .word .result) (c .loop-test .left) ∙ v .inv .4

@@ -1,11 +1,13 @@
-use mathlib.Core.Path.{ap, sym, _∙_}
+use mathlib.Core.Path.{ap, _∙_}
 use mathlib.Core.Bool.{Bool}
 use Prim.Native.Nat.{ℕ}
+use native.Mathlib.Omega.{arith}
 use lib.ListN.{length}
 use lib.Dec.{eqb}
 use Rattle.refusal.specs.Outcome.{Reason, reason, word, accepted, refused, test}
 use Rattle.choosing.specs.Choose.{countAt}
-use Rattle.choosing.proofs.Laws.{list-none, list-many, list-filled}
+use Rattle.choosing.proofs.Laws.{list-filled}
+use Rattle.choosing.proofs.Rule.{rule-broken}
 use borrow.Author.Needs.{needs}
 use Rattle.choosing.proofs.check_list.Statement.{statement}
 use Rattle.choosing.proofs.check_list.Tie as tie
@@ -19,12 +21,12 @@ at-word-requires c κs = search needs
 returns : tie.Need-returns
 returns c =
     let l = c .before .before .before .before .args .list .now in
-    ap refused (c .before .at-word .ensures) ∙ list-none l (sym (c .before .before .word .ensures .0) ∙ c .if1 .taken)
+    ap refused (c .before .at-word .ensures) ∙ rule-broken l (λ r. omega (arith, r .some, c .before .before .word .ensures .0, c .if1 .taken))
 
 returns-2 : tie.Need-returns-2
 returns-2 c =
     let l = c .before .before .before .before .before .args .list .now in
-    ap refused (c .before .before .at-word .ensures) ∙ list-many l (rw (c .before .before .before .word .ensures .0) at (c .if2 .taken))
+    ap refused (c .before .before .at-word .ensures) ∙ rule-broken l (λ r. omega (arith, r .most, c .before .before .before .word .ensures .0, c .if2 .taken))
 
 fills-list-requires : tie.Need-fills-list-requires
 fills-list-requires c κs = search needs

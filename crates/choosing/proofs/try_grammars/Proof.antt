@@ -6,7 +6,7 @@ use lib.ListN.{length, take, drop}
 use Rattle.refusal.specs.Outcome.{refused}
 use Rattle.readers.proofs.Meaning.{step-matched}
 use Rattle.choosing.specs.Choose.{listCount, countAt, tryGrammars}
-use Rattle.choosing.proofs.Laws.{count-first, next-at, next-inside, part-grammar, within, tries-none, Trying, accepted-most, try-accepted, refused-most, try-refused}
+use Rattle.choosing.proofs.Laws.{count-first, next-at, next-inside, part-grammar, within, rule-ends, tries-none, Trying, accepted-most, try-accepted, refused-most, try-refused}
 use borrow.Author.Needs.{needs}
 use Rattle.choosing.proofs.try_grammars.Statement.{statement}
 use Rattle.choosing.proofs.try_grammars.Tie as tie
@@ -31,7 +31,7 @@ loop-holds c =
     let s = c .before .before .before in
     let l = s .args .list .now in
     let e : c .word .result ≡ listCount l = c .word .ensures .0 in
-    (e, omega arith, count-first l, omega (arith, within l (s .pre .0 .rule .ends) 0 (omega arith), count-first l), omega arith, ap (tryGrammars l (s .args .«record» .now) 0 0) (sub-zero (c .word .result) ∙ e))
+    (e, omega arith, count-first l, omega (arith, within l (rule-ends l (s .pre .0 .rule)) 0 (omega arith), count-first l), omega arith, ap (tryGrammars l (s .args .«record» .now) 0 0) (sub-zero (c .word .result) ∙ e))
 
 add-start : tie.Need-add-start Inv-loop μ-loop
 add-start c = search needs
@@ -53,7 +53,7 @@ part-try-grammar-end c =
     let x = c .before .before in
     let s = x .before .before .before .before in
     let v = x .loop in
-    omega (arith, next-inside (s .args .list .now) (v .j) (v .at) (c .next-count .result) (v .inv .2) (c .next-count .ensures) (s .pre .0 .rule .ends) (omega (arith, v .inv .0)))
+    omega (arith, next-inside (s .args .list .now) (v .j) (v .at) (c .next-count .result) (v .inv .2) (c .next-count .ensures) (rule-ends (s .args .list .now) (s .pre .0 .rule)) (omega (arith, v .inv .0)))
 
 try-grammar-requires : tie.Need-try-grammar-requires Inv-loop μ-loop
 try-grammar-requires c κs = search needs
@@ -74,8 +74,8 @@ trying c =
       part = part-grammar (s .args .list .now) (v .j) (v .at) (c .before .before .next-count .result) (v .inv .2) (c .before .before .next-count .ensures);
     }
 
-add-t18 : tie.Need-add-t18 Inv-loop μ-loop
-add-t18 c =
+add-total : tie.Need-add-total Inv-loop μ-loop
+add-total c =
     let x = c .before .before .before .before in
     let v = x .before .before .before .before .loop in
     omega (arith, accepted-most (trying x) (step-matched (c .before .before .t .given .1) (x .try-grammar .ensures)), v .inv .4)
@@ -110,7 +110,7 @@ loop-again c =
     let v = y .loop in
     let n = x .before .before .next-count in
     let r = step-matched (c .before .before .t2 .given .1) (x .try-grammar .ensures) in
-    (v .inv .0, omega arith, next-at l (v .j) (v .at) (n .result) (v .inv .2) (n .ensures), next-inside l (v .j) (v .at) (n .result) (v .inv .2) (n .ensures) (s .pre .0 .rule .ends) (omega (arith, v .inv .0)), omega (arith, refused-most (trying x) r, v .inv .4), try-refused (trying x) r (v .begun) ∙ v .inv .5)
+    (v .inv .0, omega arith, next-at l (v .j) (v .at) (n .result) (v .inv .2) (n .ensures), next-inside l (v .j) (v .at) (n .result) (v .inv .2) (n .ensures) (rule-ends l (s .pre .0 .rule)) (omega (arith, v .inv .0)), omega (arith, refused-most (trying x) r, v .inv .4), try-refused (trying x) r (v .begun) ∙ v .inv .5)
 
 at-byte-requires : tie.Need-at-byte-requires Inv-loop μ-loop
 at-byte-requires c κs = search needs
@@ -137,7 +137,7 @@ try-grammars-spec =
     part-try-grammar-end
     try-grammar-requires
     enum-known-t
-    add-t18
+    add-total
     returns
     enum-known-t-2
     add-begun
