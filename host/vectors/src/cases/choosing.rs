@@ -2,8 +2,8 @@
 
 use compare::{chain, doubling, grammar_list, Case};
 
-use super::magnitudes;
 use super::same_route::ROOTS;
+use super::{borders, magnitudes};
 use super::{counted, hex, numbers, table, Cases, List, MAX_BYTES};
 use super::{A, A64, ARR, A_RECORD, B, BYT, C, D, E, I32, I64, KIND_11, MIX, MIX_RECORD, PAIR};
 use super::{TUP0, U32, U64, UNI};
@@ -32,7 +32,7 @@ fn add(list: &mut List, name: &str, grammars: &[&str], record: &[u8]) {
 }
 
 /// Lists that are laid out or not: name and words. The record is empty; a constant accepts it.
-const LAYOUTS: [(&str, &str); 32] = [
+const LAYOUTS: [(&str, &str); 35] = [
     ("no words", ""),
     ("count 0", "0"),
     ("count 0 and a constant", "0, 5, 1, 0 0 0, 0"),
@@ -62,10 +62,22 @@ const LAYOUTS: [(&str, &str); 32] = [
     ),
     ("two grammars of 0 words", "2, 0, 0"),
     (
+        "a grammar of 1 word and a constant",
+        "2, 1, 1, 5, 1, 0 0 0, 0",
+    ),
+    (
+        "a grammar refused with 4 and one of 0 words",
+        "2, 5, 1, 2 0 1, 0, 0",
+    ),
+    (
         "a grammar of 0 words between constants",
         "3, 5, 1, 0 0 0, 0, 0, 5, 1, 0 0 0, 0",
     ),
     ("count 2 and one constant", "2, 5, 1, 0 0 0, 0"),
+    (
+        "count 2 and one grammar, which is refused",
+        "2, 5, 1, 11 0 0, 0",
+    ),
     (
         "count 3 and two constants",
         "3, 5, 1, 0 0 0, 0, 5, 1, 0 0 0, 0",
@@ -243,6 +255,55 @@ fn refused_grammars(list: &mut List) {
     }
     let name = "21 before 5, the bad child word is missing";
     add_words(list, name, numbers("1, 6, 1, 4 0 1, 1"), &[]);
+    let name = "21 before 22, a word left over";
+    add_words(list, name, numbers("1, 5, 1, 2 0 0, 0, 0"), &[]);
+}
+
+/// Lists of one grammar: name and grammar. The record is empty.
+const SINGLE: [(&str, &str); 9] = [
+    ("a grammar of 1 word that is 2", "2"),
+    (
+        "kind 11 at a node that the root does not reach",
+        "2, 0 0 0, 11 0 0, 0",
+    ),
+    ("array with count 2", "2, 3 0 2, 0 0 0, 2, 1 1"),
+    ("uint32 with first 1", "1, 1 1 0, 1, 0"),
+    ("count 0 and first at M", "1, 4 1 0, 1, 99"),
+    ("first+count wraps to 0 in 32 bits", "1, 4 4294967295 1, 0"),
+    ("child number N", "2, 4 0 1, 0 0 0, 1, 2"),
+    (
+        "the first of two bad children",
+        "3, 4 0 2, 0 0 0, 0 0 0, 2, 3 0",
+    ),
+    ("5 of node 0 before 3 of node 1", "2, 4 0 1, 11 0 0, 1, 0"),
+];
+
+/// Lists of one grammar, at the borders of 1 to 5: the listed ones, the largest tables and those beyond
+/// a limit, and the borders of each kind.
+fn single_grammars(list: &mut List) {
+    for (name, grammar) in SINGLE {
+        add(list, name, &[grammar], &[]);
+    }
+    let constants = |count| vec![[0; 3]; count];
+    let largest = table(&constants(256), &[0; 1_024]);
+    for (name, grammar) in [
+        ("N 256", table(&constants(256), &[])),
+        ("N 257", table(&constants(257), &[])),
+        ("M 1,024", table(&constants(1), &[0; 1_024])),
+        ("M 1,025", table(&constants(1), &[0; 1_025])),
+        ("1,794 words", largest.clone()),
+        ("1,793 words, one missing", largest[..1_793].to_vec()),
+        ("1,795 words, one too many", [&largest[..], &[0]].concat()),
+        ("1,795 words and N 0", vec![0; 1_795]),
+    ] {
+        add_tables(list, name, &[grammar], &[]);
+    }
+    for (name, case) in borders::grammar() {
+        if let Case::CheckGrammar { grammar } = case {
+            let name = name.trim_start_matches("check_grammar: ");
+            add_tables(list, name, &[grammar], &[]);
+        }
+    }
 }
 
 /// Places that are far in the list: the last grammar of 16 is refused behind others of 5 words, of 65
@@ -304,15 +365,22 @@ const UNION_WITHIN: &str = "4, 4 0 3, 8 3 2, 0 0 0, 1 0 0, 5, 2 1 2 2 3";
 /// An array of tuples of two constants, and a tuple of a constant and such an array.
 const PAIRS: &str = "3, 3 0 1, 4 1 2, 0 0 0, 3, 1 2 2";
 const PAIRS_BEHIND: &str = "4, 4 0 2, 3 2 1, 4 3 2, 0 0 0, 5, 3 1 2 3 3";
+/// An array of tuples of two uint64.
+const LONG_PAIRS: &str = "3, 3 0 1, 4 1 2, 2 0 0, 3, 1 2 2";
 /// An array of arrays of constants.
 const ARRAYS: &str = "3, 3 0 1, 3 1 1, 0 0 0, 2, 1 2";
-/// A tuple of a byte array and a uint32.
+/// A tuple of two arrays of constants, and of an array of constants and a union of a constant.
+const TWO_ARRAYS: &str = "3, 4 0 2, 3 2 1, 0 0 0, 3, 1 1 2";
+const ARRAY_AND_UNION: &str = "4, 4 0 2, 3 2 1, 8 2 1, 0 0 0, 3, 1 2 3";
+/// A tuple of a byte array and a uint32, and of two byte arrays.
 const BYTES_FIRST: &str = "3, 4 0 2, 5 0 0, 1 0 0, 2, 1 2";
-/// A union of a union of a constant.
+const TWO_BYTES: &str = "2, 4 0 2, 5 0 0, 2, 1 1";
+/// A union of a union of a constant, and of a union without cases.
 const CASES: &str = "3, 8 0 1, 8 1 1, 0 0 0, 2, 1 2";
+const NO_CASES: &str = "2, 8 0 1, 8 1 0, 1, 1";
 
 /// Choices: name, grammars and record. The values begun by a refused try are in the name.
-const CHOICES: [(&str, &[&str], &str); 65] = [
+const CHOICES: [(&str, &[&str], &str); 85] = [
     (
         "uint64, uint32 and constant, 8 bytes",
         &[U64, U32, B],
@@ -327,6 +395,11 @@ const CHOICES: [(&str, &[&str], &str); 65] = [
     ("uint64, uint32 and constant, 1 byte", &[U64, U32, B], "00"),
     ("uint32, example C and example A", &[U32, C, A], A_RECORD),
     ("example A alone", &[A], A_RECORD),
+    (
+        "uint32, example C and example A, its record cut",
+        &[U32, C, A],
+        "07000000 0200000000000000 41",
+    ),
     (
         "example A twice, its record cut",
         &[A, A],
@@ -349,6 +422,11 @@ const CHOICES: [(&str, &[&str], &str); 65] = [
         &[I64, U32, U64],
         "FFFFFFFFFFFFFFFF",
     ),
+    (
+        "the second of two that accept has more values",
+        &[U64, PAIR],
+        "0000000000000000",
+    ),
     ("the same grammar three times", &[U32, U32, U32], "07000000"),
     (
         "a byte array that is a uint64 too",
@@ -361,6 +439,32 @@ const CHOICES: [(&str, &[&str], &str); 65] = [
         "0000000000000000",
     ),
     ("nested values behind example A", &[A, MIX], MIX_RECORD),
+    (
+        "an array of int32 behind a uint32",
+        &[U32, "2, 3 0 1, 9 0 0, 1, 1"],
+        "0200000000000000 05000000 FBFFFFFF",
+    ),
+    // The node of elements that are not there, and the cases of other tags, are not read.
+    (
+        "an array without elements of uint32",
+        &[ARR, U64],
+        "0000000000000000",
+    ),
+    (
+        "an array without elements whose element has no value",
+        &["2, 3 0 1, 8 0 0, 1, 1", U64],
+        "0000000000000000",
+    ),
+    (
+        "case 1, a constant, of a union whose case 0 is a uint32",
+        &["3, 8 0 2, 1 0 0, 0 0 0, 2, 1 2", U64],
+        "0100000000000000",
+    ),
+    (
+        "case 1, a constant, of a union whose case 0 has no value",
+        &["3, 8 0 2, 8 0 0, 0 0 0, 2, 1 2", U64],
+        "0100000000000000",
+    ),
     // 9 by the root.
     ("9 at a uint64, 1 begun", &[U64, U32], "07000000"),
     ("9 at an int32, 1 begun", &[I32, B], ""),
@@ -370,6 +474,16 @@ const CHOICES: [(&str, &[&str], &str); 65] = [
         "9 at the count of a byte array, 1 begun",
         &[BYT, U32],
         "07000000",
+    ),
+    (
+        "9 at the count of an array of uint32, 1 begun",
+        &[E, U32],
+        "00000000",
+    ),
+    (
+        "9 at the count of an array of uint64, 1 begun",
+        &[A64, U32],
+        "00000000",
     ),
     ("9 at a tag, 1 begun", &[UNI, U32], "07000000"),
     (
@@ -415,7 +529,27 @@ const CHOICES: [(&str, &[&str], &str); 65] = [
         &[ARR, TWELVE],
         "0300000000000000 07000000",
     ),
+    (
+        "9 at the first of 4,095 elements, 2 begun",
+        &[ARR, U64],
+        "FF0F000000000000",
+    ),
+    (
+        "9 at a field of the first of 2,000 pairs, 3 begun",
+        &[LONG_PAIRS, U64],
+        "D007000000000000",
+    ),
     ("9 in a case, 2 begun", &[UNI, U64], "0100000000000000"),
+    (
+        "9 at a union without cases behind a uint32, 3 begun",
+        &["3, 4 0 2, 1 0 0, 8 0 0, 2, 1 2", U32],
+        "07000000",
+    ),
+    (
+        "9 at the 2^64-8 elements of a byte array in a tuple, 2 begun",
+        &[TWO_BYTES, U64],
+        "F8FFFFFFFFFFFFFF",
+    ),
     (
         "9 behind a byte array, 3 begun",
         &[BYTES_FIRST, U64],
@@ -458,11 +592,36 @@ const CHOICES: [(&str, &[&str], &str); 65] = [
         &[ARR, U64],
         "0010000000000000",
     ),
+    (
+        "8 by the count of an array with the last row, 4,096 begun",
+        &[TWO_ARRAYS, TWO],
+        "FD0F000000000000 0100000000000000",
+    ),
+    (
+        "an array without elements with the last row, 4,096 begun",
+        &[TWO_ARRAYS, TWO],
+        "FD0F000000000000 0000000000000000",
+    ),
     // 8 where no row is left: the value that asks for it is begun.
     (
         "8 at a field behind 4,093 constants, 4,097 begun",
         &[ARRAY_WITHIN, U64],
         "FD0F000000000000",
+    ),
+    (
+        "8 at an array behind 4,094 constants, 4,097 begun",
+        &[TWO_ARRAYS, TWO],
+        "FE0F000000000000 0100000000000000",
+    ),
+    (
+        "8 at a union behind 4,094 constants, 4,097 begun",
+        &[ARRAY_AND_UNION, TWO],
+        "FE0F000000000000 0100000000000000",
+    ),
+    (
+        "8 in a case of a union with the last row, 4,097 begun",
+        &[ARRAY_AND_UNION, TWO],
+        "FD0F000000000000 0000000000000000",
     ),
     (
         "8 at the last of 1,366 pairs, 4,097 begun",
@@ -500,6 +659,11 @@ const CHOICES: [(&str, &[&str], &str); 65] = [
         "10 in a case, 2 begun",
         &[CASES, TWO],
         "0000000000000000 0100000000000000",
+    ),
+    (
+        "10 of a union without cases in a case, 2 begun",
+        &[NO_CASES, TWO],
+        "0000000000000000 0000000000000000",
     ),
     // 11: all rows of the value were begun.
     ("11 behind a constant, 1 begun", &[B, U32], "07000000"),
@@ -543,6 +707,11 @@ const CHOICES: [(&str, &[&str], &str); 65] = [
         "8, 10, 11, 11 and 9 before a grammar that accepts",
         &[C, D, U64, PAIR, FOUR, THREE],
         "0010000000000000 0700000000000000 0000000000000000",
+    ),
+    (
+        "11 and 9 before a byte array, 3 and 1 begun",
+        &[PAIR, E, BYT],
+        "0400000000000000 41424344",
     ),
     (
         "the most values are begun by the first try",
@@ -614,6 +783,23 @@ fn most_rows(list: &mut List) {
         let name = format!("a tree of {nodes} levels, {} bytes", record.len());
         add_tables(list, &name, &grammars, record);
     }
+    // The first leaf, a uint32, has no bytes.
+    let name = "9 at the first leaf of a tree of 13 levels, 13 begun";
+    add_tables(list, name, &[doubling(13, 1), numbers(B)], &[]);
+    // A field of each kind that can be without children finds no row, and no bytes or 8.
+    for kind in [0, 1, 2, 4, 5, 6, 7, 9, 10] {
+        let fields = table(&[[4, 0, 2], [3, 2, 1], [0; 3], [kind, 0, 0]], &[1, 3, 2]);
+        for (left, behind, last) in [("no", vec![], U64), ("8", counted(5, &[]), TWO)] {
+            let record = counted(4_094, &behind);
+            let name = format!("8 at kind {kind} with {left} bytes left, 4,097 begun");
+            add_tables(list, &name, &[fields.clone(), numbers(last)], &record);
+        }
+    }
+    // Of 2,100 tuples of a uint32 and a uint64 there are rows for 1,365 and bytes for 1,400.
+    let tuples = numbers("4, 3 0 1, 4 1 2, 1 0 0, 2 0 0, 3, 1 2 3");
+    let name = "8 at tuple 1,365 before 9 at tuple 1,400, 4,097 begun";
+    let record = counted(2_100, &[0; 12 * 1_400]);
+    add_tables(list, name, &[tuples, numbers(A64)], &record);
     let mut grammars = vec![doubling(13, 0); 16];
     let name = "16 times 4,097 values begun";
     add_tables(list, name, &grammars, &constants);
@@ -643,16 +829,33 @@ fn deepest(list: &mut List) {
     }
 }
 
+/// Numbers above 255: the first child word of a tuple, a tag and, above 65,535, the byte where a field
+/// starts.
+fn large_numbers(list: &mut List) {
+    for first in [257, 512] {
+        let children = [vec![1; first], vec![2]].concat();
+        let tuple = table(&[[4, first as u32, 1], [0; 3], [1, 0, 0]], &children);
+        let name = format!("a tuple whose first is {first}");
+        add_tables(list, &name, &[tuple, numbers(B)], &[0; 4]);
+    }
+    let union = table(&[[8, 0, 257], [0; 3]], &[1; 257]);
+    let name = "a union of 257 cases, tag 256";
+    add_tables(list, name, &[union, numbers(U64)], &counted(256, &[]));
+    let record = counted(131_072, &[0; 131_072 + 4]);
+    let name = "a uint32 behind 131,072 elements";
+    add(list, name, &[BYTES_FIRST, B], &record);
+}
+
 /// The longest records, and those a byte longer, before which come 21 and 1 to 5, and behind which 22.
 fn long_records(list: &mut List) {
-    let most = counted(MAX_BYTES as u64 - 8, &vec![0x5a; MAX_BYTES - 8]);
-    let more = counted(MAX_BYTES as u64 - 7, &vec![0x5a; MAX_BYTES - 7]);
-    for (bytes, record) in [("1,048,576", &most), ("1,048,577", &more)] {
+    for (bytes, length) in [("1,048,576", MAX_BYTES), ("1,048,577", MAX_BYTES + 1)] {
+        let record = counted(length as u64 - 8, &vec![0x5a; length - 8]);
         let name = format!("a record of {bytes} bytes");
-        add(list, &name, &[U64, BYT, BYT], record);
+        add(list, &name, &[U64, BYT, BYT], &record);
         let name = format!("a record of {bytes} bytes that no grammar accepts");
-        add(list, &name, &[B], record);
+        add(list, &name, &[B], &vec![0; length]);
     }
+    let more = vec![0; MAX_BYTES + 1];
     for (name, words) in [
         ("21 before 6, count 0", "0"),
         ("21 before 6, no words", ""),
@@ -671,9 +874,11 @@ pub fn choosing() -> Cases {
     lengths(&mut list);
     places(&mut list);
     refused_grammars(&mut list);
+    single_grammars(&mut list);
     far_places(&mut list);
     most_rows(&mut list);
     deepest(&mut list);
+    large_numbers(&mut list);
     long_records(&mut list);
     list.0.extend(magnitudes::choosing());
     list.0
