@@ -43,7 +43,10 @@ module _ (l : List ℕ) where
   abbrev Passed : ℕ → Type 0
   Passed j = checkGrammar (grammarOf l j) ≡ accepted tt
 
-  -- grammar j of the list is the first that does not pass
+  abbrev AllPass : Type 0
+  AllPass = (i : ℕ) → i < listCount l → Passed i
+
+  -- grammar `number` is the first of the list that does not pass, and e is its refusal
   pub record FirstBad (e : Reason) : Type 0 where
     pub number : ℕ
     pub below : number < listCount l
@@ -52,16 +55,16 @@ module _ (l : List ℕ) where
     pub refuses : checkGrammar (grammarOf l number) ≡ refused why
     pub placed : e ≡ placedReason (countAt l number + 1) why
 
-  grammars-from : (n j : ℕ) → j + n ≡ listCount l → ((i : ℕ) → i < j → Passed i) → Post (λ _. (i : ℕ) → i < listCount l → Passed i) FirstBad (checkGrammars l j n)
+  grammars-from : (n j : ℕ) → j + n ≡ listCount l → ((i : ℕ) → i < j → Passed i) → Post (λ _. AllPass) FirstBad (checkGrammars l j n)
   unfolding checkGrammars
   grammars-from zero j e b = holds tt (λ i h. b i (omega arith))
   grammars-from (suc n) j e b = go (checkGrammar (grammarOf l j)) refl (λ p. grammars-from n (suc j) (omega arith) (one-more b p))
     where
-      go : (o : Outcome Reason (Unit {0})) → checkGrammar (grammarOf l j) ≡ o → (Passed j → Post (λ _. (i : ℕ) → i < listCount l → Passed i) FirstBad (checkGrammars l (suc j) n)) → Post (λ _. (i : ℕ) → i < listCount l → Passed i) FirstBad (bind (inList (countAt l j + 1) o) (λ _. checkGrammars l (suc j) n))
+      go : (o : Outcome Reason (Unit {0})) → checkGrammar (grammarOf l j) ≡ o → (Passed j → Post (λ _. AllPass) FirstBad (checkGrammars l (suc j) n)) → Post (λ _. AllPass) FirstBad (bind (inList (countAt l j + 1) o) (λ _. checkGrammars l (suc j) n))
       go (accepted u) p k = k p
       go (refused r) p k = fails _ (record { number = j; below = omega arith; before = b; why = r; refuses = p; placed = refl })
 
-  pub grammars-post : Post (λ _. (i : ℕ) → i < listCount l → Passed i) FirstBad (checkGrammars l 0 (listCount l))
+  pub grammars-post : Post (λ _. AllPass) FirstBad (checkGrammars l 0 (listCount l))
   grammars-post = grammars-from (listCount l) 0 (omega arith) (λ i h. absurd (omega arith))
 
   -- grammars that pass are passed over
@@ -69,7 +72,7 @@ module _ (l : List ℕ) where
   skip-grammars zero h b = ap (checkGrammars l 0) (sub-zero (listCount l))
   skip-grammars (suc j) h b = rw (add-one j) at (grammar-passed l j (listCount l) (omega arith) (sym (b j (omega arith)))) ∙ skip-grammars j (omega arith) (λ i k. b i (omega arith))
 
-  pub grammars-pass : ((i : ℕ) → i < listCount l → Passed i) → accepted tt ≡ checkGrammars l 0 (listCount l)
+  pub grammars-pass : AllPass → accepted tt ≡ checkGrammars l 0 (listCount l)
   grammars-pass b = grammars-none l (listCount l) (listCount l) (omega arith) ∙ skip-grammars (listCount l) (omega arith) b
 
   pub bad-refused : {e : Reason} → FirstBad e → refused e ≡ checkGrammars l 0 (listCount l)
