@@ -16,7 +16,7 @@ use Rattle.choosing.specs.declared.Chosen.the-variants as C
 
 -- ---- the list: a count, then each grammar after its word count
 
--- the count of grammars
+-- the count of grammars; 0 in a list of no words
 abbrev pub listCount : List ℕ → ℕ
 listCount l = getD l 0 0
 

@@ -1,6 +1,6 @@
--- The three demands of 00-demands.md, with document 02's signed numbers, preview and chooser, as statements over the definitions that the contracts of
--- the public calls cite. Above each part stand the words that it says, and what would leave it empty; proofs/Demand1.antt to Demand3.antt
--- prove them.
+-- The three demands of 00-demands.md, with document 02's signed numbers, preview and chooser, as statements over the definitions that the
+-- contracts of the public calls cite. Above each part stand the words that it says, and what would leave it empty; proofs/Demand1.antt to
+-- Demand3.antt prove them.
 use mathlib.Core.Path.{_≡_}
 use mathlib.Core.Logic.{_↔_}
 use mathlib.Core.Option.{none, some}
