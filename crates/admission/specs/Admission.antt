@@ -7,9 +7,17 @@ use Rattle.refusal.specs.Outcome.{Outcome, accepted, bind, test, Reason, reason
 use Rattle.grammar.specs.Check.{checkGrammar}
 use Rattle.tables.specs.Row.{rowWidth}
 
+-- the capacity in force where this one is named: a larger one than 4,096 counts as 4,096
+abbrev pub inForce : ℕ → ℕ
+inForce named = min named 4096
+
+-- the capacity of a check for which none is named
+abbrev pub checkRows : ℕ
+checkRows = 1024
+
 -- document 01's capacity of a slice of words: divided by 4, rounded down, at most 4,096
 abbrev pub capacityOf : ℕ → ℕ
-capacityOf words = min (words / rowWidth) 4096
+capacityOf words = inForce (words / rowWidth)
 
 -- refusal 6 of the record
 abbrev pub checkLength : List ℕ → Outcome Reason (Unit {0})

@@ -41,16 +41,16 @@ same-route-same-bytes g first second capacity w a b t u h k =
 
 -- what the check of a record's first field says of its whole reading
 module _ (g d : List ℕ) where
-  field-refused : {e : Stop} → refused e ≡ firstFieldOf g d → demarshallOf g d 4096 ≡ refused (e .why)
+  field-refused : {e : Stop} → refused e ≡ firstFieldOf g d 4096 → demarshallOf g d 4096 ≡ refused (e .why)
   field-refused h = sym (root-whole g d 4096) ∙ ap withoutState (map-refused (λ (t : Step State Val). behindFirstField (t .value)) (readRoot g d 0 4096 true) (sym h))
 
-  field-accepted : {s : State} → accepted s ≡ firstFieldOf g d → (t : Step State Val) × (demarshallOf g d 4096 ≡ accepted t) × (s ≡ behindFirstField (t .value))
+  field-accepted : {s : State} → accepted s ≡ firstFieldOf g d 4096 → (t : Step State Val) × (demarshallOf g d 4096 ≡ accepted t) × (s ≡ behindFirstField (t .value))
   field-accepted h =
       let m = map-accepted (λ (t : Step State Val). behindFirstField (t .value)) (readRoot g d 0 4096 true) (sym h) in
       (m .0, sym (root-whole g d 4096) ∙ ap withoutState (m .1), m .2)
 
   -- the first field ends within the record
-  pub field-within : {s : State} → accepted s ≡ firstFieldOf g d → Below (2 ^ 32) g → Bytes d → s .at ≤ length d
+  pub field-within : {s : State} → accepted s ≡ firstFieldOf g d 4096 → Below (2 ^ 32) g → Bytes d → s .at ≤ length d
   field-within {s} h w b =
       let m = field-accepted h in
       let x = record-value g d 4096 w b (m .0) (m .1) in
@@ -89,16 +89,16 @@ module _ (g first second : List ℕ) where
   grammar-refused h = refused-both (rw (sym h))
 
   module _ (p : accepted tt ≡ checkGrammar g) where
-    pub first-refused : {e : Stop} → refused e ≡ firstFieldOf g first → Compares g first second (refused (ofFirst (e .why)))
+    pub first-refused : {e : Stop} → refused e ≡ firstFieldOf g first 4096 → Compares g first second (refused (ofFirst (e .why)))
     unfolding readBoth
     first-refused h = refused-both (rw (sym p, field-refused g first h))
 
-    module _ {m : State} (h : accepted m ≡ firstFieldOf g first) where
-      pub second-refused : {e : Stop} → refused e ≡ firstFieldOf g second → Compares g first second (refused (ofSecond (e .why)))
+    module _ {m : State} (h : accepted m ≡ firstFieldOf g first 4096) where
+      pub second-refused : {e : Stop} → refused e ≡ firstFieldOf g second 4096 → Compares g first second (refused (ofSecond (e .why)))
       unfolding readBoth
       second-refused k = let t = field-accepted g first h in refused-both (rw (sym p, t .1, field-refused g second k))
 
-      pub compared : {n : State} → accepted n ≡ firstFieldOf g second → Below (2 ^ 32) g → Bytes first → Bytes second → {s : Bool} → (take (length first - m .at) (drop (m .at) first) ≡ take (length second - n .at) (drop (n .at) second)) ↔ (s ≡ true) → Compares g first second (accepted s)
+      pub compared : {n : State} → accepted n ≡ firstFieldOf g second 4096 → Below (2 ^ 32) g → Bytes first → Bytes second → {s : Bool} → (take (length first - m .at) (drop (m .at) first) ≡ take (length second - n .at) (drop (n .at) second)) ↔ (s ≡ true) → Compares g first second (accepted s)
       compared {n} k w a b {s} e =
           let t = field-accepted g first h in
           let u = field-accepted g second k in

@@ -6,6 +6,7 @@ ghost use Rattle.comparing.specs.SameRoute.{sameRouteOf, Compares};
 use readers::Step;
 use refusal::Answer;
 use refusal::Refusal;
+use tables::MOST_ROWS;
 
 // The answer of `same_route`: yes, no, or the refusal of the grammar, of the first record or of the second.
 pub enum SameRoute {
@@ -41,9 +42,9 @@ pub fn same_route(grammar: &[u32], first: &[u8], second: &[u8]) -> SameRoute
 {
     match grammar::check_grammar(grammar) {
         Answer::Refused(r) => SameRoute::Grammar(r),
-        Answer::Accepted => match readers::check_first_field(grammar, first) {
+        Answer::Accepted => match readers::check_first_field(grammar, first, MOST_ROWS) {
             Step::Stopped(_, r) => SameRoute::First(r),
-            Step::Next(t) => match readers::check_first_field(grammar, second) {
+            Step::Next(t) => match readers::check_first_field(grammar, second, MOST_ROWS) {
                 Step::Stopped(_, r) => SameRoute::Second(r),
                 Step::Next(u) => {
                     let a = t.at;

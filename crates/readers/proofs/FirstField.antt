@@ -7,14 +7,16 @@ use Prim.Native.Nat.{ℕ, zero, suc, _+_, _^_, _<_}
 use native.Mathlib.Nat.{add-zero}
 use native.Mathlib.Omega.{arith}
 use lib.ListN.{length}
+use lib.Dec.{ltb}
+use borrow.Author.Tests.{ltb-true}
 use Rattle.refusal.specs.declared.Refusal.{Refusal}
-use Rattle.refusal.specs.Outcome.{Outcome, accepted, refused, map}
-use Rattle.refusal.proofs.Outcome.{bind-inverse, map-accepted}
+use Rattle.refusal.specs.Outcome.{Outcome, accepted, refused, bind, map}
+use Rattle.refusal.proofs.Outcome.{bind-inverse, map-accepted, test-true, test-passed}
 use Rattle.packed.specs.Packed.{Bytes, Below}
 use Rattle.value.specs.Kinds.{Kind, kindOf, tuple}
 use Rattle.value.specs.Tree.{G, Gs, GTuple, gcons, seqG, Val, Vals, VConstant, VNumber, VArray, VTuple, VNumberArray, VCase, vnil, vcons, ValInGrammar, inTuple, eachCons}
 use Rattle.value.specs.Step.{Step, both}
-use Rattle.value.specs.Reading.{State, Stop, Reading, start, begin, claim, readBody, readFields, readVal, readTo}
+use Rattle.value.specs.Reading.{State, Stop, Reading, stop, start, begin, claim, readBody, readFields, readVal, readTo}
 use Rattle.value.proofs.KindLaws.{other-kinds}
 use Rattle.value.proofs.Reading.{read-accepted}
 use Rattle.tables.specs.Grammar.{kindWord, firstWord, countWord, childWord}
@@ -22,11 +24,12 @@ use Rattle.grammar.specs.Rule.{Passes}
 use Rattle.grammar.specs.Tree.{nodeTree, childTrees, treeOf}
 use Rattle.grammar.proofs.Tree.{tree-node, tree-valid, trees-length}
 use Rattle.rows.proofs.Rule.{class-word}
+use Rattle.admission.specs.Admission.{inForce}
 use Rattle.readers.specs.declared.State.{State as CodeState}
 use Rattle.readers.specs.declared.Step.{Step as CodeStep}
 use Rattle.readers.specs.declared.Step.the-variants.{Next, Stopped}
 use Rattle.readers.specs.Meaning.{stepOf, StepKeeps}
-use Rattle.readers.specs.Root.{capacityWithin, readRoot, FillsRows, Admitted, behindFirstField, firstFieldOf}
+use Rattle.readers.specs.Root.{capacityWithin, readRoot, FillsRows, Admitted, behindFirstField, firstFieldOf, ReadsFirstField}
 use Rattle.readers.proofs.Meaning.{step-matched}
 use Rattle.readers.proofs.Cycle.{give-accepted}
 use Rattle.readers.proofs.Root.{within-none, root-admitted, root-accepted}
@@ -72,31 +75,40 @@ module _ (g : List ℕ) (p : Passes g) where
   no-first-field n (VNumberArray k ns) i = refl
   no-first-field n (VCase c v) i = refl
 
+-- a value that was read has its row, and its body was read behind it
+row-taken : (capacity : ℕ) (d : List ℕ) (g : G) (s : State) (t : Step State Val) → readVal capacity d g s ≡ accepted t → (s .begun < capacity) × (readBody capacity d g (begin s) ≡ accepted t)
+unfolding claim
+row-taken capacity d g s t h =
+    let x = bind-inverse (claim capacity s) (readBody capacity d g) h in
+    let b = test-passed (ltb (s .begun) capacity) (stop 8 (begin s)) (λ _. accepted (begin s)) (x .0) (x .1) in
+    (ltb-true (s .begun) capacity b, ap (λ (o : Outcome Stop State). bind o (readBody capacity d g)) (sym (test-true _ _ b)) ∙ h)
+
 -- the state behind a field that was read
 behind-read : (t u : Step State Val) (vs : Vals) → t .value ≡ VTuple (vcons (u .value) vs) → u ≡ readTo (u .value) (begin (start 0)) → u .state ≡ behindFirstField (t .value)
 behind-read t u vs v e = ap (λ (s : Step State Val). s .state) e ∙ ap behindFirstField (sym v)
 
-module _ (g d : List ℕ) (a : Admitted g d [] 0 4096) (t : Step State Val) (h : readVal 4096 d (treeOf g 0) (start 0) ≡ accepted t) where
+module _ (g d : List ℕ) (capacity : ℕ) (a : Admitted g d [] 0 capacity) (t : Step State Val) (h : readVal capacity d (treeOf g 0) (start 0) ≡ accepted t) where
   -- the first field, read behind the root's row
-  pub first-read : kindWord g 0 ≡ 4 → 0 < countWord g 0 → map (λ (u : Step State Val). u .state) (readVal 4096 d (treeOf g (childWord g (firstWord g 0))) (begin (start 0))) ≡ accepted (behindFirstField (t .value))
-  unfolding readBody claim
+  pub first-read : kindWord g 0 ≡ 4 → 0 < countWord g 0 → map (λ (u : Step State Val). u .state) (readVal capacity d (treeOf g (childWord g (firstWord g 0))) (begin (start 0))) ≡ accepted (behindFirstField (t .value))
+  unfolding readBody
   first-read k n =
       let c = treeOf g (childWord g (firstWord g 0)) in
       let f = root-fields g (a .passes) k n in
-      let x = give-accepted VTuple (readFields 4096 d (gcons c (f .0)) (begin (start 0))) t (ap (λ (x : G). readVal 4096 d x (start 0)) (sym (f .1)) ∙ h) in
-      let y = both-accepted (readVal 4096 d c (begin (start 0))) (readFields 4096 d (f .0)) (x .0) (x .1) in
-      let e : y .0 ≡ readTo (y .0 .value) (begin (start 0)) = read-accepted 4096 d c (begin (start 0)) (omega arith) (tree-valid g (a .words) (childWord g (firstWord g 0))) (a .byteValues) (y .0) (y .1) .2 in
+      let b = row-taken capacity d (GTuple (gcons c (f .0))) (start 0) t (ap (λ (x : G). readVal capacity d x (start 0)) (sym (f .1)) ∙ h) .1 in
+      let x = give-accepted VTuple (readFields capacity d (gcons c (f .0)) (begin (start 0))) t b in
+      let y = both-accepted (readVal capacity d c (begin (start 0))) (readFields capacity d (f .0)) (x .0) (x .1) in
+      let e : y .0 ≡ readTo (y .0 .value) (begin (start 0)) = read-accepted capacity d c (begin (start 0)) (omega arith) (tree-valid g (a .words) (childWord g (firstWord g 0))) (a .byteValues) (y .0) (y .1) .2 in
       let v : t .value ≡ VTuple (vcons (y .0 .value) (y .2)) = ap (λ (s : Step State Val). s .value) (x .2) ∙ ap VTuple (y .3) in
       ap (map (λ (u : Step State Val). u .state)) (y .1) ∙ ap accepted (behind-read t (y .0) (y .2) v e)
 
   -- the same of what the code calls the child, and of its answer
-  pub child-read : {child : ℕ} {x : Outcome Stop State} → kindWord g 0 ≡ 4 → (countWord g 0 ≡ 0 → ⊥) → child ≡ childWord g (firstWord g 0 + 0) → x ≡ map (λ (u : Step State Val). u .state) (readVal 4096 d (treeOf g child) (begin (start 0))) → x ≡ accepted (behindFirstField (t .value))
-  child-read k n e q = q ∙ ap (λ (c : ℕ). map (λ (u : Step State Val). u .state) (readVal 4096 d (treeOf g c) (begin (start 0)))) (e ∙ ap (childWord g) (add-zero (firstWord g 0))) ∙ first-read k (omega (arith, n))
+  pub child-read : {child : ℕ} {x : Outcome Stop State} → kindWord g 0 ≡ 4 → (countWord g 0 ≡ 0 → ⊥) → child ≡ childWord g (firstWord g 0 + 0) → x ≡ map (λ (u : Step State Val). u .state) (readVal capacity d (treeOf g child) (begin (start 0))) → x ≡ accepted (behindFirstField (t .value))
+  child-read k n e q = q ∙ ap (λ (c : ℕ). map (λ (u : Step State Val). u .state) (readVal capacity d (treeOf g c) (begin (start 0)))) (e ∙ ap (childWord g) (add-zero (firstWord g 0))) ∙ first-read k (omega (arith, n))
 
   -- where the root has no first field, the state before it
   pub first-none : (kindWord g 0 ≡ 4 → countWord g 0 ≡ 0) → start 0 ≡ behindFirstField (t .value)
   first-none n =
-      let x = read-accepted 4096 d (treeOf g 0) (start 0) (a .inside) (tree-valid g (a .words) 0) (a .byteValues) t h in
+      let x = read-accepted capacity d (treeOf g 0) (start 0) (a .inside) (tree-valid g (a .words) 0) (a .byteValues) t h in
       sym (no-first-field g (a .passes) n (t .value) (x .0 .ofGrammar .inGrammar))
 
 -- What `check_first_field` answers.
@@ -106,22 +118,31 @@ refusal-stays : (x : Reading Val) {e : Stop} → refused e ≡ map (λ t. t .sta
 refusal-stays (refused f) h = h
 refusal-stays (accepted t) h = let z : _≡_ {A = ℕ} 0 1 = cc in absurd (omega arith)
 
-module _ (g d : List ℕ) {r : CodeStep} {entry exit : List ℕ} (f : FillsRows (readRoot g d 0 (capacityWithin 4096 0) true) (capacityWithin 4096 0) 0 r entry exit) where
-  whole-check : (stepOf r ≡ map (λ t. t .state) (readRoot g d 0 4096 true)) × StepKeeps 4096 r
-  whole-check = subst (λ (c : ℕ). (stepOf r ≡ map (λ t. t .state) (readRoot g d 0 c true)) × StepKeeps c r) (sym (within-none 4096 0 refl)) (f .answers, f .keeps)
+module _ (g d : List ℕ) (named : ℕ) {r : CodeStep} {entry exit : List ℕ} (f : FillsRows (readRoot g d 0 (capacityWithin named 0) true) (capacityWithin named 0) 0 r entry exit) where
+  whole-check : (stepOf r ≡ map (λ t. t .state) (readRoot g d 0 (inForce named) true)) × StepKeeps (inForce named) r
+  whole-check = subst (λ (c : ℕ). (stepOf r ≡ map (λ t. t .state) (readRoot g d 0 c true)) × StepKeeps c r) (sym (within-none named 0 refl)) (f .answers, f .keeps)
 
   -- the whole reading stopped
-  pub field-stopped : (u : CodeState) (q : Refusal) → r ≡ Stopped u q → (stepOf (Stopped u q) ≡ firstFieldOf g d) × (u .capacity ≡ 4096)
-  field-stopped u q e = let k = whole-check .1 in (refusal-stays (readRoot g d 0 4096 true) (step-matched e (whole-check .0)), rw e at k)
+  pub field-stopped : (u : CodeState) (q : Refusal) → r ≡ Stopped u q → (stepOf (Stopped u q) ≡ firstFieldOf g d (inForce named)) × (u .capacity ≡ inForce named)
+  field-stopped u q e = let k = whole-check .1 in (refusal-stays (readRoot g d 0 (inForce named) true) (step-matched e (whole-check .0)), rw e at k)
 
   module _ (u : CodeState) (e : r ≡ Next u) where
-    whole-read : (t : Step State Val) × (readRoot g d 0 4096 true ≡ accepted t)
-    whole-read = let m = map-accepted (λ (t : Step State Val). t .state) (readRoot g d 0 4096 true) (sym (step-matched e (whole-check .0))) in (m .0, m .1)
+    in-force : u .capacity ≡ inForce named
+    in-force = let k = whole-check .1 in rw e at k
+
+    whole-read : (t : Step State Val) × (readRoot g d 0 (inForce named) true ≡ accepted t)
+    whole-read = let m = map-accepted (λ (t : Step State Val). t .state) (readRoot g d 0 (inForce named) true) (sym (step-matched e (whole-check .0))) in (m .0, m .1)
 
     -- the whole reading went on, so the first field may be read
-    pub field-admitted : Below (2 ^ 32) g → Bytes d → Admitted g d [] 0 4096
-    field-admitted w b = let x = whole-read in root-admitted g d 0 (root-accepted g d 0 4096 true (x .0) (x .1) .0) w b (omega arith) (inl refl)
+    pub field-admitted : Below (2 ^ 32) g → Bytes d → Admitted g d [] 0 (u .capacity) × (0 < u .capacity)
+    field-admitted w b =
+        let x = whole-read in
+        let a = root-accepted g d 0 (inForce named) true (x .0) (x .1) in
+        (root-admitted g d 0 (a .0) w b (omega (arith, in-force)) (inl refl), omega (arith, in-force, row-taken (inForce named) d (treeOf g 0) (start 0) (x .0) (a .1) .0))
 
     -- what reading it answers
-    pub field-read : {x : Outcome Stop State} → ((t : Step State Val) → readVal 4096 d (treeOf g 0) (start 0) ≡ accepted t → x ≡ accepted (behindFirstField (t .value))) → x ≡ firstFieldOf g d
-    field-read h = let a = whole-read in h (a .0) (root-accepted g d 0 4096 true (a .0) (a .1) .1) ∙ sym (ap (map (λ (t : Step State Val). behindFirstField (t .value))) (a .1))
+    pub field-read : {x : CodeStep} → ReadsFirstField g d (u .capacity) x → (stepOf x ≡ firstFieldOf g d (inForce named)) × StepKeeps (inForce named) x
+    field-read {x} h =
+        let a = whole-read in
+        let i : ReadsFirstField g d (inForce named) x = subst (λ (c : ℕ). ReadsFirstField g d c x) in-force h in
+        (i .answers (a .0) (root-accepted g d 0 (inForce named) true (a .0) (a .1) .1) ∙ sym (ap (map (λ (t : Step State Val). behindFirstField (t .value))) (a .1)), i .keeps)

@@ -19,7 +19,7 @@ use Rattle.value.proofs.Agreement.{agrees, agrees-accepted}
 use Rattle.grammar.specs.Tree.{treeOf}
 use Rattle.tables.specs.Row.{laid}
 use Rattle.rows.specs.Layout.{rowsOf}
-use Rattle.admission.specs.Admission.{capacityOf, admitOf}
+use Rattle.admission.specs.Admission.{inForce, capacityOf, admitOf}
 use Rattle.admission.proofs.Admission.{admitted}
 use Rattle.readers.specs.declared.State.{State as CodeState}
 use Rattle.readers.specs.declared.Step.{Step as CodeStep}
@@ -31,7 +31,7 @@ use Rattle.readers.proofs.Cycle.{laid-none}
 
 -- The capacity.
 
-pub within-none : (capacity words : ℕ) → words ≡ 0 → min capacity 4096 ≡ capacityWithin capacity words
+pub within-none : (capacity words : ℕ) → words ≡ 0 → inForce capacity ≡ capacityWithin capacity words
 unfolding capacityWithin
 within-none capacity words e = rw e
 

@@ -14,19 +14,15 @@ use Rattle.grammar.specs.Rule.{Passes}
 use Rattle.grammar.specs.Tree.{treeOf}
 use Rattle.tables.specs.Row.{laid}
 use Rattle.rows.specs.Layout.{rowsOf}
-use Rattle.admission.specs.Admission.{capacityOf, admitOf}
+use Rattle.admission.specs.Admission.{inForce, capacityOf, admitOf}
 use Rattle.readers.specs.declared.Step.{Step as CodeStep}
 use Rattle.readers.specs.Meaning.{stepOf, StepKeeps}
 use Rattle.readers.specs.Reads.{Room}
 
--- the most rows of a reading: those of the words lent, and with no words lent, as a check, those of the largest capacity
-abbrev pub rowsFor : ℕ → ℕ
-rowsFor zero = 4096
-rowsFor (suc n) = capacityOf (suc n)
-
--- the capacity asked for, at most the most rows
+-- the capacity of a reading for which one is named: with no words lent, as a check, the one in force, else at most that of the words lent
 unfoldable pub capacityWithin : ℕ → ℕ → ℕ
-capacityWithin capacity words = min capacity (rowsFor words)
+capacityWithin capacity zero = inForce capacity
+capacityWithin capacity (suc n) = min capacity (capacityOf (suc n))
 
 -- a refusal from before any value is begun
 abbrev pub beforeStart : {A : Type 0} → ℕ → Outcome Reason A → Outcome Stop A
@@ -70,11 +66,11 @@ behindFirstField (VTuple (vcons v vs)) = readTo v (begin (start 0)) .state
 behindFirstField (VNumberArray k ns) = start 0
 behindFirstField (VCase c v) = start 0
 
--- the whole reading as a check at capacity 4,096 and, where it is accepted, the state behind the first field of its value
-abbrev pub firstFieldOf : List ℕ → List ℕ → Outcome Stop State
-firstFieldOf g d = map (λ t. behindFirstField (t .value)) (readRoot g d 0 4096 true)
+-- the whole reading as a check and, where it is accepted, the state behind the first field of its value
+abbrev pub firstFieldOf : List ℕ → List ℕ → ℕ → Outcome Stop State
+firstFieldOf g d capacity = map (λ t. behindFirstField (t .value)) (readRoot g d 0 capacity true)
 
--- the answer r of the reader of the first field: fixed where the root is accepted; its capacity is always 4,096
-pub record ReadsFirstField (g d : List ℕ) (r : CodeStep) : Type 0 where
-  pub answers : (t : Step State Val) → readVal 4096 d (treeOf g 0) (start 0) ≡ accepted t → stepOf r ≡ accepted (behindFirstField (t .value))
-  pub keeps : StepKeeps 4096 r
+-- the answer r of the reader of the first field: fixed where the root is accepted; its capacity is always the one given
+pub record ReadsFirstField (g d : List ℕ) (capacity : ℕ) (r : CodeStep) : Type 0 where
+  pub answers : (t : Step State Val) → readVal capacity d (treeOf g 0) (start 0) ≡ accepted t → stepOf r ≡ accepted (behindFirstField (t .value))
+  pub keeps : StepKeeps capacity r

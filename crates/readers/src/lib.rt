@@ -13,6 +13,7 @@ ghost use Rattle.tables.specs.Grammar.{nodeCount, firstWord, countWord, childWo
 ghost use Rattle.grammar.specs.Tree.{treeOf, childTrees};
 ghost use Rattle.tables.specs.Row.{rowWidth, laid};
 ghost use Rattle.rows.specs.Layout.{rowsOf, rowsOfAll};
+ghost use Rattle.admission.specs.Admission.{inForce};
 ghost use Rattle.readers.specs.Meaning.{stateOf, stepOf, takenOf, bodyOf, StepKeeps, TakenKeeps};
 ghost use Rattle.readers.specs.Reads.{Ready, Node, RowClaimed, Leaf, Reads, closed, Counted, takeBelow};
 ghost use Rattle.readers.specs.Root.{capacityWithin, ended, readRoot, Admitted, FillsRows, firstFieldOf, ReadsFirstField};
@@ -20,7 +21,6 @@ use packed::UnpackedU32;
 use packed::UnpackedU64;
 use refusal::Answer;
 use refusal::Refusal;
-use tables::MOST_ROWS;
 
 // Document 01's position and rows used, under a capacity. `begun` counts each time a row is asked for, the refused time too.
 pub struct State {
@@ -445,19 +445,19 @@ fn least(a: usize, b: usize) -> usize
     b
 }
 
-// The capacity asked for, at most 4,096 and, where rows are lent, at most theirs.
+// The capacity named, at most 4,096 and, where rows are lent, at most theirs.
 fn capacity_within(capacity: usize, words: usize) -> usize
     ensures { λ r. ⌜ (r ≡ capacityWithin capacity words) × (r ≤ 4096) × (0 < words → rowWidth * r ≤ words) ⌝ }
 {
     if words == 0 {
-        return least(capacity, MOST_ROWS);
+        return admission::in_force(capacity);
     }
     least(capacity, admission::capacity_of(words))
 }
 
 // A value of the root from the index on, whole where the record is to end with it: 1 to 7, then the reading as a check,
 // and only where that is accepted the rows lent are filled, so that a refusal leaves every row as it was. A slice with no words
-// is no rows lent: a check at the capacity asked for.
+// is no rows lent: a check at the capacity named.
 pub fn read(
     grammar: &[u32],
     record: &[u8],
@@ -492,9 +492,9 @@ pub fn read(
 
 // The first field of the root, as a check, over a table and a record that are admitted: it starts at byte 0, behind the root's row.
 // Where the root is no tuple or has no field, the state before the root.
-fn read_first_field(grammar: &[u32], bytes: &[u8]) -> Step
-    requires { ⌜ Admitted (now grammar) (now bytes) [] 0 4096 ⌝ }
-    ensures { λ r. ⌜ ReadsFirstField (now (grammar .entry)) (now (bytes .entry)) r ⌝ }
+fn read_first_field(grammar: &[u32], bytes: &[u8], capacity: usize) -> Step
+    requires { ⌜ Admitted (now grammar) (now bytes) [] 0 capacity × (0 < capacity) ⌝ }
+    ensures { λ r. ⌜ ReadsFirstField (now (grammar .entry)) (now (bytes .entry)) capacity r ⌝ }
 {
     let kind = grammar[1];
     let count = grammar[3];
@@ -504,7 +504,7 @@ fn read_first_field(grammar: &[u32], bytes: &[u8]) -> Step
             let s = State {
                 at: 0,
                 begun: 1,
-                capacity: MOST_ROWS,
+                capacity: capacity,
             };
             let mut none = [0u64; 0];
             return read_value(grammar, child, bytes, &mut none, s);
@@ -513,17 +513,17 @@ fn read_first_field(grammar: &[u32], bytes: &[u8]) -> Step
     Step::Next(State {
         at: 0,
         begun: 0,
-        capacity: MOST_ROWS,
+        capacity: capacity,
     })
 }
 
-// The whole reading as a check at the largest capacity and, where it is accepted, the state behind the root's first field.
-pub fn check_first_field(grammar: &[u32], record: &[u8]) -> Step
-    ensures { λ r. ⌜ (stepOf r ≡ firstFieldOf (now (grammar .entry)) (now («record» .entry))) × StepKeeps 4096 r ⌝ }
+// The whole reading as a check at the capacity named and, where it is accepted, the state behind the root's first field.
+pub fn check_first_field(grammar: &[u32], record: &[u8], capacity: usize) -> Step
+    ensures { λ r. ⌜ (stepOf r ≡ firstFieldOf (now (grammar .entry)) (now («record» .entry)) (inForce capacity)) × StepKeeps (inForce capacity) r ⌝ }
 {
     let mut none = [0u64; 0];
-    match read(grammar, record, 0, MOST_ROWS, true, &mut none) {
+    match read(grammar, record, 0, capacity, true, &mut none) {
         Step::Stopped(u, r) => Step::Stopped(u, r),
-        Step::Next(_) => read_first_field(grammar, record),
+        Step::Next(t) => read_first_field(grammar, record, t.capacity),
     }
 }

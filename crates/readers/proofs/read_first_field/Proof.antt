@@ -25,19 +25,19 @@ returns c =
     let p = c .before .before .before .before .before .before .before .before .before .before .pre in
     let a = c .before .before .before .before .before .before .before .before .before .before .args in
     let r = c .before .read-value .ensures in
-    record { answers = λ t h. child-read (a .grammar .now) (a .bytes .now) p t h (c .before .before .before .before .before .if1 .taken) (c .before .before .before .before .if2 .taken) (c .before .before .before .child-at .ensures .0) (r .answers); keeps = r .keeps }
+    record { answers = λ t h. child-read (a .grammar .now) (a .bytes .now) (a .capacity) (p .0) t h (c .before .before .before .before .before .if1 .taken) (c .before .before .before .before .if2 .taken) (c .before .before .before .child-at .ensures .0) (r .answers); keeps = r .keeps }
 
 returns-2 : tie.Need-returns-2
 returns-2 c =
     let p = c .before .before .before .before .before .before .pre in
     let a = c .before .before .before .before .before .before .args in
-    record { answers = λ t h. ap accepted (first-none (a .grammar .now) (a .bytes .now) p t h (λ _. c .if2 .left)); keeps = refl }
+    record { answers = λ t h. ap accepted (first-none (a .grammar .now) (a .bytes .now) (a .capacity) (p .0) t h (λ _. c .if2 .left)); keeps = refl }
 
 returns-3 : tie.Need-returns-3
 returns-3 c =
     let p = c .before .before .before .before .before .pre in
     let a = c .before .before .before .before .before .args in
-    record { answers = λ t h. ap accepted (first-none (a .grammar .now) (a .bytes .now) p t h (λ k. absurd (c .if1 .left k))); keeps = refl }
+    record { answers = λ t h. ap accepted (first-none (a .grammar .now) (a .bytes .now) (a .capacity) (p .0) t h (λ k. absurd (c .if1 .left k))); keeps = refl }
 
 pub read-first-field-spec : {M : Type 1} → statement M
 read-first-field-spec =
