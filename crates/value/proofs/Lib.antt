@@ -7,3 +7,4 @@ pub mod Reading
 pub mod Cut
 pub mod Begun
 pub mod Examples
+pub mod Capacity
