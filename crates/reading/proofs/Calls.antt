@@ -1,6 +1,7 @@
 -- The public calls: 1 to 7 before the reading of the root, 11 behind it, and the rows it fills.
 use mathlib.Core.Path.{_≡_, refl, ap, sym, subst, _∙_}
 use mathlib.Core.Bool.{Bool, true, false}
+use mathlib.Core.Logic.{_⊎_, inl, inr}
 use mathlib.Core.List.{List}
 use Prim.Native.Nat.{ℕ, zero, suc, _≤_}
 use native.Mathlib.Omega.{arith}
@@ -13,23 +14,24 @@ use Rattle.refusal.specs.Meaning.{reasonOf}
 use Rattle.packed.specs.Packed.{put}
 use Rattle.value.specs.Tree.{Val}
 use Rattle.value.specs.Step.{Step, yield, next}
-use Rattle.value.specs.Reading.{State, Stop, Reading, stop, start, atEnd, readAt, readWhole, readVal}
+use Rattle.value.specs.Reading.{State, Stop, Reading, stop, start, claim, atEnd, readAt, readWhole, readVal}
+use Rattle.value.proofs.Capacity.{Or8, or8-val}
 use Rattle.grammar.specs.Check.{checkGrammar}
 use Rattle.grammar.specs.Tree.{treeOf}
 use Rattle.tables.specs.Row.{laid}
 use Rattle.tables.proofs.Laws.{laid-fits}
 use Rattle.rows.specs.Layout.{rowsOf}
 use Rattle.rows.proofs.LayoutLaws.{length-rowsOf}
-use Rattle.admission.specs.Admission.{capacityOf, admitOf}
+use Rattle.admission.specs.Admission.{inForce, capacityOf, admitOf}
 use Rattle.readers.specs.declared.Step.{Step as CodeStep}
 use Rattle.readers.specs.declared.Step.the-variants.{Next, Stopped}
 use Rattle.readers.specs.Meaning.{stepOf}
 use Rattle.readers.specs.Root.{capacityWithin, beforeStart, readRoot, FillsRows}
-use Rattle.readers.proofs.Root.{root-few}
+use Rattle.readers.proofs.Root.{within-none, root-few}
 use Rattle.reading.specs.declared.Parsed.{Parsed}
 use Rattle.reading.specs.declared.Parsed.the-variants.{Refused}
 use Rattle.reading.specs.Meaning.{Counts, parsedOf}
-use Rattle.reading.specs.Calls.{withoutState, parseValOf, demarshallOf, countsOf, parsedStep, Parses}
+use Rattle.reading.specs.Calls.{withoutState, parseValOf, demarshallOf, countsOf, parsedStep, Parses, SameOr8}
 
 pub withoutState-accepted : (x : Reading Val) (t : Step State Val) → withoutState x ≡ accepted t → x ≡ accepted t
 withoutState-accepted (accepted s) t h = let q : s ≡ t = cc in ap accepted q
@@ -59,6 +61,11 @@ module _ (g d : List ℕ) (index : ℕ) where
 
   pub parse-read : (capacity : ℕ) → accepted tt ≡ admitOf g d index → withoutState (readVal capacity d (treeOf g 0) (start index)) ≡ parseValOf g d index capacity
   parse-read capacity h = ap (λ (o : Outcome Reason (Unit {0})). bind o (λ _. withoutState (readVal capacity d (treeOf g 0) (start index)))) h ∙ sym (parse-admitted capacity)
+
+  -- a capacity of 0 has no row for the root
+  pub parse-no-row : accepted tt ≡ admitOf g d index → refused (reason 8 (byte index)) ≡ parseValOf g d index 0
+  unfolding claim
+  parse-no-row h = parse-read 0 h
 
   -- an accepted call passed 1 to 7, and the root was read
   pub parse-accepted : (capacity : ℕ) (t : Step State Val) → parseValOf g d index capacity ≡ accepted t → (accepted tt ≡ admitOf g d index) × (readVal capacity d (treeOf g 0) (start index) ≡ accepted t)
@@ -104,6 +111,27 @@ module _ (g d : List ℕ) (capacity : ℕ) where
       go (refused r) q = let z : _≡_ {A = ℕ} 0 1 = cc in absurd (omega arith)
       go (accepted s) q = go2 (eqb (s .state .at) (length d)) s q
 
+-- The calls at two capacities, c and one at least as large, m: with c the answer is the same, or refused with 8.
+
+module _ (g d : List ℕ) (c m : ℕ) (l : c ≤ m) where
+  pub parse-smaller : (index : ℕ) → SameOr8 (parseValOf g d index c) (parseValOf g d index m)
+  parse-smaller index = rw (parse-admitted g d index c, parse-admitted g d index m) (go (admitOf g d index) (or8-val c m l d (treeOf g 0) (start index)))
+    where
+      go : {x y : Reading Val} (o : Outcome Reason (Unit {0})) → Or8 x y → SameOr8 (bind o (λ _. withoutState x)) (bind o (λ _. withoutState y))
+      go (refused r) h = inl refl
+      go (accepted u) (inl e) = inl (ap withoutState e)
+      go (accepted u) (inr h) = inr (h .0 .at, ap withoutState (h .1))
+
+  pub whole-smaller : SameOr8 (demarshallOf g d c) (demarshallOf g d m)
+  whole-smaller = rw (whole-parse g d c, whole-parse g d m) (go (parse-smaller 0))
+    where
+      end : Outcome Reason (Step State Val) → Outcome Reason (Step State Val)
+      end o = bind o (λ t. test (eqb (t .state .at) (length d)) (reason 11 (byte (t .state .at))) (λ _. accepted t))
+
+      go : {x y : Outcome Reason (Step State Val)} → SameOr8 x y → SameOr8 (end x) (end y)
+      go (inl e) = inl (ap end e)
+      go (inr h) = inr (h .0, ap end (h .1))
+
 -- a step of the code, as an answer
 pub step-counts : (c : CodeStep) (x : Reading Val) → stepOf c ≡ map (λ t. t .state) x → parsedStep c ≡ map countsOf (withoutState x)
 step-counts (Next u) (accepted t) h = let q : record { at = u .at; begun = u .begun } ≡ t .state = cc in ap (λ (s : State). accepted (record { rows = s .begun; restIndex = s .at })) q
@@ -117,10 +145,6 @@ parses-refused (refused e) index rows h = record { answers = h; rows = refl }
 parses-refused (accepted t) index rows h = let z : _≡_ {A = ℕ} 0 1 = cc in absurd (omega arith)
 
 -- The calls over `read`.
-
-within-check : capacityWithin 4096 0 ≡ 4096
-unfolding capacityWithin
-within-check = refl
 
 within-lent : (words : ℕ) → capacityWithin (capacityOf words) words ≡ capacityOf words
 unfolding capacityWithin
@@ -147,9 +171,9 @@ module _ (g d : List ℕ) (index : ℕ) (whole : Bool) (o : ℕ → Outcome Reas
   counts : (capacity : ℕ) → FillsRows (readRoot g d index capacity whole) capacity index c entry exit → parsedOf p ≡ map countsOf (o capacity)
   counts capacity f = a ∙ step-counts c (readRoot g d index capacity whole) (f .answers) ∙ ap (map countsOf) (e capacity)
 
-  -- a check
-  pub counts-read : FillsRows (readRoot g d index (capacityWithin 4096 0) whole) (capacityWithin 4096 0) index c entry exit → parsedOf p ≡ map countsOf (o 4096)
-  counts-read f = counts (capacityWithin 4096 0) f ∙ ap (λ (m : ℕ). map countsOf (o m)) within-check
+  -- a check at the capacity named
+  pub counts-read : (named : ℕ) → FillsRows (readRoot g d index (capacityWithin named 0) whole) (capacityWithin named 0) index c entry exit → parsedOf p ≡ map countsOf (o (inForce named))
+  counts-read named f = counts (capacityWithin named 0) f ∙ ap (λ (m : ℕ). map countsOf (o m)) (sym (within-none named 0 refl))
 
   -- rows of this length are lent
   pub parses-read : {capacity : ℕ} → capacity ≡ capacityOf (length entry) → FillsRows (readRoot g d index (capacityWithin capacity (length entry)) whole) (capacityWithin capacity (length entry)) index c entry exit → Parses (o (capacityOf (length entry))) index p entry exit

@@ -1,5 +1,6 @@
 -- What the public calls answer: GM's `ParseVal` and `Demarshall` over a grammar table, a record and a capacity.
 use mathlib.Core.Path.{_≡_}
+use mathlib.Core.Logic.{_⊎_}
 use mathlib.Core.List.{List}
 use Prim.Native.Nat.{ℕ}
 use lib.ListN.{length}
@@ -43,6 +44,10 @@ countsOf t = record { rows = t .state .begun; restIndex = t .state .at }
 pub record Parses (o : Outcome Reason (Step State Val)) (index : ℕ) (r : Parsed) (entry exit : List ℕ) : Type 0 where
   pub answers : parsedOf r ≡ map countsOf o
   pub rows : exit ≡ contents (map (λ t. put entry 0 (rowsOf (t .value) index)) o) entry
+
+-- an outcome beside that of the same call with more rows: the same, or refused with 8
+abbrev pub SameOr8 : Outcome Reason (Step State Val) → Outcome Reason (Step State Val) → Type 0
+SameOr8 o more = (o ≡ more) ⊎ ((place : ℕ) × (o ≡ refused (reason 8 (byte place))))
 
 -- a step of the readers as an answer
 abbrev pub parsedStep : CodeStep → Outcome Reason Counts

@@ -2,12 +2,12 @@
 ghost use mathlib.Core.Path.{_≡_};
 ghost use lib.ListN.{length};
 ghost use Rattle.refusal.specs.Outcome.{map};
-ghost use Rattle.admission.specs.Admission.{capacityOf};
+ghost use Rattle.admission.specs.Admission.{inForce, checkRows, capacityOf};
 ghost use Rattle.reading.specs.Meaning.{parsedOf};
 ghost use Rattle.reading.specs.Calls.{parseValOf, demarshallOf, countsOf, Parses, parsedStep};
+use admission::CHECK_ROWS;
 use readers::Step;
 use refusal::Refusal;
-use tables::MOST_ROWS;
 
 // The answer of a reading: the row count and the position behind the value.
 pub enum Parsed {
@@ -27,20 +27,34 @@ fn answer(step: Step) -> Parsed
     }
 }
 
-// GM's `ParseVal` as a check, which answers as rows for the largest capacity would.
-pub fn check_val(grammar: &[u32], record: &[u8], index: usize) -> Parsed
-    ensures { λ r. ⌜ parsedOf r ≡ map countsOf (parseValOf (now (grammar .entry)) (now («record» .entry)) index 4096) ⌝ }
+// GM's `ParseVal` as a check, which answers as `parse_val` does with as many rows as the capacity says; one above 4,096 counts as 4,096.
+pub fn check_val_with(grammar: &[u32], record: &[u8], index: usize, capacity: usize) -> Parsed
+    ensures { λ r. ⌜ parsedOf r ≡ map countsOf (parseValOf (now (grammar .entry)) (now («record» .entry)) index (inForce capacity)) ⌝ }
 {
     let mut none = [0u64; 0];
-    answer(readers::read(grammar, record, index, MOST_ROWS, false, &mut none))
+    answer(readers::read(grammar, record, index, capacity, false, &mut none))
 }
 
-// GM's `Demarshall` as a check, which answers as rows for the largest capacity would.
-pub fn check_whole(grammar: &[u32], record: &[u8]) -> Parsed
-    ensures { λ r. ⌜ parsedOf r ≡ map countsOf (demarshallOf (now (grammar .entry)) (now («record» .entry)) 4096) ⌝ }
+// GM's `Demarshall` as a check, which answers as `demarshall` does with as many rows as the capacity says; one above 4,096 counts as 4,096.
+pub fn check_whole_with(grammar: &[u32], record: &[u8], capacity: usize) -> Parsed
+    ensures { λ r. ⌜ parsedOf r ≡ map countsOf (demarshallOf (now (grammar .entry)) (now («record» .entry)) (inForce capacity)) ⌝ }
 {
     let mut none = [0u64; 0];
-    answer(readers::read(grammar, record, 0, MOST_ROWS, true, &mut none))
+    answer(readers::read(grammar, record, 0, capacity, true, &mut none))
+}
+
+// GM's `ParseVal` as a check for which no capacity is named: it has 1,024 rows.
+pub fn check_val(grammar: &[u32], record: &[u8], index: usize) -> Parsed
+    ensures { λ r. ⌜ parsedOf r ≡ map countsOf (parseValOf (now (grammar .entry)) (now («record» .entry)) index checkRows) ⌝ }
+{
+    check_val_with(grammar, record, index, CHECK_ROWS)
+}
+
+// GM's `Demarshall` as a check for which no capacity is named: it has 1,024 rows.
+pub fn check_whole(grammar: &[u32], record: &[u8]) -> Parsed
+    ensures { λ r. ⌜ parsedOf r ≡ map countsOf (demarshallOf (now (grammar .entry)) (now («record» .entry)) checkRows) ⌝ }
+{
+    check_whole_with(grammar, record, CHECK_ROWS)
 }
 
 // GM's `ParseVal`.

@@ -15,24 +15,27 @@ use Rattle.packed.specs.Packed.{unpackLittleEndian, unpackLittleEndianSeq, pack
 use Rattle.packed.proofs.Laws.{bytes-drop, length-pack, pack-bytes, unpack-packed, pack-unique, length-packSeq, length-unpackSeq, unpackSeq-take, getD-unpackSeq, unpackSeq-packSeq, packSeq-unpackSeq}
 use Rattle.packed.proofs.Calls.{present-inside, present-fits, room-fits}
 use Rattle.packed.proofs.Source.{unpack-uint32, unpack-uint64}
-use Rattle.value.specs.Tree.{SizeOfV, rowCount}
+use Rattle.value.specs.Tree.{Val, SizeOfV, rowCount}
 use Rattle.value.specs.Bytes.{bytesOf, Stands}
-use Rattle.value.specs.Reading.{start, readVal, readTo}
+use Rattle.value.specs.Step.{Step}
+use Rattle.value.specs.Reading.{State, start, readVal, readTo}
 use Rattle.value.specs.Parse.{parseVal}
 use Rattle.value.proofs.Laws.{packSeq-bytes, length-bytesOf, bytesOf-byteArray, parseVal-bytesOf, parseVal-value}
 use Rattle.value.proofs.Reading.{read-fits}
 use Rattle.value.proofs.Signed.{twos-complement, signed-one-to-one, pattern-signed, value-int32, value-int64}
+use Rattle.grammar.specs.Check.{checkGrammar}
 use Rattle.grammar.specs.Tree.{treeOf}
 use Rattle.grammar.proofs.Rule.{accepted-exactly}
 use Rattle.grammar.proofs.Tree.{tree-valid}
 use Rattle.rows.specs.Walk.{walk}
 use Rattle.rows.proofs.Rule.{accepted-exactly as rows-exactly}
 use Rattle.signed.proofs.Rule.{signed-exactly}
-use Rattle.reading.specs.Meaning.{Counts}
-use Rattle.admission.specs.Admission.{capacityOf}
-use Rattle.reading.specs.Calls.{withoutState, parseValOf, demarshallOf, countsOf}
+use Rattle.reading.specs.declared.Parsed.{Parsed}
+use Rattle.reading.specs.Meaning.{Counts, parsedOf}
+use Rattle.admission.specs.Admission.{capacityOf, admitOf}
+use Rattle.reading.specs.Calls.{withoutState, parseValOf, demarshallOf, countsOf, Parses}
 use Rattle.admission.proofs.Admission.{length-fits, admit-length, admitted}
-use Rattle.reading.proofs.Calls.{parse-read, parse-accepted}
+use Rattle.reading.proofs.Calls.{parse-read, parse-no-row, parse-accepted, whole-parse, parse-smaller, whole-smaller}
 use Rattle.reading.proofs.Meaning.{parsedOf-injective}
 use Rattle.reading.proofs.Bridge.{parse-parses, parse-stands, parse-none, demarshall-accepted, demarshall-refused}
 use Rattle.sizing.specs.Writes.{marshallValOf}
@@ -44,6 +47,10 @@ use Rattle.route.proofs.Reading.{rows-laid}
 use Rattle.route.proofs.Writing.{written}
 
 -- ---- reading
+
+-- where none of 1 to 7 is to be given
+admits : (g d : List ℕ) (index : ℕ) → checkGrammar g ≡ accepted tt → length d ≤ 1048576 → index ≤ length d → accepted tt ≡ admitOf g d index
+admits g d index p s i = sym (test-true _ _ (le-leb index (length d) i)) ∙ admit-length g d index (sym p) (length-fits d s)
 
 parse-val-agrees : ParseValAgrees
 parse-val-agrees g d rows exit index r w b h = record {
@@ -70,8 +77,7 @@ parse-val-agrees g d rows exit index r w b h = record {
       let x = parseVal-value (treeOf g 0) (tree-valid g w 0) (drop index d) (bytes-drop index d b) v rest e in
       let o : Stands d (treeOf g 0) index v = record { ofGrammar = x .1; bytes = rw (x .0) (take-at (bytesOf v) rest (SizeOfV v) (length-bytesOf v)) } in
       let q : readVal capacity d (treeOf g 0) (start index) ≡ accepted (readTo v (start index)) = read-fits capacity d (treeOf g 0) (start index) i v o (omega arith) in
-      let a = sym (test-true _ _ (le-leb index (length d) i)) ∙ admit-length g d index (sym p) (length-fits d s) in
-      h .answers ∙ ap (map countsOf) (sym (parse-read g d index capacity a) ∙ ap withoutState q) ∙ rw (zero-add (rowCount v));
+      h .answers ∙ ap (map countsOf) (sym (parse-read g d index capacity (admits g d index p s i)) ∙ ap withoutState q) ∙ rw (zero-add (rowCount v));
 }
   where
     capacity : ℕ
@@ -89,10 +95,23 @@ demarshall-agrees g d rows exit r w b h = record {
     capacity : ℕ
     capacity = capacityOf (length rows)
 
+-- at one capacity a check and a reading with rows lent answer the same
+same-answer : (o : ℕ → Outcome Reason (Step State Val)) {index capacity : ℕ} {rows exit : List ℕ} (r q : Parsed) → capacityOf (length rows) ≡ capacity → parsedOf r ≡ map countsOf (o capacity) → Parses (o (capacityOf (length rows))) index q rows exit → r ≡ q
+same-answer o r q e h p = parsedOf-injective r q (h ∙ sym (p .answers ∙ ap (λ (n : ℕ). map countsOf (o n)) e))
+
 checks-agree : ChecksAgree
 checks-agree = record {
-  val = λ g d rows exit index r q c h p. parsedOf-injective r q (h ∙ sym (p .answers ∙ ap (λ (n : ℕ). map countsOf (parseValOf g d index n)) c));
-  whole = λ g d rows exit r q c h p. parsedOf-injective r q (h ∙ sym (p .answers ∙ ap (λ (n : ℕ). map countsOf (demarshallOf g d n)) c));
+  val = λ g d rows exit index r q e h p. same-answer (parseValOf g d index) r q e h p;
+  whole = λ g d rows exit r q e h p. same-answer (demarshallOf g d) r q e h p;
+  valWith = λ g d rows exit index c r q e h p. same-answer (parseValOf g d index) r q e h p;
+  wholeWith = λ g d rows exit c r q e h p. same-answer (demarshallOf g d) r q e h p;
+  named = λ c h. omega arith;
+  larger = λ c h. omega arith;
+  lent = λ c. omega arith;
+  none = λ g d index p s i. sym (parse-no-row g d index (admits g d index p s i));
+  noneWhole = λ g d p s. rw (whole-parse g d 0, sym (parse-no-row g d 0 (admits g d 0 p s (omega arith))));
+  smaller = λ g d index c m l. parse-smaller g d c m l index;
+  smallerWhole = λ g d c m l. whole-smaller g d c m l;
 }
 
 -- ---- sizes and writing

@@ -1,5 +1,5 @@
--- Document 01's bench examples A to F, all their cases, and examples of document 02's requests 01 and 04, as one list: a call with its inputs,
--- and what the papers, or what follows from them, expect of it.
+-- Document 01's bench examples A to F, all their cases, and examples of document 02's requests 01, 04 and 07, as one list: a call with its
+-- inputs, and what the papers, or what follows from them, expect of it.
 use mathlib.Core.Path.{_≡_}
 use mathlib.Core.List.{List, [], _∷_, _++_, map}
 use Prim.Native.Nat.{ℕ, zero, suc}
@@ -12,7 +12,8 @@ use Rattle.value.specs.Step.{Step}
 use Rattle.value.specs.Reading.{State}
 use Rattle.grammar.specs.Check.{checkGrammar}
 use Rattle.rows.specs.Layout.{rowsOf}
-use Rattle.reading.specs.Calls.{demarshallOf}
+use Rattle.admission.specs.Admission.{inForce, checkRows}
+use Rattle.reading.specs.Calls.{parseValOf, demarshallOf, countsOf}
 use Rattle.signed.specs.Signed.{signedNumberOf}
 
 -- the calls of the examples
@@ -23,6 +24,11 @@ pub data Call : Type 0 where
   read : (grammar bytes : List ℕ) (capacity : ℕ) → Call
   -- the same with capacity 4,096, then the signed number of a row of what it handed out, with the record as store
   readSigned : (grammar bytes : List ℕ) (i : ℕ) → Call
+  -- the readings as checks, without a capacity and with one that is named
+  checkVal : (grammar bytes : List ℕ) (index : ℕ) → Call
+  checkWhole : (grammar bytes : List ℕ) → Call
+  checkValWith : (grammar bytes : List ℕ) (index capacity : ℕ) → Call
+  checkWholeWith : (grammar bytes : List ℕ) (capacity : ℕ) → Call
 
 -- what they answer, in the papers' values
 pub data Result : Type 0 where
@@ -30,9 +36,11 @@ pub data Result : Type 0 where
   -- the row count, the words of the rows, four to a row, and the value that they stand for
   handsOut : (n : ℕ) (words : List ℕ) (value : Val) → Result
   isNumber : (z : ℤ) → Result
+  -- the row count and `rest_index`
+  counts : (n rest : ℕ) → Result
   refuses : (number : ℕ) (place : Location) → Result
 
--- by the definitions that the contracts of `check_grammar`, `demarshall` and `signed_number` cite
+-- by the definitions that the contracts of `check_grammar`, `demarshall`, `signed_number` and the checks cite
 abbrev pub checked : Outcome Reason (Unit {0}) → Result
 checked (accepted u) = passes
 checked (refused (reason number place)) = refuses number place
@@ -45,10 +53,18 @@ abbrev pub asked : Outcome Reason ℤ → Result
 asked (accepted z) = isNumber z
 asked (refused (reason number place)) = refuses number place
 
+abbrev pub counted : Outcome Reason (Step State Val) → Result
+counted (accepted t) = counts (countsOf t .rows) (countsOf t .restIndex)
+counted (refused (reason number place)) = refuses number place
+
 abbrev pub resultOf : Call → Result
 resultOf (check grammar) = checked (checkGrammar grammar)
 resultOf (read grammar bytes capacity) = handed (demarshallOf grammar bytes capacity)
 resultOf (readSigned grammar bytes i) = asked (bind (demarshallOf grammar bytes 4096) (λ t. signedNumberOf (rowsOf (t .value) 0) (t .state .begun) bytes i))
+resultOf (checkVal grammar bytes index) = counted (parseValOf grammar bytes index checkRows)
+resultOf (checkWhole grammar bytes) = counted (demarshallOf grammar bytes checkRows)
+resultOf (checkValWith grammar bytes index capacity) = counted (parseValOf grammar bytes index (inForce capacity))
+resultOf (checkWholeWith grammar bytes capacity) = counted (demarshallOf grammar bytes (inForce capacity))
 
 -- where an example stands: document 01's letters, and document 02's requests
 pub data Source : Type 0 where
@@ -60,6 +76,7 @@ pub data Source : Type 0 where
   F : Source
   Req01 : Source
   Req04 : Source
+  Req07 : Source
 
 pub record Example : Type 0 where
   pub source : Source
@@ -90,6 +107,14 @@ grammarC = 2 ∷ 3 ∷ 0 ∷ 1 ∷ 0 ∷ 0 ∷ 0 ∷ 1 ∷ 1 ∷ []
 -- a count of 3 in 8 bytes
 abbrev pub recordC : List ℕ
 recordC = 3 ∷ 0 ∷ 0 ∷ 0 ∷ 0 ∷ 0 ∷ 0 ∷ 0 ∷ []
+
+-- an array of kind 3, whose elements are uint32
+abbrev pub grammarUint32s : List ℕ
+grammarUint32s = 2 ∷ 3 ∷ 0 ∷ 1 ∷ 1 ∷ 0 ∷ 0 ∷ 1 ∷ 1 ∷ []
+
+-- a count in 8 bytes, by its two least ones
+abbrev pub countBytes : ℕ → ℕ → List ℕ
+countBytes low high = low ∷ high ∷ 0 ∷ 0 ∷ 0 ∷ 0 ∷ 0 ∷ 0 ∷ []
 
 -- the empty union
 abbrev pub grammarD : List ℕ
@@ -178,6 +203,35 @@ bench =
     ∷ cut grammarA recordA 3 0 (0 ∷ 1 ∷ 2 ∷ 3 ∷ [])
     ++ cut grammarA recordA 3 4 (4 ∷ 5 ∷ 6 ∷ 7 ∷ 8 ∷ 9 ∷ 10 ∷ 11 ∷ 12 ∷ 13 ∷ [])
     ++ cut grammarC recordC 4 0 (0 ∷ 1 ∷ 2 ∷ 3 ∷ 4 ∷ 5 ∷ 6 ∷ 7 ∷ [])
+    -- without a capacity: counts of 1,023 and 1,024 constants, and a byte left over
+    ++ record { source = Req07; call = checkWhole grammarC (countBytes 0xff 3); expected = counts 1024 8 }
+    ∷ record { source = Req07; call = checkWhole grammarC (countBytes 0 4); expected = refuses 8 (byte 0) }
+    ∷ record { source = Req07; call = checkVal grammarC (7 ∷ countBytes 0xff 3) 1; expected = counts 1024 9 }
+    ∷ record { source = Req07; call = checkVal grammarC (7 ∷ countBytes 0 4) 1; expected = refuses 8 (byte 1) }
+    ∷ record { source = Req07; call = checkWhole grammarB (0 ∷ []); expected = refuses 11 (byte 0) }
+    -- 1,025 named: counts of 1,024 and 1,025
+    ∷ record { source = Req07; call = checkWholeWith grammarC (countBytes 0 4) 1025; expected = counts 1025 8 }
+    ∷ record { source = Req07; call = checkWholeWith grammarC (countBytes 1 4) 1025; expected = refuses 8 (byte 0) }
+    -- 4,096 and more named: counts of 4,095, whose first element lacks its bytes, and 4,096
+    ∷ record { source = Req07; call = checkWholeWith grammarUint32s (countBytes 0xff 0x0f) 4096; expected = refuses 9 (byte 8) }
+    ∷ record { source = Req07; call = checkWholeWith grammarUint32s (countBytes 0 0x10) 4097; expected = refuses 8 (byte 0) }
+    ∷ record { source = Req07; call = checkValWith grammarUint32s (countBytes 0xff 0x0f) 0 18446744073709551615; expected = refuses 9 (byte 8) }
+    ∷ record { source = Req07; call = checkValWith grammarUint32s (countBytes 0 0x10) 0 18446744073709551615; expected = refuses 8 (byte 0) }
+    -- as many named as the record needs, and one fewer; from an index, and with a byte left over
+    ∷ record { source = Req07; call = checkWholeWith grammarA recordA 3; expected = counts 3 14 }
+    ∷ record { source = Req07; call = checkWholeWith grammarA recordA 2; expected = refuses 8 (byte 4) }
+    ∷ record { source = Req07; call = checkValWith grammarB (0 ∷ 0 ∷ 0 ∷ []) 2 1; expected = counts 1 2 }
+    ∷ record { source = Req07; call = checkWholeWith grammarB (0 ∷ []) 1; expected = refuses 11 (byte 0) }
+    -- 0 named, and once 1: 8 at the index, before 9 and 10 and behind 1 and 7
+    ∷ record { source = Req07; call = checkWholeWith grammarB [] 0; expected = refuses 8 (byte 0) }
+    ∷ record { source = Req07; call = checkWholeWith grammarC (0 ∷ 0 ∷ 0 ∷ 0 ∷ 0 ∷ 0 ∷ 0 ∷ []) 0; expected = refuses 8 (byte 0) }
+    ∷ record { source = Req07; call = checkWholeWith grammarC (0 ∷ 0 ∷ 0 ∷ 0 ∷ 0 ∷ 0 ∷ 0 ∷ []) 1; expected = refuses 9 (byte 0) }
+    ∷ record { source = Req07; call = checkWholeWith grammarD (0 ∷ 0 ∷ 0 ∷ 0 ∷ 0 ∷ 0 ∷ 0 ∷ 0 ∷ []) 0; expected = refuses 8 (byte 0) }
+    ∷ record { source = Req07; call = checkValWith grammarB (0 ∷ 0 ∷ 0 ∷ []) 2 0; expected = refuses 8 (byte 2) }
+    ∷ record { source = Req07; call = checkValWith grammarB (0 ∷ 0 ∷ 0 ∷ []) 3 0; expected = refuses 8 (byte 3) }
+    ∷ record { source = Req07; call = checkValWith grammarB (0 ∷ 0 ∷ 0 ∷ []) 4 0; expected = refuses 7 (byte 4) }
+    ∷ record { source = Req07; call = checkWholeWith [] [] 0; expected = refuses 1 (word 0) }
+    ∷ []
 
 -- every call of the list answers as expected
 abbrev pub BenchHolds : Type 0

@@ -37,8 +37,8 @@ CutReading =
 -- were: case A's is (`cut-A` of proofs/CutRecords.antt), and `bench` has each of its proper front parts with the place
 pub record CutRecords : Type 0 where
   pub reading : CutReading
-  -- of `check_whole`, at the capacity that its contract names. The answers of `demarshall` are such answers, too (`answers` of `Parses`), so
-  -- at one capacity one call may accept the record and the other be given the part
+  -- of `check_whole` and `check_whole_with`, at the capacity of their contracts. The answers of `demarshall` are such answers, too (`answers` of
+  -- `Parses`), so at one capacity one call may accept the record and the other be given the part
   pub check :
       (g d part : List ℕ) (capacity : ℕ) (r q : Parsed) → parsedOf r ≡ map countsOf (demarshallOf g d capacity) → (k : Counts) → parsedOf r ≡ accepted k
       → ProperFrontPart part d → parsedOf q ≡ map countsOf (demarshallOf g part capacity) → RefusedWith9 (parsedOf q)
@@ -48,7 +48,7 @@ pub record CutRecords : Type 0 where
       (g d part rows exit rows′ exit′ : List ℕ) (r q : Parsed) → Parses (demarshallOf g d (capacityOf (length rows))) 0 r rows exit → (k : Counts) → parsedOf r ≡ accepted k
       → ProperFrontPart part d → capacityOf (length rows′) ≡ capacityOf (length rows)
       → Parses (demarshallOf g part (capacityOf (length rows′))) 0 q rows′ exit′ → RefusedWith9 (parsedOf q) × (exit′ ≡ rows′)
-  -- of `route_check_whole` and `route_demarshall`, the C calls, where number 0 says accepted (specs/Accepted.antt)
+  -- of `route_check_whole`, `route_check_whole_with` and `route_demarshall`, the C calls, where number 0 says accepted (specs/Accepted.antt)
   pub answerC :
       (g d part : List ℕ) (capacity : ℕ) (r q : RouteAnswer) → r ≡ answerOf (map countValues (map countsOf (demarshallOf g d capacity))) → r .number ≡ 0
       → ProperFrontPart part d → q ≡ answerOf (map countValues (map countsOf (demarshallOf g part capacity))) → q .number ≡ 9

@@ -1,6 +1,6 @@
--- The three demands of 00-demands.md, with document 02's signed numbers, preview and chooser, as statements over the definitions that the
--- contracts of the public calls cite. Above each part stand the words that it says, and what would leave it empty; proofs/Demand1.antt to
--- Demand3.antt prove them.
+-- The three demands of 00-demands.md, with document 02's signed numbers, preview, chooser and named capacities, as statements over the
+-- definitions that the contracts of the public calls cite. Above each part stand the words that it says, and what would leave it empty;
+-- proofs/Demand1.antt to Demand3.antt prove them.
 use mathlib.Core.Path.{_≡_}
 use mathlib.Core.Logic.{_↔_}
 use mathlib.Core.Option.{none, some}
@@ -34,8 +34,8 @@ use Rattle.signed.specs.Rule.{NumberOf}
 use Rattle.signed.specs.Meaning.{signedNumber}
 use Rattle.signed.specs.declared.SignedNumber.{SignedNumber}
 use Rattle.reading.specs.Meaning.{Counts, parsedOf}
-use Rattle.admission.specs.Admission.{capacityOf}
-use Rattle.reading.specs.Calls.{parseValOf, demarshallOf, countsOf, Parses}
+use Rattle.admission.specs.Admission.{inForce, checkRows, capacityOf}
+use Rattle.reading.specs.Calls.{parseValOf, demarshallOf, countsOf, Parses, SameOr8}
 use Rattle.reading.specs.declared.Parsed.{Parsed}
 use Rattle.sizing.specs.Writes.{marshallValOf, Writes}
 use Rattle.writing.specs.Marshall.{Marshalls}
@@ -88,9 +88,9 @@ pub record Demand1 : Type 0 where
   pub locator : (t : List ℕ) (n : ℕ) (s : List ℕ) (i : ℕ) → Refuses (LocatorRefused t n s i) (locateArray t n s i)
   -- `signed_number`
   pub signed : (t : List ℕ) (n : ℕ) (s : List ℕ) (i : ℕ) → Refuses (SignedRefused t n s i) (signedNumberOf t n s i)
-  -- `parse_val`, `check_val`
+  -- `parse_val`, `check_val`, `check_val_with`
   pub reading : (g d : List ℕ) (index capacity : ℕ) → Refuses (ReadingRefused g d index capacity) (parseValOf g d index capacity)
-  -- `demarshall`, `check_whole`
+  -- `demarshall`, `check_whole`, `check_whole_with`
   pub wholeReading : (g d : List ℕ) (capacity : ℕ) → Refuses (WholeRefused g d capacity) (demarshallOf g d capacity)
   -- `marshall_val`, `marshall`
   pub writing : (g t : List ℕ) (n : ℕ) (s : List ℕ) (len index : ℕ) → Refuses (WritingRefused g t n s len index) (marshallValOf g t n s len index)
@@ -172,11 +172,25 @@ DemarshallAgrees =
     (g d rows exit : List ℕ) (r : Parsed) → Below (2 ^ 32) g → Bytes d
     → Parses (demarshallOf g d (capacityOf (length rows))) 0 r rows exit → DemarshallsAs g d rows r exit
 
--- "Reading": `check_val` and `check_whole`, to which no rows are lent, answer as `parse_val` and `demarshall` do where the capacity is 4,096,
--- as that of 16,384 words is
+-- "Reading": the checks, to which no rows are lent, answer as `parse_val` and `demarshall` do where the rows lent have the check's capacity
 pub record ChecksAgree : Type 0 where
-  pub val : (g d rows exit : List ℕ) (index : ℕ) (r q : Parsed) → capacityOf (length rows) ≡ 4096 → parsedOf r ≡ map countsOf (parseValOf g d index 4096) → Parses (parseValOf g d index (capacityOf (length rows))) index q rows exit → r ≡ q
-  pub whole : (g d rows exit : List ℕ) (r q : Parsed) → capacityOf (length rows) ≡ 4096 → parsedOf r ≡ map countsOf (demarshallOf g d 4096) → Parses (demarshallOf g d (capacityOf (length rows))) 0 q rows exit → r ≡ q
+  -- `check_val` and `check_whole`: "The check with no rows lent takes capacity 1,024 unless the caller names one", as 4,096 words have
+  pub val : (g d rows exit : List ℕ) (index : ℕ) (r q : Parsed) → capacityOf (length rows) ≡ 1024 → parsedOf r ≡ map countsOf (parseValOf g d index checkRows) → Parses (parseValOf g d index (capacityOf (length rows))) index q rows exit → r ≡ q
+  pub whole : (g d rows exit : List ℕ) (r q : Parsed) → capacityOf (length rows) ≡ 1024 → parsedOf r ≡ map countsOf (demarshallOf g d checkRows) → Parses (demarshallOf g d (capacityOf (length rows))) 0 q rows exit → r ≡ q
+  -- `check_val_with` and `check_whole_with`, to which the caller names c
+  pub valWith : (g d rows exit : List ℕ) (index c : ℕ) (r q : Parsed) → capacityOf (length rows) ≡ inForce c → parsedOf r ≡ map countsOf (parseValOf g d index (inForce c)) → Parses (parseValOf g d index (capacityOf (length rows))) index q rows exit → r ≡ q
+  pub wholeWith : (g d rows exit : List ℕ) (c : ℕ) (r q : Parsed) → capacityOf (length rows) ≡ inForce c → parsedOf r ≡ map countsOf (demarshallOf g d (inForce c)) → Parses (demarshallOf g d (capacityOf (length rows))) 0 q rows exit → r ≡ q
+  -- "which may be 0 to 4,096; a larger one counts as 4,096", and for each there are rows to be lent
+  pub named : (c : ℕ) → c ≤ 4096 → inForce c ≡ c
+  pub larger : (c : ℕ) → 4096 < c → inForce c ≡ 4096
+  pub lent : (c : ℕ) → capacityOf (rowWidth * inForce c) ≡ inForce c
+  -- "a capacity of 0 gives 8 at the index when none of 1 to 7 is given"; the whole reading's index is 0
+  pub none : (g d : List ℕ) (index : ℕ) → checkGrammar g ≡ accepted tt → length d ≤ 1048576 → index ≤ length d → parseValOf g d index 0 ≡ refused (reason 8 (byte index))
+  pub noneWhole : (g d : List ℕ) → checkGrammar g ≡ accepted tt → length d ≤ 1048576 → demarshallOf g d 0 ≡ refused (reason 8 (byte 0))
+  -- with a capacity c an answer is that with any m from c on, or 8; so a check with 1,024 rows answers as one with 4,096, or 8. A reading that
+  -- always gives 8 meets this, and fails `within` of `ParsesAs`
+  pub smaller : (g d : List ℕ) (index c m : ℕ) → c ≤ m → SameOr8 (parseValOf g d index c) (parseValOf g d index m)
+  pub smallerWhole : (g d : List ℕ) (c m : ℕ) → c ≤ m → SameOr8 (demarshallOf g d c) (demarshallOf g d m)
 
 -- rows stand for a value, by document 01's layout, exactly where the walk accepts them, and then for the one that it gives. A walk that refuses
 -- all fails from right to left

@@ -7,7 +7,7 @@ ghost use Rattle.grammar.specs.Check.{checkGrammar};
 ghost use Rattle.rows.specs.Size.{computeSizeOf};
 ghost use Rattle.rows.specs.Locate.{locateArray};
 ghost use Rattle.signed.specs.Signed.{signedNumberOf};
-ghost use Rattle.admission.specs.Admission.{capacityOf};
+ghost use Rattle.admission.specs.Admission.{inForce, checkRows, capacityOf};
 ghost use Rattle.reading.specs.Calls.{parseValOf, demarshallOf, countsOf};
 ghost use Rattle.sizing.specs.Writes.{marshallValOf};
 ghost use Rattle.previewing.specs.Preview.{previewOf};
@@ -129,16 +129,39 @@ pub extern "C" fn route_signed_number(
 
 #[no_mangle]
 pub extern "C" fn route_check_val(grammar: &[u32], record: &[u8], index: usize) -> RouteAnswer
-    ensures { λ r. ⌜ r ≡ answerOf (map countValues (map countsOf (parseValOf (now (grammar .entry)) (now («record» .entry)) index 4096))) ⌝ }
+    ensures { λ r. ⌜ r ≡ answerOf (map countValues (map countsOf (parseValOf (now (grammar .entry)) (now («record» .entry)) index checkRows))) ⌝ }
 {
     of_parsed(reading::check_val(grammar, record, index))
 }
 
 #[no_mangle]
 pub extern "C" fn route_check_whole(grammar: &[u32], record: &[u8]) -> RouteAnswer
-    ensures { λ r. ⌜ r ≡ answerOf (map countValues (map countsOf (demarshallOf (now (grammar .entry)) (now («record» .entry)) 4096))) ⌝ }
+    ensures { λ r. ⌜ r ≡ answerOf (map countValues (map countsOf (demarshallOf (now (grammar .entry)) (now («record» .entry)) checkRows))) ⌝ }
 {
     of_parsed(reading::check_whole(grammar, record))
+}
+
+#[no_mangle]
+pub extern "C" fn route_check_val_with(
+    grammar: &[u32],
+    record: &[u8],
+    index: usize,
+    capacity: usize,
+) -> RouteAnswer
+    ensures { λ r. ⌜ r ≡ answerOf (map countValues (map countsOf (parseValOf (now (grammar .entry)) (now («record» .entry)) index (inForce capacity)))) ⌝ }
+{
+    of_parsed(reading::check_val_with(grammar, record, index, capacity))
+}
+
+#[no_mangle]
+pub extern "C" fn route_check_whole_with(
+    grammar: &[u32],
+    record: &[u8],
+    capacity: usize,
+) -> RouteAnswer
+    ensures { λ r. ⌜ r ≡ answerOf (map countValues (map countsOf (demarshallOf (now (grammar .entry)) (now («record» .entry)) (inForce capacity)))) ⌝ }
+{
+    of_parsed(reading::check_whole_with(grammar, record, capacity))
 }
 
 #[no_mangle]

@@ -1,23 +1,12 @@
-use mathlib.Core.Bool.{true}
-use Rattle.reading.specs.Calls.{demarshallOf}
-use Rattle.reading.proofs.Calls.{root-whole, counts-read}
 use borrow.Author.Needs.{needs}
 use Rattle.reading.proofs.check_whole.Statement.{statement}
 use Rattle.reading.proofs.check_whole.Tie as tie
 
-slice-aggregate-read : tie.Need-slice-aggregate-read
-slice-aggregate-read c = search needs
-
-read-requires : tie.Need-read-requires
-read-requires c κs = search needs
-
-answer-requires : tie.Need-answer-requires
-answer-requires c κs = search needs
+check-whole-with-requires : tie.Need-check-whole-with-requires
+check-whole-with-requires c κs = search needs
 
 returns : tie.Need-returns
-returns c =
-    let a = c .before .before .before .before .before .before .args in
-    counts-read (a .grammar .now) (a .«record» .now) 0 true (demarshallOf (a .grammar .now) (a .«record» .now)) (root-whole (a .grammar .now) (a .«record» .now)) (c .answer .result) (c .answer .ensures) (c .before .before .read .ensures)
+returns c = c .check-whole-with .ensures
 
 pub check-whole-spec : {M : Type 1} → statement M
-check-whole-spec = tie.close (tie.spec slice-aggregate-read read-requires answer-requires returns)
+check-whole-spec = tie.close (tie.spec check-whole-with-requires returns)
