@@ -42,6 +42,7 @@ enum {
     ROUTE_MAX_LIST_WORDS = 28721,   /* the words of that list, with the largest grammars */
     ROUTE_MAX_BYTES = 1048576,      /* the bytes of the longest record or store */
     ROUTE_MAX_ROWS = 4096,          /* the rows of the largest value */
+    ROUTE_CHECK_ROWS = 1024,        /* the rows of a check that is not told how many */
     ROUTE_ROW_WORDS = 4             /* the words of a row */
 };
 
@@ -286,8 +287,9 @@ route_answer route_signed_number(const uint64_t *rows, size_t rows_len, size_t n
  * 256 nodes can be.
  *
  * Cut records: a proper front part of a record is its first bytes, from none to all but one. The
- * capacity is the number of rows lent, for a check 4096. It is proved (docs/PROMISES.md, request
- * 04) of the whole reading (route_demarshall, route_check_whole) that every proper front part of a
+ * capacity is the number of rows lent; for a check it is the one named, at most 4096, and 1024
+ * where none is named. It is proved (docs/PROMISES.md, request 04) of the whole reading
+ * (route_demarshall, route_check_whole, route_check_whole_with) that every proper front part of a
  * record that is accepted, with the same grammar and capacity, is refused with 9 and with nothing
  * else. What a program may conclude: if a record that this grammar and capacity accept was cut, the
  * answer is 9; so an answer other than 9, accepted too, is never that of such a record with its
@@ -295,8 +297,8 @@ route_answer route_signed_number(const uint64_t *rows, size_t rows_len, size_t n
  * sending again should have an end.
  *
  * 9 does not mean a cut record: under a tagged union without cases, which has no record, the empty
- * bytes are refused with 9, with a row lent or more. And of a reading from an index
- * (route_parse_val, route_check_val) the statement is false: under a uint32, from byte 0 on, 9
+ * bytes are refused with 9, at any capacity but 0. And of a reading from an index (route_parse_val,
+ * route_check_val, route_check_val_with) the statement is false: under a uint32, from byte 0 on, 9
  * bytes are accepted, and the first 5 of them too. Nor does it hold of route_choose_grammar: what
  * is left of a cut record may be a whole record of another grammar of the list, and where no
  * grammar accepts it the answer is 22. */
@@ -327,16 +329,36 @@ ROUTE_NODISCARD
 route_answer route_demarshall(const uint32_t *grammar, size_t grammar_len, const uint8_t *record,
                               size_t record_len, uint64_t *rows, size_t rows_len);
 
-/* Answers as route_parse_val with 4096 rows. Changes nothing. */
+/* Checks: the same readings, to which no rows are lent. It is proved (docs/PROMISES.md, request 07)
+ * that with a smaller capacity a reading gives the same answer or is refused with 8. So what a check
+ * accepts, or refuses with another number than 8, every reading with more rows answers likewise. */
+
+/* Answers as route_parse_val with 1024 rows, ROUTE_CHECK_ROWS. Changes nothing. */
 ROUTE_NODISCARD
 route_answer route_check_val(const uint32_t *grammar, size_t grammar_len, const uint8_t *record,
                              size_t record_len, size_t index);
 
-/* Answers as route_demarshall with 4096 rows. Changes nothing. Every proper front part of a record
- * that is accepted is refused with 9, with the same grammar. */
+/* Answers as route_demarshall with 1024 rows, ROUTE_CHECK_ROWS. Changes nothing. Every proper front
+ * part of a record that is accepted is refused with 9, with the same grammar. */
 ROUTE_NODISCARD
 route_answer route_check_whole(const uint32_t *grammar, size_t grammar_len, const uint8_t *record,
                                size_t record_len);
+
+/* Answers as route_parse_val with as many rows as capacity says; a capacity above 4096 counts as
+ * 4096. So with 0, when none of 1 to 7 is given, it is refused with 8 at byte index. Changes
+ * nothing. */
+ROUTE_NODISCARD
+route_answer route_check_val_with(const uint32_t *grammar, size_t grammar_len,
+                                  const uint8_t *record, size_t record_len, size_t index,
+                                  size_t capacity);
+
+/* Answers as route_demarshall with as many rows as capacity says; a capacity above 4096 counts as
+ * 4096. So with 0, when none of 1 to 6 is given, it is refused with 8 at byte 0. Changes nothing.
+ * Every proper front part of a record that is accepted is refused with 9, with the same grammar and
+ * capacity. */
+ROUTE_NODISCARD
+route_answer route_check_whole_with(const uint32_t *grammar, size_t grammar_len,
+                                    const uint8_t *record, size_t record_len, size_t capacity);
 
 /* Writing: the calls write the bytes, laid out as reading says, of the value that rows 0 to n - 1
  * stand for; it is a value of node 0 of the grammar. The elements of kinds 5, 6 and 7 are the
@@ -374,16 +396,16 @@ route_answer route_preview(const uint32_t *grammar, size_t grammar_len, const ui
                            size_t rows_len, size_t n, const uint8_t *store, size_t store_len,
                            const uint8_t *out, size_t out_len, size_t index);
 
-/* Says whether two records are of the same route. Reads each of them as route_check_whole does and
- * gives in `first` 1 for yes, when both are accepted and equal in what counts, and 0 for no, when
- * both are accepted and differ in it. What counts of a value of node 0: when it is a tuple with at
- * least one field, all fields but the first, which on the bench is the serial number of the box and
- * is left out whatever its kind and size; else the whole value. Yes does not say that the records
- * have equal bytes or equal lengths. The records may overlap. It uses less than 64 KiB of stack, on
- * grammars as deep as 256 nodes can be. Changes nothing.
+/* Says whether two records are of the same route. Reads each of them as route_check_whole_with
+ * with 4096 does and gives in `first` 1 for yes, when both are accepted and equal in what counts,
+ * and 0 for no, when both are accepted and differ in it. What counts of a value of node 0: when it
+ * is a tuple with at least one field, all fields but the first, which on the bench is the serial
+ * number of the box and is left out whatever its kind and size; else the whole value. Yes does not
+ * say that the records have equal bytes or equal lengths. The records may overlap. It uses less
+ * than 64 KiB of stack, on grammars as deep as 256 nodes can be. Changes nothing.
  * Refused: 1 to 5 as route_check_grammar, with 0 in `second`;
- * 6 and 8 to 11 as route_check_whole refuses the first record, with 1 in `second`;
- * 6 and 8 to 11 as route_check_whole refuses the second record, with 2 in `second`. */
+ * 6 and 8 to 11 as that check refuses the first record, with 1 in `second`;
+ * 6 and 8 to 11 as that check refuses the second record, with 2 in `second`. */
 ROUTE_NODISCARD
 route_answer route_same_route(const uint32_t *grammar, size_t grammar_len, const uint8_t *first,
                               size_t first_len, const uint8_t *second, size_t second_len);
@@ -392,11 +414,11 @@ route_answer route_same_route(const uint32_t *grammar, size_t grammar_len, const
  * grammar table, and the list ends. The grammars have the numbers 0 to C - 1. */
 
 /* Says which grammar of a list accepts a record. Tries the grammars in order, reads the record
- * under each as route_check_whole does, and ends at the first that accepts. Gives in `first` the
- * number of that grammar, in `second` the values begun by all tries up to it, the refused ones
- * included: one for each time a row is asked for, also when none is left. They are at most 65552; a
- * refusal does not give them. It uses less than 64 KiB of stack, on grammars as deep as 256 nodes
- * can be. Changes nothing.
+ * under each as route_check_whole_with with 4096 does, and ends at the first that accepts. Gives in
+ * `first` the number of that grammar, in `second` the values begun by all tries up to it, the
+ * refused ones included: one for each time a row is asked for, also when none is left. They are at
+ * most 65552; a refusal does not give them. It uses less than 64 KiB of stack, on grammars as deep
+ * as 256 nodes can be. Changes nothing.
  * Refused: 21 at word 0, when list_len is 0, when C is 0 or above 16, when a word count or a word
  * of a grammar is missing, or when words are left over;
  * then, grammar after grammar, from number 0 on, also behind one that would accept:

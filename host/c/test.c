@@ -123,6 +123,8 @@ typedef struct argument {
     CALL(demarshall, "wbR", ARRAY(0), ARRAY(1), ARRAY(2))                                      \
     CALL(check_val, "wbn", ARRAY(0), ARRAY(1), NUMBER(2))                                      \
     CALL(check_whole, "wb", ARRAY(0), ARRAY(1))                                                \
+    CALL(check_val_with, "wbnn", ARRAY(0), ARRAY(1), NUMBER(2), NUMBER(3))                     \
+    CALL(check_whole_with, "wbn", ARRAY(0), ARRAY(1), NUMBER(2))                               \
     CALL(marshall_val, "wrnbBn", ARRAY(0), ARRAY(1), NUMBER(2), ARRAY(3), ARRAY(4), NUMBER(5)) \
     CALL(marshall, "wrnbB", ARRAY(0), ARRAY(1), NUMBER(2), ARRAY(3), ARRAY(4))                 \
     CALL(preview, "wrnbbn", ARRAY(0), ARRAY(1), NUMBER(2), ARRAY(3), ARRAY(4), NUMBER(5))      \
@@ -341,6 +343,7 @@ static void test_lengths(void)
         CHECK(
             refused(route_compute_size_of(u64, of_u64[i], ROUTE_MAX_ROWS + 1, bytes, 8), 12, 3, 0));
         CHECK(refused(route_check_whole(constant, of_u32[i], bytes, 8), 2, 1, 4));
+        CHECK(refused(route_check_whole_with(constant, of_u32[i], bytes, 8, 0), 2, 1, 4));
         CHECK(refused(route_choose_grammar(no_grammars, of_u32[i], bytes, 8), 21, 1, 0));
         CHECK(refused(route_choose_grammar(list, of_u32[i], bytes, 8), 21, 1, 0));
     }
@@ -350,6 +353,8 @@ static void test_lengths(void)
         CHECK(refused(route_pack_u32(7, forbidden, of_u8[i], of_u8[i] - 3), 17, 2, of_u8[i]));
         CHECK(refused(route_pack_u64(7, forbidden, of_u8[i], of_u8[i]), 17, 2, of_u8[i]));
         CHECK(refused(route_check_val(constant, 5, forbidden, of_u8[i], 1), 6, 2, 0));
+        CHECK(refused(route_check_val_with(constant, 5, forbidden, of_u8[i], 1, 0), 6, 2, 0));
+        CHECK(refused(route_check_whole_with(constant, 5, forbidden, of_u8[i], 0), 6, 2, 0));
         CHECK(refused(route_compute_size_of(u64, 4, 1, forbidden, of_u8[i]), 6, 2, 0));
         CHECK(refused(route_demarshall(constant, 5, forbidden, of_u8[i], u64, of_u64[0]), 6, 2, 0));
         CHECK(equal(route_same_route(constant, 5, bytes, 0, forbidden, of_u8[i]),
@@ -421,6 +426,40 @@ static void test_longest(void)
     CHECK(refused(route_choose_grammar(list, 13, record, ROUTE_MAX_BYTES - 1), 22, 2, 0));
 }
 
+/* The numbers of rows that the header names are those of the calls: an array of constants that has
+ * so many rows, its own among them, is accepted, and one that has a row more is not. */
+static void test_rows(void)
+{
+    static const uint32_t grammar[] = {2, ROUTE_KIND_ARRAY, 0, 1, ROUTE_KIND_CONSTANT, 0, 0, 1, 1};
+    static const uint32_t list[] = {1, 9, 2, ROUTE_KIND_ARRAY, 0, 1, ROUTE_KIND_CONSTANT, 0,
+                                    0, 1, 1};
+    const size_t capacities[] = {ROUTE_MAX_ROWS, ROUTE_MAX_ROWS + 1, SIZE_MAX};
+    uint8_t most[8], more[8];
+
+    subject = "the rows of a check";
+    CHECK(gives(route_pack_u64(ROUTE_CHECK_ROWS - 1, most, 8, 0), 0));
+    CHECK(gives(route_pack_u64(ROUTE_CHECK_ROWS, more, 8, 0), 0));
+    CHECK(gives_two(route_check_val(grammar, 9, most, 8, 0), ROUTE_CHECK_ROWS, 8));
+    CHECK(gives_two(route_check_whole(grammar, 9, most, 8), ROUTE_CHECK_ROWS, 8));
+    CHECK(refused(route_check_val(grammar, 9, more, 8, 0), 8, 2, 0));
+    CHECK(refused(route_check_whole(grammar, 9, more, 8), 8, 2, 0));
+
+    subject = "the most rows";
+    CHECK(gives(route_pack_u64(ROUTE_MAX_ROWS - 1, most, 8, 0), 0));
+    CHECK(gives(route_pack_u64(ROUTE_MAX_ROWS, more, 8, 0), 0));
+    for (int i = 0; i < 3; i++) {
+        size_t capacity = capacities[i];
+        CHECK(gives_two(route_check_val_with(grammar, 9, most, 8, 0, capacity), ROUTE_MAX_ROWS, 8));
+        CHECK(gives_two(route_check_whole_with(grammar, 9, most, 8, capacity), ROUTE_MAX_ROWS, 8));
+        CHECK(refused(route_check_val_with(grammar, 9, more, 8, 0, capacity), 8, 2, 0));
+        CHECK(refused(route_check_whole_with(grammar, 9, more, 8, capacity), 8, 2, 0));
+    }
+    CHECK(gives(route_same_route(grammar, 9, most, 8, most, 8), 1));
+    CHECK(equal(route_same_route(grammar, 9, most, 8, more, 8), (route_answer){8, 2, 0, 0, 2}));
+    CHECK(gives_two(route_choose_grammar(list, 11, most, 8), 0, ROUTE_MAX_ROWS));
+    CHECK(refused(route_choose_grammar(list, 11, more, 8), 22, 2, 0));
+}
+
 /* Arrays that are only read may be the same one, or overlap. */
 static void test_overlapping(void)
 {
@@ -482,6 +521,7 @@ int main(void)
     test_lengths();
     test_preview_lengths();
     test_longest();
+    test_rows();
     test_overlapping();
     test_casts();
     test_meanings();

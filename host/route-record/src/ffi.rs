@@ -65,6 +65,9 @@ call!(route_parse_val = parse_val(grammar: &[u32], record: &[u8], index: usize, 
 call!(route_demarshall = demarshall(grammar: &[u32], record: &[u8], rows: &mut [u64]));
 call!(route_check_val = check_val(grammar: &[u32], record: &[u8], index: usize));
 call!(route_check_whole = check_whole(grammar: &[u32], record: &[u8]));
+call!(route_check_val_with = check_val_with(grammar: &[u32], record: &[u8], index: usize,
+    capacity: usize));
+call!(route_check_whole_with = check_whole_with(grammar: &[u32], record: &[u8], capacity: usize));
 call!(route_marshall_val = marshall_val(grammar: &[u32], rows: &[u64], n: usize, store: &[u8],
     out: &mut [u8], index: usize));
 call!(route_marshall = marshall(grammar: &[u32], rows: &[u64], n: usize, store: &[u8],

@@ -2,7 +2,7 @@
 //! write, comparing.
 
 use crate::value::Value;
-use crate::{calls, Parsed, Preview, Refusal, SameRouteRefusal, MAX_BYTES, ROW_WORDS};
+use crate::{calls, Parsed, Preview, Refusal, SameRouteRefusal, MAX_BYTES, MAX_ROWS, ROW_WORDS};
 
 /// A grammar table that passed its check. A text gives one too, by [`str::parse`].
 ///
@@ -78,22 +78,30 @@ impl Grammar {
     }
 
     /// How many rows the value that starts at byte `index` has and where it ends. Refused as
-    /// [`calls::check_val`] refuses.
+    /// [`calls::check_val`] refuses, by 8 when the value has more than 1,024 rows;
+    /// [`check_val_with`](Grammar::check_val_with) names another number.
     ///
     /// ```
     /// use route_record::Grammar;
     ///
     /// let uint32 = Grammar::check(&[1, 1, 0, 0, 0])?;
     /// assert_eq!(uint32.check_val(&[0xff, 7, 0, 0, 0, 0xff], 1)?.rest_index, 5);
+    ///
+    /// let array_of_constants = Grammar::check(&[2, 3, 0, 1, 0, 0, 0, 1, 1])?;
+    /// assert_eq!(array_of_constants.check_val(&1_023_u64.to_le_bytes(), 0)?.rows, 1_024);
+    /// let refusal = array_of_constants.check_val(&1_024_u64.to_le_bytes(), 0).unwrap_err();
+    /// assert_eq!(refusal.number, 8);
     /// # Ok::<(), route_record::Refusal>(())
     /// ```
     pub fn check_val(&self, record: &[u8], index: usize) -> Result<Parsed, Refusal> {
         calls::check_val(&self.words, record, index)
     }
 
-    /// How many rows the value of a whole record has. Refused as [`calls::check_whole`] refuses.
-    /// Every proper front part of a record that is accepted is refused with 9, with the same
-    /// grammar ([cut records](crate#cut-records)).
+    /// How many rows the value of a whole record has. Refused as [`calls::check_whole`] refuses, by
+    /// 8 when the value has more than 1,024 rows; [`check_whole_with`](Grammar::check_whole_with)
+    /// names another number. Every proper front part of a record that is accepted is refused with
+    /// 9, with the same grammar; the capacity of both is 1,024
+    /// ([cut records](crate#cut-records)).
     ///
     /// ```
     /// use route_record::Grammar;
@@ -104,10 +112,62 @@ impl Grammar {
     /// let refusal = uint32.check_whole(&[7, 0, 0, 0, 0]).unwrap_err();
     /// let words = "refused 11 at byte 4: the value ends there, and bytes follow it";
     /// assert_eq!(refusal.to_string(), words);
+    ///
+    /// let array_of_constants = Grammar::check(&[2, 3, 0, 1, 0, 0, 0, 1, 1])?;
+    /// assert_eq!(array_of_constants.check_whole(&1_023_u64.to_le_bytes())?.rows, 1_024);
+    /// let refusal = array_of_constants.check_whole(&1_024_u64.to_le_bytes()).unwrap_err();
+    /// assert_eq!(refusal.number, 8);
     /// # Ok::<(), route_record::Refusal>(())
     /// ```
     pub fn check_whole(&self, record: &[u8]) -> Result<Parsed, Refusal> {
         calls::check_whole(&self.words, record)
+    }
+
+    /// As [`check_val`](Grammar::check_val), with `capacity` rows. Refused as
+    /// [`calls::check_val_with`] refuses; a capacity above 4,096 counts as 4,096.
+    ///
+    /// ```
+    /// use route_record::{Grammar, MAX_ROWS};
+    ///
+    /// let array_of_constants = Grammar::check(&[2, 3, 0, 1, 0, 0, 0, 1, 1])?;
+    /// let check = |count: u64, capacity| {
+    ///     array_of_constants.check_val_with(&count.to_le_bytes(), 0, capacity)
+    /// };
+    /// assert_eq!(check(4_095, MAX_ROWS)?.rows, 4_096);
+    /// assert_eq!(check(4_095, usize::MAX)?.rows, 4_096);
+    /// assert_eq!(check(4_096, usize::MAX).unwrap_err().number, 8);
+    /// assert_eq!(check(0, 0).unwrap_err().number, 8);
+    /// # Ok::<(), route_record::Refusal>(())
+    /// ```
+    pub fn check_val_with(
+        &self,
+        record: &[u8],
+        index: usize,
+        capacity: usize,
+    ) -> Result<Parsed, Refusal> {
+        calls::check_val_with(&self.words, record, index, capacity)
+    }
+
+    /// As [`check_whole`](Grammar::check_whole), with `capacity` rows. Refused as
+    /// [`calls::check_whole_with`] refuses; a capacity above 4,096 counts as 4,096. Every proper
+    /// front part of a record that is accepted is refused with 9, with the same grammar and
+    /// capacity ([cut records](crate#cut-records)).
+    ///
+    /// ```
+    /// use route_record::{Grammar, MAX_ROWS};
+    ///
+    /// let array_of_constants = Grammar::check(&[2, 3, 0, 1, 0, 0, 0, 1, 1])?;
+    /// let check = |count: u64, capacity| {
+    ///     array_of_constants.check_whole_with(&count.to_le_bytes(), capacity)
+    /// };
+    /// assert_eq!(check(4_095, MAX_ROWS)?.rows, 4_096);
+    /// assert_eq!(check(4_095, usize::MAX)?.rows, 4_096);
+    /// assert_eq!(check(4_096, usize::MAX).unwrap_err().number, 8);
+    /// assert_eq!(check(0, 0).unwrap_err().number, 8);
+    /// # Ok::<(), route_record::Refusal>(())
+    /// ```
+    pub fn check_whole_with(&self, record: &[u8], capacity: usize) -> Result<Parsed, Refusal> {
+        calls::check_whole_with(&self.words, record, capacity)
     }
 
     /// Reads the value that starts at byte `index` into the rows lent, and gives it with the first
@@ -176,7 +236,8 @@ impl Grammar {
         record: &'a [u8],
         index: usize,
     ) -> Result<(Value<'a>, usize), Refusal> {
-        let mut rows = vec![0; ROW_WORDS * self.check_val(record, index)?.rows];
+        let parsed = self.check_val_with(record, index, MAX_ROWS)?;
+        let mut rows = vec![0; ROW_WORDS * parsed.rows];
         let parsed = calls::parse_val(&self.words, record, index, &mut rows)?;
         Ok((Value::read(rows, record), parsed.rest_index))
     }
@@ -209,7 +270,8 @@ impl Grammar {
     /// # Ok::<(), Box<dyn std::error::Error>>(())
     /// ```
     pub fn demarshall_vec<'a>(&self, record: &'a [u8]) -> Result<Value<'a>, Refusal> {
-        let mut rows = vec![0; ROW_WORDS * self.check_whole(record)?.rows];
+        let parsed = self.check_whole_with(record, MAX_ROWS)?;
+        let mut rows = vec![0; ROW_WORDS * parsed.rows];
         calls::demarshall(&self.words, record, &mut rows)?;
         Ok(Value::read(rows, record))
     }
@@ -313,8 +375,9 @@ impl Grammar {
     }
 
     /// Whether two records are of the same route: whether their values are equal, but for the first
-    /// field of a root that is a tuple, which on the bench is the serial number of the box. Refused
-    /// as [`calls::same_route`] refuses.
+    /// field of a root that is a tuple, which on the bench is the serial number of the box. Both are
+    /// read as [`check_whole_with`](Grammar::check_whole_with) reads with 4,096 rows. Refused as
+    /// [`calls::same_route`] refuses.
     ///
     /// ```
     /// use route_record::Grammar;

@@ -61,8 +61,9 @@ impl GrammarList {
         &self.words
     }
 
-    /// The first grammar that accepts the record whole, and the values begun by the tries. Refused
-    /// by 6 and 22 as [`calls::choose_grammar`] refuses.
+    /// The first grammar that accepts the record whole, as [`Grammar::check_whole_with`] does with
+    /// 4,096 rows, and the values begun by the tries. Refused by 6 and 22 as
+    /// [`calls::choose_grammar`] refuses.
     ///
     /// ```
     /// use route_record::{Grammar, GrammarList};

@@ -20,20 +20,21 @@
 //! # Cut records
 //!
 //! A proper front part of a record is its first bytes, from none to all but one. The capacity is
-//! the number of rows lent, for a check and for [`Grammar::demarshall_vec`] 4,096. It is proved
-//! (docs/PROMISES.md, request 04) of the library's whole reading ([`calls::demarshall`],
-//! [`calls::check_whole`]) that every proper front part of a record that is accepted, with the same
-//! grammar and capacity, is refused with 9 and with nothing else. What a program may conclude: if a
-//! record that this grammar and capacity accept was cut, the answer is 9; so an answer other than 9,
-//! accepted too, is never that of such a record with its tail lost, and sending again on 9 alone
-//! misses none of them. A 9 may have another cause, so sending again should have an end.
+//! the number of rows lent; for a check it is the one named, at most 4,096, and 1,024 where none is
+//! named, for [`Grammar::demarshall_vec`] 4,096. It is proved (docs/PROMISES.md, request 04) of the
+//! library's whole reading ([`calls::demarshall`], [`calls::check_whole`],
+//! [`calls::check_whole_with`]) that every proper front part of a record that is accepted, with the
+//! same grammar and capacity, is refused with 9 and with nothing else. What a program may conclude:
+//! if a record that this grammar and capacity accept was cut, the answer is 9; so an answer other
+//! than 9, accepted too, is never that of such a record with its tail lost, and sending again on 9
+//! alone misses none of them. A 9 may have another cause, so sending again should have an end.
 //!
 //! 9 does not mean a cut record: a union without cases has no record, and under it the empty bytes
-//! are refused with 9, with a row lent or more. And of a reading from an index
-//! ([`calls::parse_val`], [`calls::check_val`]) the statement is false: under a uint32, from byte 0
-//! on, 9 bytes are accepted, and the first 5 of them too. Nor does it hold of a [`GrammarList`]:
-//! what is left of a cut record may be a whole record of another grammar of the list, and where no
-//! grammar accepts it the answer is 22.
+//! are refused with 9, at any capacity but 0. And of a reading from an index ([`calls::parse_val`],
+//! [`calls::check_val`], [`calls::check_val_with`]) the statement is false: under a uint32, from
+//! byte 0 on, 9 bytes are accepted, and the first 5 of them too. Nor does it hold of a
+//! [`GrammarList`]: what is left of a cut record may be a whole record of another grammar of the
+//! list, and where no grammar accepts it the answer is 22.
 //!
 //! ```
 //! use route_record::{Grammar, GrammarList, Refusal};
@@ -94,7 +95,9 @@ pub use chosen::Chosen;
 pub use grammar::Grammar;
 pub use grammar_list::GrammarList;
 pub use kind::{Class, Kind, KINDS};
-pub use limits::{MAX_BYTES, MAX_GRAMMARS, MAX_GRAMMAR_WORDS, MAX_LIST_WORDS, MAX_ROWS, ROW_WORDS};
+pub use limits::{
+    CHECK_ROWS, MAX_BYTES, MAX_GRAMMARS, MAX_GRAMMAR_WORDS, MAX_LIST_WORDS, MAX_ROWS, ROW_WORDS,
+};
 pub use parsed::Parsed;
 pub use preview::Preview;
 pub use refusal::{Place, Refusal, SameRouteRefusal, REFUSALS};

@@ -6,6 +6,11 @@ pub const ROW_WORDS: usize = 4;
 /// The most rows of a value.
 pub const MAX_ROWS: usize = 4_096;
 
+/// The capacity of a check that names none: the most rows of a value that
+/// [`calls::check_val`](crate::calls::check_val) and
+/// [`calls::check_whole`](crate::calls::check_whole) accept.
+pub const CHECK_ROWS: usize = 1_024;
+
 /// The most bytes of a record, and of a store.
 pub const MAX_BYTES: usize = 1_048_576;
 

@@ -3,7 +3,7 @@
 
 use route_record::{Place, Refusal, KINDS, REFUSALS};
 use route_record::{
-    MAX_BYTES, MAX_GRAMMARS, MAX_GRAMMAR_WORDS, MAX_LIST_WORDS, MAX_ROWS, ROW_WORDS,
+    CHECK_ROWS, MAX_BYTES, MAX_GRAMMARS, MAX_GRAMMAR_WORDS, MAX_LIST_WORDS, MAX_ROWS, ROW_WORDS,
 };
 
 const HEADER: &str = include_str!("../../c/route_record.h");
@@ -51,6 +51,7 @@ fn the_names_are_those_of_the_bindings() {
         ("MAX_LIST_WORDS", MAX_LIST_WORDS),
         ("MAX_BYTES", MAX_BYTES),
         ("MAX_ROWS", MAX_ROWS),
+        ("CHECK_ROWS", CHECK_ROWS),
         ("ROW_WORDS", ROW_WORDS),
     ];
     let limits = limits.map(|(name, number)| (format!("ROUTE_{name}"), number as u64));

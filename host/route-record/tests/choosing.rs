@@ -162,21 +162,30 @@ fn a_list_chooses_as_one_grammar_after_the_other() {
     ];
     let grammars = texts.map(|text| text.parse::<Grammar>().unwrap());
     let list = GrammarList::new(&grammars).unwrap();
-    let mut chosen = Vec::new();
+    let mut records = Vec::new();
     for length in 0..40 {
         for byte in [0, 1, 2] {
             let mut record = vec![0; length];
             record.iter_mut().step_by(8).for_each(|each| *each = byte);
-            let first = grammars.iter().position(|g| g.check_whole(&record).is_ok());
-            let answer = list.choose(&record);
-            assert_eq!(answer, choose_grammar(list.words(), &record));
-            match (first, answer) {
-                (Some(first), Ok(answer)) => assert_eq!(answer.number, first),
-                (None, answer) => assert_eq!(answer, none_accepts()),
-                (first, answer) => panic!("{first:?} accepts, and {answer:?} was chosen"),
-            }
-            chosen.extend(first);
+            records.push(record);
         }
+    }
+    // Arrays of uint32 of 1,025, 4,096 and 4,097 rows.
+    for count in [1_024, MAX_ROWS - 1, MAX_ROWS] {
+        records.push([&(count as u64).to_le_bytes()[..], &vec![0; 4 * count]].concat());
+    }
+    let mut chosen = Vec::new();
+    for record in records {
+        let accepts = |grammar: &Grammar| grammar.check_whole_with(&record, MAX_ROWS).is_ok();
+        let first = grammars.iter().position(accepts);
+        let answer = list.choose(&record);
+        assert_eq!(answer, choose_grammar(list.words(), &record));
+        match (first, answer) {
+            (Some(first), Ok(answer)) => assert_eq!(answer.number, first),
+            (None, answer) => assert_eq!(answer, none_accepts()),
+            (first, answer) => panic!("{first:?} accepts, and {answer:?} was chosen"),
+        }
+        chosen.extend(first);
     }
     // The first has no record.
     for (number, text) in texts.iter().enumerate() {

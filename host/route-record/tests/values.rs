@@ -6,7 +6,8 @@ use std::thread;
 
 use route_record::calls::signed_number;
 use route_record::{
-    Builder, Grammar, Place, Refusal, Value, KINDS, MAX_BYTES, MAX_ROWS, REFUSALS, ROW_WORDS,
+    Builder, Grammar, Place, Refusal, Value, CHECK_ROWS, KINDS, MAX_BYTES, MAX_ROWS, REFUSALS,
+    ROW_WORDS,
 };
 
 fn grammar() -> Grammar {
@@ -92,6 +93,27 @@ fn lent_rows_and_rows_in_a_vec_are_the_same() {
     assert_eq!(out, longer);
     assert_eq!(grammar.marshall(&in_vec, &mut out), Ok(record.len()));
     assert_eq!(out[..record.len()], record);
+}
+
+#[test]
+fn values_of_more_rows_than_a_check_takes_are_read_and_written() {
+    let grammar = "array(u32)".parse::<Grammar>().unwrap();
+    for row_count in [CHECK_ROWS + 1, 3_000, MAX_ROWS] {
+        let numbers = 1..row_count as u32;
+        let value = Value::build(|value| value.array(|v| numbers.for_each(|n| v.uint32(n))));
+        let value = value.unwrap();
+        let record = grammar.marshall_vec(&value).unwrap();
+        let read = grammar.demarshall_vec(&record).unwrap();
+        assert_eq!(read.row_count(), row_count);
+        assert_eq!(read.row_words(), value.row_words());
+        assert_eq!(grammar.marshall_vec(&read).unwrap(), record);
+
+        let longer = [&[0xff], &record[..], &[0xff]].concat();
+        let (read, rest_index) = grammar.parse_val_vec(&longer, 1).unwrap();
+        assert_eq!(rest_index, 1 + record.len());
+        assert_eq!(read.row_words(), value.row_words());
+        assert_eq!(grammar.marshall_vec(&read).unwrap(), record);
+    }
 }
 
 #[test]

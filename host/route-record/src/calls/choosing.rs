@@ -9,7 +9,8 @@ use crate::ffi;
 use crate::{Chosen, Refusal};
 
 /// The first grammar of the list that accepts the record whole, as
-/// [`check_whole`](crate::calls::check_whole) does, and the values begun by the tries.
+/// [`check_whole_with`](crate::calls::check_whole_with) does with 4,096 rows, and the values begun
+/// by the tries.
 ///
 /// The grammars are tried in order, with 4,096 rows each, up to the first that accepts. A value is
 /// begun each time a row is asked for, also where none is left. The count is that of all tries, the

@@ -28,7 +28,9 @@ pub use packed::{
     pack_u32, pack_u32_seq, pack_u64, pack_u64_seq, unpack_u32, unpack_u32_seq, unpack_u64,
     unpack_u64_seq,
 };
-pub use reading::{check_val, check_whole, demarshall, parse_val};
+pub use reading::{
+    check_val, check_val_with, check_whole, check_whole_with, demarshall, parse_val,
+};
 pub use rows::{compute_size_of, locate_array, signed_number};
 pub use same_route::same_route;
 pub use writing::{marshall, marshall_val, preview};

@@ -101,7 +101,8 @@ pub fn demarshall(grammar: &[u32], record: &[u8], rows: &mut [u64]) -> Result<Pa
     parsed(ffi::demarshall(grammar, record, rows))
 }
 
-/// Reads as [`parse_val`] does with 4,096 rows, and keeps none.
+/// Reads as [`parse_val`] does with 1,024 rows ([`CHECK_ROWS`](crate::CHECK_ROWS)), and keeps none.
+/// [`check_val_with`] names another number of rows.
 ///
 /// ```
 /// use route_record::calls::check_val;
@@ -112,12 +113,20 @@ pub fn demarshall(grammar: &[u32], record: &[u8], rows: &mut [u64]) -> Result<Pa
 ///
 /// let refusal = Refusal { number: 9, place: Place::Byte(2) };
 /// assert_eq!(check_val(&uint64, &[0; 9], 2), Err(refusal));
+///
+/// let array_of_constants = [2, 3, 0, 1, 0, 0, 0, 1, 1];
+/// let parsed = check_val(&array_of_constants, &1_023_u64.to_le_bytes(), 0);
+/// assert_eq!(parsed, Ok(Parsed { rows: 1_024, rest_index: 8 }));
+///
+/// let refusal = Refusal { number: 8, place: Place::Byte(0) };
+/// assert_eq!(check_val(&array_of_constants, &1_024_u64.to_le_bytes(), 0), Err(refusal));
 /// ```
 pub fn check_val(grammar: &[u32], record: &[u8], index: usize) -> Result<Parsed, Refusal> {
     parsed(ffi::check_val(grammar, record, index))
 }
 
-/// Reads as [`demarshall`] does with 4,096 rows, and keeps none.
+/// Reads as [`demarshall`] does with 1,024 rows ([`CHECK_ROWS`](crate::CHECK_ROWS)), and keeps
+/// none. [`check_whole_with`] names another number of rows.
 ///
 /// ```
 /// use route_record::calls::check_whole;
@@ -128,10 +137,17 @@ pub fn check_val(grammar: &[u32], record: &[u8], index: usize) -> Result<Parsed,
 ///
 /// let refusal = Refusal { number: 11, place: Place::Byte(8) };
 /// assert_eq!(check_whole(&uint64, &[0; 9]), Err(refusal));
+///
+/// let array_of_constants = [2, 3, 0, 1, 0, 0, 0, 1, 1];
+/// let parsed = check_whole(&array_of_constants, &1_023_u64.to_le_bytes());
+/// assert_eq!(parsed, Ok(Parsed { rows: 1_024, rest_index: 8 }));
+///
+/// let refusal = Refusal { number: 8, place: Place::Byte(0) };
+/// assert_eq!(check_whole(&array_of_constants, &1_024_u64.to_le_bytes()), Err(refusal));
 /// ```
 ///
-/// Every proper front part of a record that is accepted is refused with 9, with the same grammar
-/// ([cut records](crate#cut-records)):
+/// Every proper front part of a record that is accepted is refused with 9, with the same grammar;
+/// the capacity of both is 1,024 ([cut records](crate#cut-records)):
 ///
 /// ```
 /// use route_record::calls::check_whole;
@@ -148,4 +164,100 @@ pub fn check_val(grammar: &[u32], record: &[u8], index: usize) -> Result<Parsed,
 /// ```
 pub fn check_whole(grammar: &[u32], record: &[u8]) -> Result<Parsed, Refusal> {
     parsed(ffi::check_whole(grammar, record))
+}
+
+/// Reads as [`parse_val`] does with `capacity` rows, and keeps none. A capacity above 4,096
+/// ([`MAX_ROWS`](crate::MAX_ROWS)) counts as 4,096. At capacity 0, a reading that none of 1 to 7
+/// refuses is refused by 8 at byte `index`.
+///
+/// ```
+/// use route_record::calls::check_val_with;
+/// use route_record::{Parsed, Place, Refusal};
+///
+/// let uint32 = [1, 1, 0, 0, 0];
+/// let record = [0xff, 7, 0, 0, 0];
+/// let parsed = Parsed { rows: 1, rest_index: 5 };
+/// assert_eq!(check_val_with(&uint32, &record, 1, 1), Ok(parsed));
+///
+/// // With no row left, 8 comes before 9, and behind 7.
+/// let refused_by = |number, index| Err(Refusal { number, place: Place::Byte(index) });
+/// assert_eq!(check_val_with(&uint32, &record, 1, 0), refused_by(8, 1));
+/// assert_eq!(check_val_with(&uint32, &record, 5, 0), refused_by(8, 5));
+/// assert_eq!(check_val_with(&uint32, &record, 5, 1), refused_by(9, 5));
+/// assert_eq!(check_val_with(&uint32, &record, 6, 0), refused_by(7, 6));
+///
+/// let array_of_constants = [2, 3, 0, 1, 0, 0, 0, 1, 1];
+/// let parsed = Parsed { rows: 4_096, rest_index: 8 };
+/// for capacity in [4_096, 4_097, usize::MAX] {
+///     let check = |count: u64| {
+///         check_val_with(&array_of_constants, &count.to_le_bytes(), 0, capacity)
+///     };
+///     assert_eq!(check(4_095), Ok(parsed));
+///     assert_eq!(check(4_096), refused_by(8, 0));
+/// }
+/// ```
+pub fn check_val_with(
+    grammar: &[u32],
+    record: &[u8],
+    index: usize,
+    capacity: usize,
+) -> Result<Parsed, Refusal> {
+    parsed(ffi::check_val_with(grammar, record, index, capacity))
+}
+
+/// Reads as [`demarshall`] does with `capacity` rows, and keeps none. A capacity above 4,096
+/// ([`MAX_ROWS`](crate::MAX_ROWS)) counts as 4,096. At capacity 0, a reading that none of 1 to 6
+/// refuses is refused by 8 at byte 0.
+///
+/// ```
+/// use route_record::calls::check_whole_with;
+/// use route_record::{Parsed, Place, Refusal};
+///
+/// let array_of_constants = [2, 3, 0, 1, 0, 0, 0, 1, 1];
+/// let check = |count: u64, capacity| {
+///     check_whole_with(&array_of_constants, &count.to_le_bytes(), capacity)
+/// };
+/// let rows = |rows| Ok(Parsed { rows, rest_index: 8 });
+/// let refusal = Refusal { number: 8, place: Place::Byte(0) };
+/// assert_eq!(check(1_024, 1_025), rows(1_025));
+/// assert_eq!(check(1_025, 1_025), Err(refusal));
+/// for capacity in [4_096, 4_097, usize::MAX] {
+///     assert_eq!(check(4_095, capacity), rows(4_096));
+///     assert_eq!(check(4_096, capacity), Err(refusal));
+/// }
+///
+/// // 0 is a capacity too: with no row left, 8 comes before 9.
+/// assert_eq!(check(0, 1), rows(1));
+/// assert_eq!(check(0, 0), Err(refusal));
+/// assert_eq!(check_whole_with(&array_of_constants, &[0; 7], 0), Err(refusal));
+/// let refusal = Refusal { number: 9, place: Place::Byte(0) };
+/// assert_eq!(check_whole_with(&array_of_constants, &[0; 7], 1), Err(refusal));
+/// ```
+///
+/// Every proper front part of a record that is accepted is refused with 9, with the same grammar
+/// and capacity ([cut records](crate#cut-records)); with a smaller capacity it may be refused with
+/// 8:
+///
+/// ```
+/// use route_record::calls::check_whole_with;
+/// use route_record::{Parsed, Refusal};
+///
+/// let tuple_of_u32_and_bytes = [3, 4, 0, 2, 1, 0, 0, 5, 0, 0, 2, 1, 2];
+/// let record = [7, 0, 0, 0, 2, 0, 0, 0, 0, 0, 0, 0, 0x41, 0x42];
+/// let parsed = check_whole_with(&tuple_of_u32_and_bytes, &record, 3);
+/// assert_eq!(parsed, Ok(Parsed { rows: 3, rest_index: 14 }));
+/// let refused_by = |k, capacity| {
+///     check_whole_with(&tuple_of_u32_and_bytes, &record[..k], capacity).unwrap_err().number
+/// };
+/// for k in 0..record.len() {
+///     assert_eq!(refused_by(k, 3), Refusal::BYTES_MISSING);
+/// }
+/// assert_eq!(refused_by(13, 2), 8);
+/// ```
+pub fn check_whole_with(
+    grammar: &[u32],
+    record: &[u8],
+    capacity: usize,
+) -> Result<Parsed, Refusal> {
+    parsed(ffi::check_whole_with(grammar, record, capacity))
 }

@@ -27,8 +27,8 @@ fn is_same(answer: Answer) -> Result<bool, SameRouteRefusal> {
 /// the whole value counts. Yes does not say that the records have equal bytes or equal lengths.
 ///
 /// Refused by 1 to 5 as [`check_grammar`](crate::calls::check_grammar) refuses, and then neither record is
-/// named; then by 6 and 8 to 11 as [`check_whole`](crate::calls::check_whole) refuses the first record;
-/// then by 6 and 8 to 11 as it refuses the second.
+/// named; then by 6 and 8 to 11 as [`check_whole_with`](crate::calls::check_whole_with) with 4,096
+/// rows refuses the first record; then by 6 and 8 to 11 as it refuses the second.
 ///
 /// ```
 /// use route_record::calls::same_route;
