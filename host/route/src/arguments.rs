@@ -28,6 +28,8 @@ pub struct Arguments {
     pub hex: bool,
     /// Where the value starts, or would in the output, if that was given.
     pub index: Option<usize>,
+    /// The capacity of a check, if one was given.
+    pub rows: Option<usize>,
     /// Whether all elements are to be shown.
     pub all: bool,
     /// The name of an array in C, if one is wanted.
@@ -74,6 +76,7 @@ struct Given<'a> {
     all: bool,
     grammars: Vec<&'a str>,
     index: Option<usize>,
+    rows: Option<usize>,
     c: Option<&'a str>,
     /// The options by name.
     options: Vec<&'a str>,
@@ -142,7 +145,7 @@ impl<'a> Given<'a> {
             _ => (whole, None),
         };
         let mut value = || attached.map_or_else(|| value_behind(option, rest), Ok);
-        if matches!(option, "--index" | "--c") && self.options.contains(&option) {
+        if matches!(option, "--index" | "--rows" | "--c") && self.options.contains(&option) {
             return Err(misused(&format!("{option} is given twice")));
         }
         match (option, attached) {
@@ -150,11 +153,8 @@ impl<'a> Given<'a> {
             ("--hex", None) => self.hex = true,
             ("--all", None) => self.all = true,
             ("-g" | "--grammar", _) => self.grammars.push(value()?),
-            ("--index", _) => {
-                let value = value()?;
-                let fault = format!("{option} wants a number below 2^64, not '{value}'");
-                self.index = Some(value.parse().map_err(|_| misused(&fault))?);
-            }
+            ("--index", _) => self.index = Some(number(option, value()?)?),
+            ("--rows", _) => self.rows = Some(number(option, value()?)?),
             ("--c", _) => {
                 let name = value()?;
                 if !is_c_name(name) {
@@ -213,6 +213,7 @@ impl<'a> Given<'a> {
             (count > most, "there are too many arguments"),
             (command.takes_output && !has_output, "the output is missing"),
             (self.hex && count == 0, "--hex is for records"),
+            (self.rows.is_some() && count == 0, "--rows is for records"),
             (stdin_uses > 1, "standard input can be only one of them"),
         ];
         if let Some((_, words)) = faults.iter().find(|(is_so, _)| *is_so) {
@@ -224,6 +225,7 @@ impl<'a> Given<'a> {
             output,
             hex: self.hex,
             index: self.index,
+            rows: self.rows,
             all: self.all,
             c: self.c.map(str::to_string),
         })
@@ -236,6 +238,12 @@ fn value_behind<'a>(option: &str, rest: &mut Iter<'a, OsString>) -> Result<&'a s
     let value = value.ok_or_else(|| misused(&format!("{option} wants a value")))?;
     let text = value.to_str();
     text.ok_or_else(|| misused(&format!("the value of {option} is not UTF-8")))
+}
+
+/// The number that is the value of an option.
+fn number(option: &str, value: &str) -> Result<usize, Stop> {
+    let fault = format!("{option} wants a number below 2^64, not '{value}'");
+    value.parse().map_err(|_| misused(&fault))
 }
 
 /// The keywords of C, with those that became one in C23 and are macros before. Names that begin with

@@ -2,6 +2,8 @@
 
 use std::ops::RangeInclusive;
 
+use route_record::MAX_ROWS;
+
 use crate::answer::Stop;
 use crate::arguments::Arguments;
 use crate::tree::{tree, SHOWN};
@@ -45,13 +47,15 @@ pub static COMMANDS: [Command; 7] = [
         takes_list: false,
         count: 0..=1,
         takes_output: false,
-        options: &[],
-        records: "[RECORD]",
-        summary: "Says whether the grammar is accepted, or the whole record under it.\n\
-                  If an accepted record loses its tail, what is left is refused with 9\n\
-                  under the same grammar. A 9 may have another cause.",
-        example: "echo 07000000 | route check -g u32 --hex -",
-        printed: "accepted: rows 1, bytes 4\n",
+        options: &["--rows"],
+        records: "[RECORD [--rows N]]",
+        summary: "Says whether the grammar is accepted, or the whole record under it as a\n\
+                  value of at most N rows. If an accepted record loses its tail, what is\n\
+                  left is refused with 9 under the same grammar and N. A 9 may have another\n\
+                  cause.",
+        example: "echo 07000000 0200000000000000 4142 | \
+                  route check -g 'tuple(u32, bytes)' --hex - --rows 3",
+        printed: "accepted: rows 3, bytes 14\n",
         run: check,
     },
     Command {
@@ -145,7 +149,9 @@ fn check(arguments: &Arguments) -> Result<String, Stop> {
         let [nodes, _, child_words, _] = grammar.sections();
         format!("nodes {}, child words {}", nodes[0], child_words[0])
     } else {
-        let parsed = grammar.check_whole(&arguments.record(0)?)?;
+        // The rows that `tree` has, so that both accept the same records.
+        let capacity = arguments.rows.unwrap_or(MAX_ROWS);
+        let parsed = grammar.check_whole_with(&arguments.record(0)?, capacity)?;
         format!("rows {}, bytes {}", parsed.rows, parsed.rest_index)
     };
     Ok(format!("accepted: {counts}\n"))

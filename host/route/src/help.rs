@@ -22,6 +22,8 @@ Options:
     --index I             the byte where the value starts, for preview in the
                           output; bytes may follow it. Without it size and
                           preview start at 0 and tree reads it whole
+    --rows N              the most rows of a value that check accepts. A number
+                          above 4,096 counts as 4,096. Without it they are 4,096
     --all                 all elements of arrays, not the first 16 of each
     --c NAME              the definition of an array in C
     -h, --help            this help; behind a command, the help for it

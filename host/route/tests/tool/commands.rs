@@ -46,6 +46,89 @@ fn check_of_a_grammar_alone() {
     }
 }
 
+/// The record of so many constants, whose value has one row more.
+fn constants(count: u64) -> [u8; 8] {
+    count.to_le_bytes()
+}
+
+/// The grammar of `constants`, as an option.
+const CONSTANTS: &str = "-garray(constant)";
+
+#[test]
+fn check_has_as_many_rows_as_it_is_told() {
+    let check = |rows: &str, record: &[u8]| route(&["check", CONSTANTS, "-", rows], record);
+    for (capacity, in_force) in [
+        (1, 1),
+        (300, 300),
+        (1_024, 1_024),
+        (1_025, 1_025),
+        (4_096, 4_096),
+        (4_097, 4_096),
+        (u64::MAX, 4_096),
+    ] {
+        let rows = &format!("--rows={capacity}");
+        let accepted = printed(0, &format!("accepted: rows {in_force}, bytes 8\n"));
+        assert_eq!(check(rows, &constants(in_force - 1)), accepted, "{rows}");
+        let answer = check(rows, &constants(in_force));
+        assert_eq!(answer, refused(8, Place::Byte(0)), "{rows}");
+    }
+
+    // 0 is a number of rows too: 8 comes before 9, and behind 6.
+    for record in [&constants(0)[..], &[0; 7], &[]] {
+        assert_eq!(check("--rows=0", record), refused(8, Place::Byte(0)));
+    }
+    let longer = [0; MAX_BYTES + 1];
+    assert_eq!(check("--rows=0", &longer), refused(6, Place::Byte(0)));
+    assert_eq!(check("--rows=1", &[0; 7]), refused(9, Place::Byte(0)));
+
+    let got = route(&["check", "--rows", "2", "-g", TYPES, "-"], &RECORD);
+    assert_eq!(got, refused(8, Place::Byte(4)));
+    let got = route(&["check", "--rows", "3", "-g", TYPES, "-"], &RECORD);
+    assert_eq!(got, printed(0, "accepted: rows 3, bytes 14\n"));
+}
+
+/// What is not told a number of rows has 4,096.
+#[test]
+fn every_command_takes_values_of_up_to_4096_rows() {
+    let folder = folder("rows");
+    let small = &file(&folder, "small", constants(0));
+    for count in [1_023, 1_024, 4_095] {
+        let record = &file(&folder, "record", constants(count));
+        let of_record = |command: &str| route(&[command, CONSTANTS, record], b"");
+        let size = format!("rows {}, bytes 8\n", count + 1);
+        let accepted = printed(0, &format!("accepted: {size}"));
+        assert_eq!(of_record("check"), accepted);
+        assert_eq!(of_record("size"), printed(0, &size));
+        let tree = of_record("tree");
+        assert_eq!((tree.status, tree.stderr.as_str()), (Some(0), ""));
+        let lines = "byte 8    constant\n".repeat(count as usize);
+        assert_eq!(tree.stdout, format!("byte 0  array of {count}\n{lines}"));
+        let from_index = route(&["tree", CONSTANTS, record, "--index=0"], b"");
+        assert_eq!(from_index, tree);
+        let same = |second: &str| route(&["same", CONSTANTS, record, second], b"");
+        assert_eq!(same(record), printed(0, "same\n"));
+        assert_eq!(same(small), printed(3, "different\n"));
+        let begun = count as usize + 1;
+        assert_eq!(of_record("choose"), chosen(0, begun));
+        let preview = route(&["preview", CONSTANTS, record, record], b"");
+        assert_eq!(preview, previewed(8, 0));
+    }
+
+    let record = &file(&folder, "record", constants(4_096));
+    let refusal = refused(8, Place::Byte(0));
+    for command in ["check", "tree", "size"] {
+        let got = route(&[command, CONSTANTS, record], b"");
+        assert_eq!(got, refusal, "{command}");
+    }
+    let of_first = printed(1, &format!("the first record: {}", refusal.stdout));
+    let got = route(&["same", CONSTANTS, record, small], b"");
+    assert_eq!(got, of_first);
+    let got = route(&["choose", CONSTANTS, record], b"");
+    assert_eq!(got, refused(22, Place::Byte(0)));
+    let got = route(&["preview", CONSTANTS, record, small], b"");
+    assert_eq!(got, refusal);
+}
+
 #[test]
 fn tree_of_every_kind() {
     let grammar = "\

@@ -35,8 +35,26 @@ fn commands_and_options_that_are_none() {
             "size --index=1.5",
             "--index wants a number below 2^64, not '1.5'",
         ),
+        ("check --rows", "--rows wants a value"),
+        (
+            "check -gu32 - --rows -1",
+            "--rows wants a number below 2^64, not '-1'",
+        ),
+        (
+            "check -gu32 - --rows=18446744073709551616",
+            "--rows wants a number below 2^64, not '18446744073709551616'",
+        ),
+        (
+            "check -gu32 - --rows=",
+            "--rows wants a number below 2^64, not ''",
+        ),
+        (
+            "check -gu32 - --rows 1,024",
+            "--rows wants a number below 2^64, not '1,024'",
+        ),
         ("tree --all=1", "there is no option '--all=1'"),
         ("tree -gu32 --index 0 --index=1 -", "--index is given twice"),
+        ("check -gu32 - --rows 1 --rows=1", "--rows is given twice"),
         ("words --c a --c b -gu32", "--c is given twice"),
         ("words --c int -gu32", "--c wants a name in C, not 'int'"),
         ("words --c", "--c wants a value"),
@@ -50,7 +68,7 @@ fn commands_and_options_that_are_none() {
 
 #[test]
 fn arguments_that_a_command_does_not_take() {
-    let check = "route check GRAMMAR [RECORD]";
+    let check = "route check GRAMMAR [RECORD [--rows N]]";
     let tree = "route tree GRAMMAR RECORD [--index I] [--all]";
     let same = "route same GRAMMAR FIRST SECOND";
     let choose = "route choose GRAMMAR.. RECORD";
@@ -89,7 +107,15 @@ fn arguments_that_a_command_does_not_take() {
         ("words -g u32 g", "there are too many arguments", words),
         ("words g --hex", "--hex is for records", words),
         ("check g --hex", "--hex is for records", check),
+        ("check g --rows 0", "--rows is for records", check),
         ("check g --index 0", "--index is for another command", check),
+        ("tree g r --rows 1", "--rows is for another command", tree),
+        ("same g r r --rows 1", "--rows is for another command", same),
+        (
+            "choose g r --rows 1",
+            "--rows is for another command",
+            choose,
+        ),
         ("same g r r --all", "--all is for another command", same),
         ("tree g r --c n", "--c is for another command", tree),
         (
