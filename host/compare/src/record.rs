@@ -1,6 +1,6 @@
 //! Random records of a grammar, written by the byte rule, and faults in them.
 
-use route_record::MAX_ROWS;
+use route_record::{CHECK_ROWS, MAX_ROWS};
 
 use crate::{Random, Table};
 
@@ -81,6 +81,7 @@ impl Record {
             left,
             left / 4,
             left / 8,
+            CHECK_ROWS as u64,
             MAX_ROWS as u64,
             1 << 61,
             1 << 62,

@@ -25,7 +25,7 @@ fn output(case: &mut Case) -> &mut Vec<u8> {
 #[test]
 fn each_call_has_one() {
     let calls: BTreeSet<&str> = Case::blanks().iter().map(Case::call).collect();
-    assert_eq!(calls.len(), 21);
+    assert_eq!(calls.len(), 23);
     for mut blank in Case::blanks() {
         let answer = blank.compare().answer;
         if let Answer::Accepted(given) = answer {
@@ -116,7 +116,7 @@ fn refused(number: u64, place: Place) -> Answer {
     Answer::Refused { refusal, record: 0 }
 }
 
-/// A whole reading has a front part that is shorter, with the same grammar and rows.
+/// A whole reading has a front part that is shorter, with the same grammar and rows or capacity.
 #[test]
 fn front_parts_of_whole_readings() {
     let Some(Case::Demarshall {
@@ -127,8 +127,19 @@ fn front_parts_of_whole_readings() {
     else {
         panic!("a whole reading");
     };
-    assert_eq!((grammar, rows), (leaf(1), vec![99; 4]));
+    assert_eq!((&grammar, rows), (&leaf(1), vec![99; 4]));
     assert!(record.len() < 4 && [7, 0, 0, 0].starts_with(&record));
+    let check = Case::CheckWholeWith {
+        grammar: leaf(1),
+        record: vec![7, 0, 0, 0],
+        capacity: 5,
+    };
+    let front = Case::CheckWholeWith {
+        grammar,
+        record,
+        capacity: 5,
+    };
+    assert_eq!(check.front_part(), Some(front));
     // Neither an empty record nor a reading from an index has one.
     let (grammar, record, index) = (leaf(0), vec![], 0);
     let empty = Case::CheckWhole { grammar, record };
@@ -138,6 +149,13 @@ fn front_parts_of_whole_readings() {
         grammar,
         record,
         index,
+    };
+    assert_eq!(from_index.front_part(), None);
+    let from_index = Case::CheckValWith {
+        grammar: leaf(1),
+        record: vec![7, 0, 0, 0],
+        index,
+        capacity: 5,
     };
     assert_eq!(from_index.front_part(), None);
 }

@@ -31,7 +31,7 @@ fn refusing(random: &mut Random, own: &Table, record: &[u8]) -> Vec<Vec<u32>> {
             _ => Table::any(random),
         };
         let words = table.words();
-        if model::check_whole(&words, record).is_err() {
+        if model::demarshall(&words, record, MAX_ROWS).is_err() {
             grammars.push(words);
         }
     }
@@ -59,13 +59,14 @@ fn the_tries_add_up() {
                 panic!("the second accepts");
             };
             let begun = begun - rows;
-            let number = model::check_whole(grammar, &bytes).unwrap_err().number;
-            if number == 11 {
-                let reading = model::check_val(grammar, &bytes, 0).expect("a value");
-                assert_eq!(begun, reading.rows.len() / ROW_WORDS);
+            let refusal = model::demarshall(grammar, &bytes, MAX_ROWS).unwrap_err();
+            if refusal.number == 11 {
+                let reading = model::parse_val(grammar, &bytes, 0, MAX_ROWS);
+                let rows = reading.expect("a value").rows;
+                assert_eq!(begun, rows.len() / ROW_WORDS);
             }
             assert!((1..=MAX_ROWS + 1).contains(&begun));
-            numbers.insert(number);
+            numbers.insert(refusal.number);
             sum += begun;
         }
         let mut list: Vec<&Vec<u32>> = others.iter().collect();
@@ -102,7 +103,7 @@ impl Met {
                 self.lasts.extend((number == count - 1).then_some(count));
                 self.roots.insert(root_kinds(&grammars[number]).0);
                 for grammar in &grammars[..number] {
-                    let refusal = model::check_whole(grammar, record).unwrap_err();
+                    let refusal = model::demarshall(grammar, record, MAX_ROWS).unwrap_err();
                     self.tries.insert(refusal.number);
                 }
                 self.most_begun = self.most_begun.max(given[1]);
@@ -140,7 +141,7 @@ fn random_cases() {
     let mut random = Random::new(82);
     let mut met = Met::default();
     on_large_stack(|| {
-        for _ in 0..15_000 {
+        for _ in 0..16_500 {
             let case = Case::random(&mut random);
             let Case::ChooseGrammar { list, record } = &case else {
                 continue;

@@ -6,20 +6,48 @@ use std::collections::{BTreeMap, BTreeSet};
 
 use compare::{chain, leaf, own_bytes, table};
 use compare::{Answer, Case, Outcome, OwnBytes, Random, Record, Table, Value};
-use route_record::{Place, Refusal, MAX_BYTES, MAX_ROWS, ROW_WORDS};
+use route_record::{Place, Refusal, CHECK_ROWS, MAX_BYTES, MAX_ROWS, ROW_WORDS};
 
-/// A whole reading with words for so many rows, of which at most 4,096 count, and up to three words
-/// more; without a number of rows, a check.
-fn reading(grammar: &[u32], record: &[u8], rows: Option<usize>) -> Case {
+/// What the capacity of a whole reading comes from.
+#[derive(Clone, Copy, Debug)]
+enum Rows {
+    /// Words for so many rows are lent, of which at most 4,096 count, and up to three words more.
+    Lent(usize),
+    /// It is a check with this capacity.
+    Named(usize),
+    /// It is a check for which no capacity is named.
+    NotNamed,
+}
+
+impl Rows {
+    /// The capacity with so many rows more, unless it is that of a check for which none is named.
+    fn and(self, more: usize) -> Rows {
+        match self {
+            Rows::Lent(rows) => Rows::Lent(rows + more),
+            Rows::Named(rows) => Rows::Named(rows + more),
+            Rows::NotNamed => Rows::NotNamed,
+        }
+    }
+}
+
+/// A whole reading.
+fn reading(grammar: &[u32], record: &[u8], rows: Rows) -> Case {
     let (grammar, record) = (grammar.to_vec(), record.to_vec());
-    let Some(rows) = rows else {
-        return Case::CheckWhole { grammar, record };
-    };
-    let more = record.len() % ROW_WORDS;
-    Case::Demarshall {
-        rows: vec![record.len() as u64; ROW_WORDS * rows + more],
-        grammar,
-        record,
+    match rows {
+        Rows::Lent(rows) => {
+            let more = record.len() % ROW_WORDS;
+            Case::Demarshall {
+                rows: vec![record.len() as u64; ROW_WORDS * rows + more],
+                grammar,
+                record,
+            }
+        }
+        Rows::Named(capacity) => Case::CheckWholeWith {
+            grammar,
+            record,
+            capacity,
+        },
+        Rows::NotNamed => Case::CheckWhole { grammar, record },
     }
 }
 
@@ -74,9 +102,10 @@ fn assert_refused_with_9(case: &Case, byte: usize) {
     }
 }
 
-/// A record that is accepted whole, with words for as many rows as its value has, for up to two more
-/// and as a check; and its front parts of these lengths, each refused with 9 at the byte where the
-/// value starts that lacks bytes.
+/// A record that is accepted whole, with words for as many rows as its value has and for up to two
+/// more, and as a check with as many, two more and the most there can be named, and with none named
+/// where 1,024 are enough; and its front parts of these lengths, each refused with 9 at the byte where
+/// the value starts that lacks bytes.
 fn assert_cuts(
     grammar: &[u32],
     record: &[u8],
@@ -84,8 +113,11 @@ fn assert_cuts(
     met: &mut Met,
 ) {
     let Value { rows, n, .. } = Value::read(grammar, record);
-    let capacities = [Some(n), Some(n + 1), Some(n + 2), None];
-    for capacity in capacities {
+    let lent = [n, n + 1, n + 2].map(Rows::Lent);
+    let named = [n, n + 2, usize::MAX].map(Rows::Named);
+    let not_named = (n <= CHECK_ROWS).then_some(Rows::NotNamed);
+    let capacities: Vec<Rows> = lent.into_iter().chain(named).chain(not_named).collect();
+    for &capacity in &capacities {
         let answer = reading(grammar, record, capacity).compare().answer;
         let expected = vec![n as u64, record.len() as u64];
         assert_eq!(answer, Answer::Accepted(expected));
@@ -94,7 +126,7 @@ fn assert_cuts(
     assert_eq!(own.last().map(|own| own.end), Some(record.len()));
     for length in lengths {
         let (cut, lacking) = cut_to(length, &own);
-        for capacity in capacities {
+        for &capacity in &capacities {
             let case = reading(grammar, &record[..length], capacity);
             assert_refused_with_9(&case, lacking.start);
             met.readings += 1;
@@ -171,14 +203,16 @@ fn counted(count: u64, behind: &[u8]) -> Vec<u8> {
 }
 
 /// The answer to a whole reading, by both: the five words of the C answer.
-fn answer(grammar: &[u32], record: &[u8], rows: Option<usize>) -> [u64; 5] {
+fn answer(grammar: &[u32], record: &[u8], rows: Rows) -> [u64; 5] {
     reading(grammar, record, rows).compare().answer.c_words()
 }
 
 #[test]
 fn example_a_at_each_length() {
     let (grammar, record) = example_a();
-    for rows in [Some(3), Some(4), Some(100), Some(MAX_ROWS), None] {
+    let lent = [3, 4, 100, MAX_ROWS].map(Rows::Lent);
+    let named = [3, 4, CHECK_ROWS, usize::MAX].map(Rows::Named);
+    for rows in lent.into_iter().chain(named).chain([Rows::NotNamed]) {
         for length in 0..14 {
             let byte = if length < 4 { 0 } else { 4 };
             let expected = [9, 2, byte, 0, 0];
@@ -202,7 +236,12 @@ fn mix_at_each_length() {
     let grammar = table(&nodes, &[1, 2, 3, 4, 5]);
     let unions = [counted(0, &[]), counted(1, &counted(258, &[]))].concat();
     let record = [counted(2, &unions), counted(1, &[0x5a])].concat();
-    for rows in [Some(7), Some(MAX_ROWS), None] {
+    for rows in [
+        Rows::Lent(7),
+        Rows::Lent(MAX_ROWS),
+        Rows::Named(7),
+        Rows::NotNamed,
+    ] {
         for length in 0..41 {
             let byte = [0, 8, 16, 24, 32][(length / 8).min(4)];
             let expected = [9, 2, byte, 0, 0];
@@ -217,13 +256,13 @@ fn mix_at_each_length() {
 #[test]
 fn constants() {
     let (array, three) = (example_c(), counted(3, &[]));
-    for rows in [Some(4), Some(5), None] {
+    for rows in [Rows::Lent(4), Rows::Lent(5), Rows::Named(4), Rows::NotNamed] {
         for length in 0..8 {
             assert_eq!(answer(&array, &three[..length], rows), [9, 2, 0, 0, 0]);
         }
         assert_eq!(answer(&array, &three, rows), [0, 0, 0, 4, 8]);
     }
-    for rows in [Some(1), None] {
+    for rows in [Rows::Lent(1), Rows::Named(1), Rows::NotNamed] {
         assert_eq!(answer(&leaf(0), &[], rows), [0, 0, 0, 1, 0]);
     }
 }
@@ -234,8 +273,32 @@ fn a_record_that_is_not_accepted() {
     let (grammar, record) = example_a();
     for (length, expected) in [(14, [8, 4]), (4, [8, 4]), (3, [9, 0])] {
         let [number, byte] = expected;
-        let answer = answer(&grammar, &record[..length], Some(2));
-        assert_eq!(answer, [number, 2, byte, 0, 0]);
+        for rows in [Rows::Lent(2), Rows::Named(2)] {
+            let answer = answer(&grammar, &record[..length], rows);
+            assert_eq!(answer, [number, 2, byte, 0, 0]);
+        }
+    }
+}
+
+/// A record of 1,025 rows and its front part without the last number: a check for which no capacity
+/// is named refuses both with 8, where that number finds no row, and one of 1,025 refuses the front
+/// part with 9.
+#[test]
+fn a_record_of_more_rows_than_a_check_has() {
+    let nodes = [[4, 0, 2], [3, 2, 1], [1, 0, 0], [0, 0, 0]];
+    let grammar = table(&nodes, &[1, 2, 3]);
+    let record = counted(CHECK_ROWS as u64 - 2, &[7, 0, 0, 0]);
+    let rows = CHECK_ROWS as u64 + 1;
+    for (rows, expected) in [
+        (Rows::NotNamed, [[8, 2, 8, 0, 0]; 2]),
+        (Rows::Named(CHECK_ROWS), [[8, 2, 8, 0, 0]; 2]),
+        (
+            Rows::Named(CHECK_ROWS + 1),
+            [[0, 0, 0, rows, 12], [9, 2, 8, 0, 0]],
+        ),
+    ] {
+        let answers = [12, 8].map(|length| answer(&grammar, &record[..length], rows));
+        assert_eq!(answers, expected, "{rows:?}");
     }
 }
 
@@ -244,7 +307,7 @@ fn a_record_that_is_not_accepted() {
 #[test]
 fn a_9_of_another_cause() {
     let union = leaf(8);
-    for rows in [Some(1), Some(2), None] {
+    for rows in [Rows::Lent(1), Rows::Lent(2), Rows::Named(1), Rows::NotNamed] {
         assert_eq!(answer(&union, &[], rows), [9, 2, 0, 0, 0]);
         for length in 1..=20 {
             let number = if length < 8 { 9 } else { 10 };
@@ -252,8 +315,8 @@ fn a_9_of_another_cause() {
         }
         let field = table(&[[4, 0, 2], [1, 0, 0], [8, 0, 0]], &[1, 2]);
         for (length, expected) in [(0, [9, 0]), (4, [9, 4]), (12, [10, 4])] {
-            let ([number, byte], rows) = (expected, rows.map(|rows| rows + 2));
-            let answer = answer(&field, &vec![0; length], rows);
+            let [number, byte] = expected;
+            let answer = answer(&field, &vec![0; length], rows.and(2));
             assert_eq!(answer, [number, 2, byte, 0, 0]);
         }
         for length in [8, 12, MAX_BYTES] {
@@ -270,11 +333,17 @@ fn readings_from_an_index() {
     let bytes = [7, 0, 0, 0, 1, 2, 3, 4, 5];
     for length in [9, 5] {
         let (grammar, record, index) = (leaf(1), bytes[..length].to_vec(), 0);
-        assert_eq!(answer(&grammar, &record, Some(1)), [11, 2, 4, 0, 0]);
+        assert_eq!(answer(&grammar, &record, Rows::Lent(1)), [11, 2, 4, 0, 0]);
         let check = Case::CheckVal {
             grammar: grammar.clone(),
             record: record.clone(),
             index,
+        };
+        let named = Case::CheckValWith {
+            grammar: grammar.clone(),
+            record: record.clone(),
+            index,
+            capacity: 1,
         };
         let lent = Case::ParseVal {
             grammar,
@@ -282,7 +351,7 @@ fn readings_from_an_index() {
             index,
             rows: vec![99; ROW_WORDS],
         };
-        for case in [check, lent] {
+        for case in [check, named, lent] {
             assert_eq!(case.compare().answer, Answer::Accepted(vec![1, 4]));
         }
     }

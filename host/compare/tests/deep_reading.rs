@@ -23,15 +23,18 @@ fn on_small_stack<T: Send>(work: impl FnOnce() -> T + Send) -> T {
     })
 }
 
-/// The library's answers, with rows and as a check, whether the record is the same route as itself,
-/// and which grammar of a list accepts it: the grammar stands behind a union without cases.
-fn answers(grammar: &[u32], record: &[u8]) -> ([Answer; 2], SameRoute, Choice) {
+/// The library's answers, with rows and as a check without and with a capacity named, whether the
+/// record is the same route as itself, and which grammar of a list accepts it: the grammar stands
+/// behind a union without cases.
+fn answers(grammar: &[u32], record: &[u8]) -> ([Answer; 3], SameRoute, Choice) {
     let mut words = vec![0; 4 * 256];
     let lent = calls::demarshall(grammar, record, &mut words);
     let check = calls::check_whole(grammar, record);
+    let named = calls::check_whole_with(grammar, record, 256);
     let same = calls::same_route(grammar, record, record);
     let list = grammar_list(&[&leaf(8)[..], grammar]);
-    ([lent, check], same, calls::choose_grammar(&list, record))
+    let readings = [lent, check, named];
+    (readings, same, calls::choose_grammar(&list, record))
 }
 
 /// The answers to a chain of this kind, each value of which begins with these bytes, on the small
@@ -63,7 +66,7 @@ fn compare_chain(kind: u32, own: &[u8]) {
         let chosen = expected.map(|_| Chosen { number, begun });
         let (number, place) = (22, Place::Byte(0));
         let chosen = chosen.map_err(|_| Refusal { number, place });
-        assert_eq!(answers, ([expected; 2], same, chosen));
+        assert_eq!(answers, ([expected; 3], same, chosen));
     }
 }
 

@@ -422,6 +422,12 @@ fn readings_of_every_length_and_capacity() {
     assert_eq!(accepted(lengths), 1);
     let words = (0..=78).map(|words| reading(&grammar, &record, words));
     assert_eq!(accepted(words), 11);
+    let capacities = (0..=20).map(|capacity| Case::CheckWholeWith {
+        grammar: grammar.clone(),
+        record: record.clone(),
+        capacity,
+    });
+    assert_eq!(accepted(capacities), 4);
     let slices = (0..=record.len()).map(|length| {
         // A comparison copies the record; here the bytes cut off stand behind it.
         let cut = &record[..length];
@@ -442,13 +448,22 @@ fn readings_from_every_index() {
     let record = [&[7; 3], &record[..], &[7; 3]].concat();
     let far = [1 << 20, 1 << 32, 1 << 63, usize::MAX - 7, usize::MAX];
     let indices = (0..=record.len() + 2).chain(far);
-    let cases = indices.map(|index| Case::ParseVal {
+    let cases = indices.clone().map(|index| Case::ParseVal {
         grammar: grammar.clone(),
         record: record.clone(),
         index,
         rows: vec![99; 72],
     });
     assert_eq!(accepted(cases), 1);
+    for (capacity, count) in [(0, 0), (16, 0), (17, 1), (usize::MAX, 1)] {
+        let cases = indices.clone().map(|index| Case::CheckValWith {
+            grammar: grammar.clone(),
+            record: record.clone(),
+            index,
+            capacity,
+        });
+        assert_eq!(accepted(cases), count, "{capacity}");
+    }
 }
 
 /// The record with each of its bytes made each other one: the bytes of numbers and of elements may

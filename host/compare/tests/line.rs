@@ -68,6 +68,25 @@ fn texts() {
         text(reading),
         r#"{"name": "a name", "call": "demarshall", "grammar": ["2", "3 0 1", "0 0 0", "1", "1"], "record": ["0600000000000000"], "rows": [{"repeat": "99 99 99 99", "times": 7}, "99"], "accepted": {"row_count": "7", "rest_index": "8"}, "rows_after": ["3 7 6 0", {"repeat": "0 1 0 0", "times": 6}, "99"]}"#
     );
+    let check = Case::CheckValWith {
+        grammar: leaf(0),
+        record: vec![0],
+        index: 1,
+        capacity: 0,
+    };
+    assert_eq!(
+        text(check),
+        r#"{"name": "a name", "call": "check_val_with", "grammar": ["1", "0 0 0", "0"], "record": ["00"], "index": "1", "capacity": "0", "refused": {"number": 8, "place": "byte", "at": "1"}}"#
+    );
+    let check = Case::CheckWholeWith {
+        grammar: leaf(0),
+        record: vec![],
+        capacity: usize::MAX,
+    };
+    assert_eq!(
+        text(check),
+        r#"{"name": "a name", "call": "check_whole_with", "grammar": ["1", "0 0 0", "0"], "record": [], "capacity": "18446744073709551615", "accepted": {"row_count": "1", "rest_index": "0"}}"#
+    );
     assert_eq!(
         text(signed_number(4_294_967_293)),
         r#"{"name": "a name", "call": "signed_number", "rows": ["9 1 4294967293 0"], "n": "1", "store": [], "row": "0", "accepted": {"number": "-3"}}"#

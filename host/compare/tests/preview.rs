@@ -163,7 +163,7 @@ fn random_cases() {
     let mut random = Random::new(73);
     let mut met = Met::default();
     on_large_stack(|| {
-        for _ in 0..30_000 {
+        for _ in 0..33_000 {
             let case = Case::random(&mut random);
             let Case::Preview {
                 grammar,

@@ -3,8 +3,8 @@
 use std::process::{Command, Output};
 
 use compare::{grammar_list, grammars_of, run};
-use compare::{Answer, Answers, Case, Difference, Outcome, Value};
-use route_record::{Place, Refusal, ROW_WORDS};
+use compare::{Answer, Answers, Case, Difference, Outcome, Random, Value};
+use route_record::{Place, Refusal, CHECK_ROWS, MAX_ROWS, ROW_WORDS};
 
 /// The answers of a run of so many cases.
 fn run_cases(seed: u64, cases: u64) -> Answers {
@@ -23,7 +23,7 @@ fn run_cases(seed: u64, cases: u64) -> Answers {
 /// Every call gives every answer that it can give, and no other.
 #[test]
 fn each_call_gives_each_of_its_answers() {
-    let answers = run_cases(1, 20_000);
+    let answers = run_cases(1, 22_000);
     let mut total = 0;
     for blank in Case::blanks() {
         for &number in blank.answer_numbers() {
@@ -179,17 +179,17 @@ type Choice = fn(&[Vec<u32>], &[u8], [u64; 2]) -> [u64; 2];
 /// and those of all tries but the first.
 const FALSE_CHOICES: [Choice; 5] = [
     |grammars, record, [_, begun]| {
-        let accepts = |grammar: &Vec<u32>| model::check_whole(grammar, record).is_ok();
+        let accepts = |grammar: &Vec<u32>| model::demarshall(grammar, record, MAX_ROWS).is_ok();
         let last = grammars.iter().rposition(accepts).expect("one accepts");
         [last as u64, begun]
     },
     |grammars, record, [_, begun]| {
-        let refuses = |grammar: &&Vec<u32>| model::check_whole(grammar, record).is_err();
+        let refuses = |grammar: &&Vec<u32>| model::demarshall(grammar, record, MAX_ROWS).is_err();
         [grammars.iter().filter(refuses).count() as u64, begun]
     },
     |grammars, record, [number, _]| {
         let grammar = &grammars[number as usize];
-        let reading = model::check_whole(grammar, record).expect("it accepts");
+        let reading = model::demarshall(grammar, record, MAX_ROWS).expect("it accepts");
         [number, (reading.rows.len() / ROW_WORDS) as u64]
     },
     |_, _, [number, _]| [number, number + 1],
@@ -247,6 +247,91 @@ fn a_late_check_of_a_grammar_is_found_out() {
     assert_eq!(difference.case.call(), "choose_grammar");
 }
 
+/// A check's capacity by the one that is named, if there is one.
+type Capacity = fn(Option<usize>) -> usize;
+
+/// Capacities that are not 1,024 where none is named, else the one named, or 4,096 where that is
+/// larger. The first three err where none is named. Of a capacity named, 0 is taken for 1, for none
+/// named or for the most, 1 for 0; it is 1,024 or 4,095 at most, or 0 where it is above 4,096; and it
+/// is held in 16 or 32 bits, or in a signed number of 32 or 64.
+const FALSE_CAPACITIES: [Capacity; 14] = [
+    |named| named.unwrap_or(MAX_ROWS),
+    |named| named.unwrap_or(CHECK_ROWS + 1),
+    |named| named.unwrap_or(CHECK_ROWS - 1),
+    |named| named.map_or(CHECK_ROWS, |named| named.max(1)),
+    |named| named.filter(|&named| named > 0).unwrap_or(CHECK_ROWS),
+    |named| {
+        named.map_or(
+            CHECK_ROWS,
+            |named| if named == 0 { MAX_ROWS } else { named },
+        )
+    },
+    |named| named.map_or(CHECK_ROWS, |named| if named == 1 { 0 } else { named }),
+    |named| named.map_or(CHECK_ROWS, |named| named.min(CHECK_ROWS)),
+    |named| named.map_or(CHECK_ROWS, |named| named.min(MAX_ROWS - 1)),
+    |named| named.map_or(CHECK_ROWS, |named| if named > MAX_ROWS { 0 } else { named }),
+    |named| named.map_or(CHECK_ROWS, |named| named % (1 << 16)),
+    |named| named.map_or(CHECK_ROWS, |named| named % (1 << 32)),
+    |named| named.map_or(CHECK_ROWS, |named| (named as i32).max(0) as usize),
+    |named| named.map_or(CHECK_ROWS, |named| (named as i64).max(0) as usize),
+];
+
+/// The check of this case with another capacity, if it is a check.
+fn with_capacity(case: &Case, capacity: Capacity) -> Option<Case> {
+    let (grammar, record, index, named) = match case.clone() {
+        Case::CheckVal {
+            grammar,
+            record,
+            index,
+        } => (grammar, record, Some(index), None),
+        Case::CheckValWith {
+            grammar,
+            record,
+            index,
+            capacity,
+        } => (grammar, record, Some(index), Some(capacity)),
+        Case::CheckWhole { grammar, record } => (grammar, record, None, None),
+        Case::CheckWholeWith {
+            grammar,
+            record,
+            capacity,
+        } => (grammar, record, None, Some(capacity)),
+        _ => return None,
+    };
+    let capacity = capacity(named);
+    Some(match index {
+        Some(index) => Case::CheckValWith {
+            grammar,
+            record,
+            index,
+            capacity,
+        },
+        None => Case::CheckWholeWith {
+            grammar,
+            record,
+            capacity,
+        },
+    })
+}
+
+/// Among random cases of the checks, from an index and of whole records, there are some that a check
+/// with each false capacity answers otherwise.
+#[test]
+fn a_false_capacity_is_found_out() {
+    let mut random = Random::new(13);
+    let cases: Vec<Case> = (0..20_000).map(|_| Case::random(&mut random)).collect();
+    for (number, capacity) in FALSE_CAPACITIES.into_iter().enumerate() {
+        for call in ["check_val", "check_whole"] {
+            let of_call = cases.iter().filter(|case| case.call().starts_with(call));
+            let mut others =
+                of_call.filter_map(|case| Some((case, with_capacity(case, capacity)?)));
+            let is_found_out =
+                others.any(|(case, other)| other.of_library().answer != case.of_model().answer);
+            assert!(is_found_out, "{call} with capacity {number} of the list");
+        }
+    }
+}
+
 /// Answers that are wrong of every proper front part of an accepted record: accepted, refused with
 /// another number, and with 9 at a byte that no record has.
 fn false_answers() -> [Answer; 5] {
@@ -264,36 +349,48 @@ fn false_answers() -> [Answer; 5] {
     ]
 }
 
+/// The record of a check of a whole one, of this call.
+fn checked_record<'a>(case: &'a Case, call: &str) -> Option<&'a [u8]> {
+    match case {
+        Case::CheckWhole { record, .. } | Case::CheckWholeWith { record, .. } => {
+            (case.call() == call).then_some(record)
+        }
+        _ => None,
+    }
+}
+
 /// A library that answers every check of a whole record as the model does, but that of the front
 /// part beside an accepted one falsely, is found out.
+fn assert_false_front_part_is_found_out(call: &str, answer: &Answer) {
+    let library = |case: &Case| match checked_record(case, call) {
+        Some(record) => Outcome::by(case, |called| match checked_record(called, call) {
+            Some(part) if part.len() < record.len() => answer.clone(),
+            _ => called.of_model().answer,
+        }),
+        None => case.of_library(),
+    };
+    let difference = difference(10, library, 1_000);
+    let record = checked_record(&difference.case, call).expect("a check of a whole record");
+    assert!((1..=8).contains(&record.len()), "{record:?}");
+    assert_eq!(difference.model.answer, difference.library.answer);
+    let front = difference.library.unsound_front().expect("a front part");
+    assert_eq!(front.library.answer, *answer);
+    assert!(front.model.is_refused_with_9(&front.case));
+    let text = difference.to_string();
+    let lines: Vec<&str> = text.lines().collect();
+    assert_eq!(lines.len(), 5, "{text}");
+    assert_eq!(
+        lines[2],
+        "a front part of the record, to be refused with 9:"
+    );
+}
+
 #[test]
 fn a_false_answer_to_a_front_part_is_found_out() {
-    for answer in false_answers() {
-        let library = |case: &Case| match case {
-            Case::CheckWhole { record, .. } => Outcome::by(case, |called| match called {
-                Case::CheckWhole { record: part, .. } if part.len() < record.len() => {
-                    answer.clone()
-                }
-                called => called.of_model().answer,
-            }),
-            _ => case.of_library(),
-        };
-        let difference = difference(10, library, 1_000);
-        let Case::CheckWhole { record, .. } = &difference.case else {
-            panic!("a check of a whole record");
-        };
-        assert!((1..=8).contains(&record.len()), "{record:?}");
-        assert_eq!(difference.model.answer, difference.library.answer);
-        let front = difference.library.unsound_front().expect("a front part");
-        assert_eq!(front.library.answer, answer);
-        assert!(front.model.is_refused_with_9(&front.case));
-        let text = difference.to_string();
-        let lines: Vec<&str> = text.lines().collect();
-        assert_eq!(lines.len(), 5, "{text}");
-        assert_eq!(
-            lines[2],
-            "a front part of the record, to be refused with 9:"
-        );
+    for call in ["check_whole", "check_whole_with"] {
+        for answer in false_answers() {
+            assert_false_front_part_is_found_out(call, &answer);
+        }
     }
 }
 

@@ -97,7 +97,7 @@ fn random_cases() {
     let mut met = Met::default();
     let (mut with_most_rows, mut too_many_rows) = (0, [0; 3]);
     on_large_stack(|| {
-        for _ in 0..20_000 {
+        for _ in 0..26_000 {
             let case = Case::random(&mut random);
             let Case::SameRoute {
                 grammar,
@@ -110,8 +110,9 @@ fn random_cases() {
             match case.compare().answer {
                 Answer::Accepted(same) => {
                     met.add(grammar, first, second, same[0] == 1);
-                    let reading = model::check_whole(grammar, first).expect("a sound record");
-                    let is_full = reading.rows.len() == ROW_WORDS * MAX_ROWS;
+                    let reading = model::demarshall(grammar, first, MAX_ROWS);
+                    let rows = reading.expect("a sound record").rows;
+                    let is_full = rows.len() == ROW_WORDS * MAX_ROWS;
                     let has_field = root_kinds(grammar).1.is_some();
                     with_most_rows += usize::from(is_full && has_field);
                 }

@@ -2,10 +2,10 @@
 
 use std::hash::{DefaultHasher, Hash, Hasher};
 
-use route_record::{Place, Refusal, MAX_BYTES, MAX_GRAMMARS, MAX_ROWS, ROW_WORDS};
+use route_record::{Place, Refusal, CHECK_ROWS, MAX_BYTES, MAX_GRAMMARS, MAX_ROWS, ROW_WORDS};
 
 use compare::{grammar_list, leaf, shrink, Answer, Case, Field, Outcome, Random, Record, RowTable};
-use compare::{Table, Value};
+use compare::{table, Table, Value};
 
 /// A library that answers as the model does, but for an error.
 type Library = fn(&Case) -> Outcome;
@@ -57,6 +57,63 @@ fn records_and_grammars() {
             rows: vec![0; 4],
         };
         assert_eq!(smallest(accepts_bytes_left_over, &large), expected);
+    }
+}
+
+/// The error of taking 0 for no capacity named.
+fn takes_0_for_none_named(case: &Case) -> Outcome {
+    match case.clone() {
+        Case::CheckWholeWith {
+            grammar,
+            record,
+            capacity: 0,
+        } => {
+            let none_named = Case::CheckWhole { grammar, record };
+            Outcome::with(none_named.of_model().answer, case)
+        }
+        _ => case.of_model(),
+    }
+}
+
+/// The error of reading with 1,024 rows at most.
+fn reads_1_024_rows_at_most(case: &Case) -> Outcome {
+    let mut lower = case.clone();
+    if let Case::CheckWholeWith { capacity, .. } = &mut lower {
+        *capacity = (*capacity).min(CHECK_ROWS);
+    }
+    Outcome::with(lower.of_model().answer, case)
+}
+
+/// A capacity becomes as low as it can be, together with the rest.
+#[test]
+fn capacities() {
+    for seed in 0..3 {
+        let (grammar, record) = large_record(&mut Random::new(seed));
+        let large = Case::CheckWholeWith {
+            grammar,
+            record,
+            capacity: 0,
+        };
+        let Case::CheckWholeWith {
+            grammar,
+            record,
+            capacity: 0,
+        } = smallest(takes_0_for_none_named, &large)
+        else {
+            panic!("a check with capacity 0");
+        };
+        assert_eq!((grammar, record), (leaf(0), vec![]));
+    }
+    let constants = table(&[[3, 0, 1], [0, 0, 0]], &[1]);
+    for (count, capacity) in [(2_000, MAX_ROWS), (4_095, usize::MAX), (1_500, 1 << 40)] {
+        let check = |count: u64, capacity| Case::CheckWholeWith {
+            grammar: constants.clone(),
+            record: count.to_le_bytes().to_vec(),
+            capacity,
+        };
+        let expected = check(CHECK_ROWS as u64, CHECK_ROWS + 1);
+        let large = check(count, capacity);
+        assert_eq!(smallest(reads_1_024_rows_at_most, &large), expected);
     }
 }
 

@@ -8,6 +8,9 @@ use crate::packed::unpack;
 use crate::refusal::{at_byte, Refusal};
 use crate::rows::{check_length, Elements, MOST_ROWS, V};
 
+/// The rows of a check for which no capacity is named.
+const CHECK_ROWS: usize = 1024;
+
 /// An accepted reading.
 #[derive(Clone, Debug, PartialEq, Eq)]
 pub struct Reading {
@@ -17,9 +20,14 @@ pub struct Reading {
     pub rest_index: usize,
 }
 
+/// The capacity in force, in rows, where this one is named.
+fn in_force(named: usize) -> usize {
+    MOST_ROWS.min(named)
+}
+
 /// The capacity, in rows, of a slice of this many words.
 pub fn capacity(words: usize) -> usize {
-    MOST_ROWS.min(words / 4)
+    in_force(words / 4)
 }
 
 /// A reader of values: the table of a checked grammar, the record, the next byte to read, the
@@ -219,12 +227,33 @@ pub fn demarshall(grammar: &[u32], record: &[u8], capacity: usize) -> Result<Rea
     })
 }
 
-/// Reads as [`parse_val`] with the largest capacity does: the check, which is lent no rows.
-pub fn check_val(grammar: &[u32], record: &[u8], index: usize) -> Result<Reading, Refusal> {
-    parse_val(grammar, record, index, MOST_ROWS)
+/// Reads as [`parse_val`] does with the capacity named, or with 4,096 where that is larger: the
+/// check, which is lent no rows.
+pub fn check_val_with(
+    grammar: &[u32],
+    record: &[u8],
+    index: usize,
+    capacity: usize,
+) -> Result<Reading, Refusal> {
+    parse_val(grammar, record, index, in_force(capacity))
 }
 
-/// Reads as [`demarshall`] with the largest capacity does: the check, which is lent no rows.
+/// Reads as [`demarshall`] does with the capacity named, or with 4,096 where that is larger: the
+/// check, which is lent no rows.
+pub fn check_whole_with(
+    grammar: &[u32],
+    record: &[u8],
+    capacity: usize,
+) -> Result<Reading, Refusal> {
+    demarshall(grammar, record, in_force(capacity))
+}
+
+/// [`check_val_with`] where no capacity is named, which is one of 1,024.
+pub fn check_val(grammar: &[u32], record: &[u8], index: usize) -> Result<Reading, Refusal> {
+    check_val_with(grammar, record, index, CHECK_ROWS)
+}
+
+/// [`check_whole_with`] where no capacity is named, which is one of 1,024.
 pub fn check_whole(grammar: &[u32], record: &[u8]) -> Result<Reading, Refusal> {
-    demarshall(grammar, record, MOST_ROWS)
+    check_whole_with(grammar, record, CHECK_ROWS)
 }

@@ -84,6 +84,14 @@ pub fn check_whole(grammar: &[u32], record: &[u8]) -> Answer {
     read(calls::check_whole(grammar, record))
 }
 
+pub fn check_val_with(grammar: &[u32], record: &[u8], index: usize, capacity: usize) -> Answer {
+    read(calls::check_val_with(grammar, record, index, capacity))
+}
+
+pub fn check_whole_with(grammar: &[u32], record: &[u8], capacity: usize) -> Answer {
+    read(calls::check_whole_with(grammar, record, capacity))
+}
+
 pub fn marshall_val(
     grammar: &[u32],
     rows: &[u64],

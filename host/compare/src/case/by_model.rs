@@ -106,12 +106,25 @@ pub fn demarshall(grammar: &[u32], record: &[u8], rows: &mut [u64]) -> Answer {
     read(rows, model::demarshall(grammar, record, capacity))
 }
 
+/// The answer of a check.
+fn check(reading: Result<Reading, Refusal>) -> Answer {
+    answer(reading.map(|reading| counts(&reading)))
+}
+
 pub fn check_val(grammar: &[u32], record: &[u8], index: usize) -> Answer {
-    answer(model::check_val(grammar, record, index).map(|reading| counts(&reading)))
+    check(model::check_val(grammar, record, index))
 }
 
 pub fn check_whole(grammar: &[u32], record: &[u8]) -> Answer {
-    answer(model::check_whole(grammar, record).map(|reading| counts(&reading)))
+    check(model::check_whole(grammar, record))
+}
+
+pub fn check_val_with(grammar: &[u32], record: &[u8], index: usize, capacity: usize) -> Answer {
+    check(model::check_val_with(grammar, record, index, capacity))
+}
+
+pub fn check_whole_with(grammar: &[u32], record: &[u8], capacity: usize) -> Answer {
+    check(model::check_whole_with(grammar, record, capacity))
 }
 
 /// The answer of a writing, whose output is put into the lent one.

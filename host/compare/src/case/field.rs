@@ -5,7 +5,7 @@
 pub enum Field<'a> {
     Uint32(&'a mut u32),
     Uint64(&'a mut u64),
-    /// An index, a row number or a row count.
+    /// An index, a row number, a row count or a capacity.
     Size(&'a mut usize),
     Bytes(&'a mut Vec<u8>),
     Uint32s(&'a mut Vec<u32>),

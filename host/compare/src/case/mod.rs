@@ -118,6 +118,11 @@ cases! {
         lends [] gives [row_count, rest_index];
     CheckWhole check_whole { grammar: Vec<u32>, record: Vec<u8> }
         lends [] gives [row_count, rest_index];
+    CheckValWith check_val_with {
+        grammar: Vec<u32>, record: Vec<u8>, index: usize, capacity: usize
+    } lends [] gives [row_count, rest_index];
+    CheckWholeWith check_whole_with { grammar: Vec<u32>, record: Vec<u8>, capacity: usize }
+        lends [] gives [row_count, rest_index];
     MarshallVal marshall_val {
         grammar: Vec<u32>, rows: Vec<u64>, n: usize, store: Vec<u8>, out: Vec<u8>, index: usize
     } lends [out] gives [size];
@@ -152,10 +157,13 @@ impl Case {
             Case::ComputeSizeOf { .. } => &[0, 6, 12, 13, 14],
             Case::LocateArray { .. } => &[0, 6, 12, 13, 14, 18],
             Case::SignedNumber { .. } => &[0, 6, 12, 13, 14, 20],
-            Case::ParseVal { .. } | Case::CheckVal { .. } => &[0, 1, 2, 3, 4, 5, 6, 7, 8, 9, 10],
-            Case::Demarshall { .. } | Case::CheckWhole { .. } | Case::SameRoute { .. } => {
-                &[0, 1, 2, 3, 4, 5, 6, 8, 9, 10, 11]
+            Case::ParseVal { .. } | Case::CheckVal { .. } | Case::CheckValWith { .. } => {
+                &[0, 1, 2, 3, 4, 5, 6, 7, 8, 9, 10]
             }
+            Case::Demarshall { .. }
+            | Case::CheckWhole { .. }
+            | Case::CheckWholeWith { .. }
+            | Case::SameRoute { .. } => &[0, 1, 2, 3, 4, 5, 6, 8, 9, 10, 11],
             Case::MarshallVal { .. } | Case::Marshall { .. } | Case::Preview { .. } => {
                 &[0, 1, 2, 3, 4, 5, 6, 12, 13, 14, 15, 16, 17]
             }
@@ -186,7 +194,10 @@ impl Case {
     /// record is not empty. The length is random, and the same for equal records.
     pub fn front_part(&self) -> Option<Case> {
         let mut front = self.clone();
-        let (Case::Demarshall { record, .. } | Case::CheckWhole { record, .. }) = &mut front else {
+        let (Case::Demarshall { record, .. }
+        | Case::CheckWhole { record, .. }
+        | Case::CheckWholeWith { record, .. }) = &mut front
+        else {
             return None;
         };
         let longest = record.len().checked_sub(1)?;

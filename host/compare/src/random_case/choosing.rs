@@ -41,7 +41,7 @@ fn grammars(random: &mut Random) -> (Vec<Vec<u32>>, Vec<u8>) {
     let mut words: Vec<Vec<u32>> = tables.iter().map(Table::words).collect();
     if random.below(2) == 0 {
         for before in &mut words[..place] {
-            if model::check_whole(before, &bytes).is_ok() {
+            if model::demarshall(before, &bytes, MAX_ROWS).is_ok() {
                 *before = leaf(8);
             }
         }

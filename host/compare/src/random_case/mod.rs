@@ -14,15 +14,15 @@ impl Case {
     /// A random case of any call. The calls on grammars, rows and records come more often than the
     /// packers and unpackers, which have fewer answers.
     pub fn random(random: &mut Random) -> Case {
-        match random.below(47) {
+        match random.below(51) {
             0..4 => packed(random, &U32),
             4..8 => packed(random, &U64),
             8..11 => check_grammar(random),
             11..20 => on_rows(random),
-            20..29 => reading::case(random),
-            29..35 => writing::case(random),
-            35..39 => preview::case(random),
-            39..43 => same_route::case(random),
+            20..33 => reading::case(random),
+            33..39 => writing::case(random),
+            39..43 => preview::case(random),
+            43..47 => same_route::case(random),
             _ => choosing::case(random),
         }
     }

@@ -1,6 +1,6 @@
 //! Random cases of the writers.
 
-use route_record::MAX_BYTES;
+use route_record::{MAX_BYTES, MAX_ROWS};
 
 use crate::{Case, Random, RowInput, RowTable, Table, Value};
 
@@ -25,7 +25,7 @@ fn any_value(random: &mut Random) -> Input {
         Err(_) => None,
     };
     let reading = record.map(|record| {
-        let reading = model::check_whole(&words, &record.bytes);
+        let reading = model::demarshall(&words, &record.bytes, MAX_ROWS);
         RowTable::of(&reading.expect("a sound record").rows, record.bytes)
     });
     let mut rows = reading.unwrap_or_else(|| row_table(random));
