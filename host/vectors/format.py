@@ -1,10 +1,10 @@
 """Runs the Python text of docs/FORMAT.md over the test vectors: `python3 host/vectors/format.py`.
 
-The check of grammars, the readings, the check of row tables, the size, the signed number, the
-writers, preview, same route and the chooser answer as each line says. Preview also answers as each
-line of `marshall_val` says that writing does, and preview, same route and the chooser as each row
-of the page's own tables says. Prints a line for each failure, the number of lines of each call and,
-last, 'N passed, M failed'.
+The check of grammars, the readings and their checks, the check of row tables, the size, the signed
+number, the writers, preview, same route and the chooser answer as each line says. Preview also
+answers as each line of `marshall_val` says that writing does, and the checks, preview, same route
+and the chooser as each row of the page's own tables says. Prints a line for each failure, the number
+of lines of each call and, last, 'N passed, M failed'.
 """
 
 import collections
@@ -51,16 +51,22 @@ def check_grammar(line):
 
 
 def read(line):
-    index = int(line.get("index", 0))
-    lent = words(line, "rows") if "rows" in line else []
-    capacity = len(lent) // 4 if "rows" in line else 4096
-    whole = line["call"] in ("demarshall", "check_whole")
+    index, whole = int(line.get("index", 0)), line["call"] == "demarshall"
+    lent = words(line, "rows")
     grammar, record = words(line, "grammar"), data(line, "record")
-    rows, rest_index = page["read"](grammar, record, index, capacity, whole)
+    rows, rest_index = page["read"](grammar, record, index, len(lent) // 4, whole)
     filled = [word for row in rows for word in row]
     if "rows_after" in line and filled + lent[len(filled):] != words(line, "rows_after"):
         return False
     return line.get("accepted") == {"row_count": str(len(rows)), "rest_index": str(rest_index)}
+
+
+def check(line):
+    index, whole = int(line.get("index", 0)), "index" not in line
+    named = {"capacity": int(line["capacity"])} if "capacity" in line else {}
+    grammar, record = words(line, "grammar"), data(line, "record")
+    n, rest_index = page["check"](grammar, record, index, whole, **named)
+    return line.get("accepted") == {"row_count": str(n), "rest_index": str(rest_index)}
 
 
 def compute_size_of(line):
@@ -114,8 +120,11 @@ CALLS = {
     "check_grammar": check_grammar,
     "parse_val": read,
     "demarshall": read,
-    "check_val": read,
-    "check_whole": read,
+    "check_val": check,
+    "check_whole": check,
+    "check_val_with": check,
+    "check_whole_with": check,
+    "check on the page": check,
     "compute_size_of": compute_size_of,
     "locate_array": locate_array,
     "signed_number": signed_number,
@@ -155,6 +164,16 @@ def page_table(title, call):
     rows = re.search(rf"^\*\*{title}\.\*\*.*\n\n\|.*\n\|.*\n((?:\|.*\n)+)", text, re.M)[1]
     for row in rows.splitlines():
         yield {"name": row, "call": call}, [cell.strip() for cell in row.split("|")][1:-1]
+
+
+def checks_on_page():
+    for line, cells in page_table("Checks", "check on the page"):
+        named, record, index, capacities, answer, _ = cells
+        line |= {"grammar": of_name(named), "record": parts(record)}
+        line |= {} if index == "whole" else {"index": index}
+        line |= numbers_or_refusal(r"n (?P<row_count>\d+), `rest_index` (?P<rest_index>\d+)", answer)
+        for capacity in re.split(", | or ", capacities):
+            yield line if capacity == "none" else line | {"capacity": number_in(capacity)}
 
 
 def previews_on_page():
@@ -197,8 +216,16 @@ def refused_in(cell):
     return {"number": int(number), "place": place, "at": at}
 
 
+def number_in(text):
+    """A number of a cell, which may be one less than a power of two, as a line has it."""
+    power = re.fullmatch(r"2\^(\d+)−1", text)
+    return str(2 ** int(power[1]) - 1) if power else text
+
+
 def of_name(cell):
     """The grammar of a cell, its name or its words, as a line has it."""
+    if cell == "no words":
+        return []
     return listed(cell if cell.startswith("`") else GRAMMARS[cell])
 
 
@@ -232,6 +259,7 @@ def parts(cell):
 SOURCES = [
     vectors("grammar"),
     vectors("reading"),
+    checks_on_page(),
     vectors("rows"),
     vectors("signed"),
     vectors("writing"),

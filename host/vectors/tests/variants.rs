@@ -29,7 +29,7 @@ fn each_rule_finds_places() {
         ("an alternative left out", 8),
         ("another number in a pattern or constant", 80),
         ("another operator", 60),
-        ("by hand", 38),
+        ("by hand", 50),
         ("two statements exchanged", 10),
     ] {
         let found = by_rule.get(rule).copied().unwrap_or(0);
@@ -56,7 +56,7 @@ fn the_sound_model_is_not_caught() {
 
 /// Variants that no rule finds: orders, since the model has one test for three kinds, what counts
 /// for same route, what a preview and what the chooser count, other answers than 9 to a cut record,
-/// and another order and another place of the chooser's answers.
+/// another order and another place of the chooser's answers, and other capacities of a check.
 #[test]
 fn the_variants_by_hand_are_caught() {
     let variants = variants::run_by_hand().expect("a run");

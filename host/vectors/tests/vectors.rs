@@ -7,7 +7,7 @@ use std::process::Command;
 
 use compare::{grammar_list, grammars_of, on_large_stack, own_bytes, root_kinds};
 use compare::{Answer, Case, Line};
-use route_record::{Place, MAX_ROWS, ROW_WORDS};
+use route_record::{Place, CHECK_ROWS, MAX_ROWS, ROW_WORDS};
 use vectors::{check, Counts, Show, Vector, FILES};
 
 /// The lines of a committed file.
@@ -188,12 +188,11 @@ fn same_route_of_refused_records() {
         let (root, _) = root_kinds(&grammar);
         equal_bytes.extend((first == second).then_some(root));
         other_lengths.extend((first.len() != second.len()).then_some(root));
-        let number_of = |record| {
-            let grammar = grammar.clone();
-            let case = Case::CheckWhole { grammar, record };
-            case.of_model().answer.number()
+        let number_of = |record: &[u8]| match model::demarshall(&grammar, record, MAX_ROWS) {
+            Ok(_) => 0,
+            Err(refusal) => refusal.number,
         };
-        pairs.insert((number_of(first), number_of(second)));
+        pairs.insert((number_of(&first), number_of(&second)));
     }
     let numbers = [0, 6, 8, 9, 10, 11];
     let each_two = numbers.map(|one| numbers.map(|other| (one, other)));
@@ -264,7 +263,8 @@ fn choosing_behind_each_refusal() {
         };
         for grammar in &grammars {
             refusing.insert(root_kinds(grammar).0);
-            let refusal = model::check_whole(grammar, &record).expect_err("a refused try");
+            let reading = model::demarshall(grammar, &record, MAX_ROWS);
+            let refusal = reading.expect_err("a refused try");
             let how = match begun(&[grammar, &last]) - begun(&[&last]) {
                 1 => "first value",
                 2..=MAX_ROWS => "behind others",
@@ -288,13 +288,19 @@ fn whole_reading(case: &Case) -> Option<(&[u32], usize, &[u8])> {
             record,
             rows,
         } => Some((grammar, MAX_ROWS.min(rows.len() / ROW_WORDS), record)),
-        Case::CheckWhole { grammar, record } => Some((grammar, MAX_ROWS, record)),
+        Case::CheckWhole { grammar, record } => Some((grammar, CHECK_ROWS, record)),
+        Case::CheckWholeWith {
+            grammar,
+            record,
+            capacity,
+        } => Some((grammar, MAX_ROWS.min(*capacity), record)),
         _ => None,
     }
 }
 
-/// The lengths of the proper front parts of this line's record that lines read whole, under the same
-/// grammar and capacity. Each of these lines is refused with 9.
+/// The lengths of the proper front parts of this line's record that lines of the same call read,
+/// under the same grammar and capacity. Each of these lines is refused with 9, and so is each of
+/// another call.
 fn front_parts(whole: &Line, calls: &[Line]) -> BTreeSet<usize> {
     let (grammar, capacity, record) = whole_reading(&whole.case).expect("a whole reading");
     let mut lengths = BTreeSet::new();
@@ -305,7 +311,7 @@ fn front_parts(whole: &Line, calls: &[Line]) -> BTreeSet<usize> {
         let is_front_part = part.len() < record.len() && record.starts_with(part);
         if is_front_part && (of_line, rows) == (grammar, capacity) {
             assert!(line.outcome.is_refused_with_9(&line.case), "{}", line.name);
-            lengths.insert(part.len());
+            lengths.extend((line.case.call() == whole.case.call()).then_some(part.len()));
         }
     }
     lengths
@@ -329,6 +335,8 @@ fn front_parts_of_accepted_records() {
     assert_eq!(*of_c, BTreeSet::from([0, 7]));
     let of_a = &by_name["check_whole: example A"];
     assert_eq!(*of_a, BTreeSet::from([0, 3, 4, 13]));
+    let of_a = &by_name["check_whole_with: capacity 3, example A"];
+    assert_eq!(*of_a, BTreeSet::from([0, 3, 4, 13]));
     let name = "demarshall: fields of each kind";
     let line = calls.iter().find(|line| line.name == name);
     let after = line.expect(name).outcome.after();
@@ -346,6 +354,124 @@ fn front_parts_of_accepted_records() {
         }
     }
     assert_eq!(kinds, (0..=10).collect());
+}
+
+/// What a check is given.
+struct Check<'a> {
+    grammar: &'a [u32],
+    record: &'a [u8],
+    /// The index, if it is not a check of a whole record.
+    index: Option<usize>,
+    /// The capacity, if one is named.
+    named: Option<usize>,
+}
+
+/// What a case of a check is given.
+fn check_of(case: &Case) -> Option<Check<'_>> {
+    let (grammar, record, index, named) = match case {
+        Case::CheckVal {
+            grammar,
+            record,
+            index,
+        } => (grammar, record, Some(*index), None),
+        Case::CheckWhole { grammar, record } => (grammar, record, None, None),
+        Case::CheckValWith {
+            grammar,
+            record,
+            index,
+            capacity,
+        } => (grammar, record, Some(*index), Some(*capacity)),
+        Case::CheckWholeWith {
+            grammar,
+            record,
+            capacity,
+        } => (grammar, record, None, Some(*capacity)),
+        _ => return None,
+    };
+    Some(Check {
+        grammar,
+        record,
+        index,
+        named,
+    })
+}
+
+/// Each line of a check says what the model's reading gives with as many rows lent as are named,
+/// 4,096 at most, and with 1,024 where none are named.
+#[test]
+fn checks_are_readings_with_rows() {
+    let mut checks: BTreeMap<&str, usize> = BTreeMap::new();
+    let calls = calls();
+    for line in &calls {
+        let Some(check) = check_of(&line.case) else {
+            continue;
+        };
+        let rows = check.named.unwrap_or(CHECK_ROWS).min(MAX_ROWS);
+        let rows = vec![99; ROW_WORDS * rows];
+        let (grammar, record) = (check.grammar.to_vec(), check.record.to_vec());
+        let lent = match check.index {
+            Some(index) => Case::ParseVal {
+                grammar,
+                record,
+                index,
+                rows,
+            },
+            None => Case::Demarshall {
+                grammar,
+                record,
+                rows,
+            },
+        };
+        assert_eq!(lent.of_model().answer, line.outcome.answer, "{}", line.name);
+        *checks.entry(line.case.call()).or_default() += 1;
+    }
+    assert_eq!(checks.len(), 4);
+    assert!(checks.values().all(|&lines| lines >= 90), "{checks:?}");
+}
+
+/// Of both checks with a capacity named, there are lines with each capacity near a border and far
+/// above that are accepted and that are refused with 8. With capacity 0 every refusal before 8 and
+/// 8 itself is given, and 8 where capacity 1 gives 9, 10 or 11 or accepts.
+#[test]
+fn checks_with_each_capacity() {
+    let calls = calls();
+    let mut answers: BTreeMap<(&str, usize), BTreeSet<u64>> = BTreeMap::new();
+    let mut instead: BTreeMap<&str, BTreeSet<u64>> = BTreeMap::new();
+    for line in &calls {
+        let Some(capacity) = check_of(&line.case).and_then(|check| check.named) else {
+            continue;
+        };
+        let (call, number) = (line.case.call(), line.outcome.answer.number());
+        answers.entry((call, capacity)).or_default().insert(number);
+        if (capacity, number) != (0, 8) {
+            continue;
+        }
+        let mut with_a_row = line.case.clone();
+        if let Case::CheckValWith { capacity, .. } | Case::CheckWholeWith { capacity, .. } =
+            &mut with_a_row
+        {
+            *capacity = 1;
+        }
+        if let Some(line) = calls.iter().find(|line| line.case == with_a_row) {
+            let number = line.outcome.answer.number();
+            instead.entry(call).or_default().insert(number);
+        }
+    }
+    let near = [1, 2, 3, 1_023, 1_024, 1_025, 4_095, 4_096, 4_097];
+    let far = [1 << 32, (1 << 32) + 1, 1 << 63, usize::MAX];
+    for (call, before, behind) in [
+        ("check_val_with", 1..=7, vec![0, 8, 9, 10]),
+        ("check_whole_with", 1..=6, vec![0, 8, 9, 10, 11]),
+    ] {
+        for capacity in near.into_iter().chain(far) {
+            let numbers = answers.get(&(call, capacity));
+            let is_both = numbers.is_some_and(|numbers| numbers.is_superset(&[0, 8].into()));
+            assert!(is_both, "{call}, {capacity}: {numbers:?}");
+        }
+        let with_none: BTreeSet<u64> = before.chain([8]).collect();
+        assert_eq!(answers[&(call, 0)], with_none, "{call}");
+        assert_eq!(instead[call], behind.into_iter().collect(), "{call}");
+    }
 }
 
 /// Each line of preview says what the model's writing to a copy of the output gives and changes.
@@ -411,7 +537,7 @@ fn preview_of_each_length() {
 /// Refusals with their borders: the number, the call, what the line shows that just passes its test,
 /// and what the one that just does not.
 #[rustfmt::skip]
-const BORDERS: [(u64, &str, &str, &str); 115] = [
+const BORDERS: [(u64, &str, &str, &str); 132] = [
     (1, "check_grammar", "example F, N 256", "example F, N 257"),
     (1, "check_grammar", "example B, constant", "N 0"),
     (1, "preview", "N 256", "N 257"),
@@ -452,6 +578,8 @@ const BORDERS: [(u64, &str, &str, &str); 115] = [
     (6, "check_whole", "a record of 1,048,576 bytes", "a record of 1,048,577 bytes"),
     (6, "parse_val", "the end of 1,048,576 bytes", "the end of 1,048,577 bytes"),
     (6, "check_val", "the end of 1,048,576 bytes", "the end of 1,048,577 bytes"),
+    (6, "check_whole_with", "capacity 1, a record of 1,048,576 bytes", "capacity 1, 1,048,577 bytes"),
+    (6, "check_val_with", "capacity 1, the end of 1,048,576 bytes", "capacity 1, 1,048,577 bytes"),
     (6, "compute_size_of", "a store of 1,048,576 bytes", "a store of 1,048,577 bytes"),
     (6, "locate_array", "a store of 1,048,576 bytes", "a store of 1,048,577 bytes"),
     (6, "signed_number", "a store of 1,048,576 bytes", "a store of 1,048,577 bytes"),
@@ -463,6 +591,8 @@ const BORDERS: [(u64, &str, &str, &str); 115] = [
     (7, "unpack_u64_seq", "no numbers at the length", "no numbers above the length"),
     (7, "parse_val", "index at the length of a constant", "index above the length"),
     (7, "check_val", "index at the length of a constant", "index above the length"),
+    (7, "check_val_with", "capacity 1, three bytes, index 3, the length",
+        "capacity 1, three bytes, index 4, above the length"),
     (8, "demarshall", "example C, capacity 4", "example C, capacity 3"),
     (8, "demarshall", "17 words for 4 rows", "15 words for 4 rows"),
     (8, "demarshall", "4 words for 1 row", "3 words for 1 row"),
@@ -470,8 +600,22 @@ const BORDERS: [(u64, &str, &str, &str); 115] = [
     (8, "demarshall", "as many rows as needed", "no row left at the last field"),
     (8, "demarshall", "tuple of numbers of four kinds", "no row for an int64 behind three numbers"),
     (8, "demarshall", "4,096 rows", "more rows than 4,096 lent are none"),
-    (8, "check_whole", "4,096 rows", "4,097 rows"),
-    (8, "check_val", "4,096 rows", "4,097 rows"),
+    (8, "check_whole", "no capacity named, 1,024 rows", "no capacity named, 1,025 rows"),
+    (8, "check_val", "no capacity named, 1,024 rows", "no capacity named, 1,025 rows"),
+    (8, "check_whole_with", "capacity 1, 1 row", "capacity 0, an array without elements"),
+    (8, "check_val_with", "capacity 1, 1 row", "capacity 0, an array without elements"),
+    (8, "check_whole_with", "capacity 1,024, 1,024 rows", "capacity 1,024, 1,025 rows"),
+    (8, "check_val_with", "capacity 1,024, 1,024 rows", "capacity 1,024, 1,025 rows"),
+    (8, "check_whole_with", "capacity 1,025, 1,025 rows", "capacity 1,025, 1,026 rows"),
+    (8, "check_val_with", "capacity 1,025, 1,025 rows", "capacity 1,025, 1,026 rows"),
+    (8, "check_whole_with", "capacity 4,096, 4,096 rows", "capacity 4,096, 4,097 rows"),
+    (8, "check_val_with", "capacity 4,096, 4,096 rows", "capacity 4,096, 4,097 rows"),
+    (8, "check_whole_with", "capacity 4,097, 4,096 rows", "capacity 4,097, 4,097 rows"),
+    (8, "check_val_with", "capacity 4,097, 4,096 rows", "capacity 4,097, 4,097 rows"),
+    (8, "check_whole_with", "capacity 2^64-1, 4,096 rows", "capacity 2^64-1, 4,097 rows"),
+    (8, "check_val_with", "capacity 2^64-1, 4,096 rows", "capacity 2^64-1, 4,097 rows"),
+    (8, "check_whole_with", "capacity 3, example A", "capacity 2, example A"),
+    (8, "check_val_with", "capacity 3, example A", "capacity 2, example A"),
     (8, "same_route", "4,096 rows, equal", "the first record's 8"),
     (8, "same_route", "4,096 rows, most in the first field", "4,097 rows, most in the first field"),
     (9, "demarshall", "uint32", "uint32, 3 bytes"),

@@ -220,19 +220,30 @@ pub fn writing() -> Cases {
 /// The readers.
 pub fn reading() -> Cases {
     let mut list = List::default();
-    let mut read = |name: String, grammar: Vec<u32>, record: Vec<u8>| {
-        list.add(&name, Case::CheckWhole { grammar, record });
-    };
-    let union = table(&[[4, 0, 2], [5, 0, 0], [8, 0, 0]], &[1, 2]);
+    let grammar = table(&[[4, 0, 2], [5, 0, 0], [8, 0, 0]], &[1, 2]);
+    let record = vec![0; 16];
     let name = "a union without cases as a field";
-    read(name.to_string(), union, vec![0; 16]);
-    // The tuple, the array, its constants and the case have 4,096 rows with 4,093 constants, and
-    // the case's constant has none left.
+    list.add(name, Case::CheckWhole { grammar, record });
+    // The tuple, the array, its constants and the case have as many rows as there are with 3
+    // constants fewer, and the case's constant has none left.
     let nodes = [[4, 0, 2], [3, 2, 1], [8, 3, 2], [0, 0, 0]];
-    for count in [4_092, 4_093, 4_094] {
-        let record = [counted(count, &[]), counted(1, &[])].concat();
-        let name = format!("{count} constants and a case");
-        read(name, table(&nodes, &[1, 2, 3, 3, 3]), record);
+    let grammar = table(&nodes, &[1, 2, 3, 3, 3]);
+    for fewer in [4, 3, 2] {
+        let record = |rows: u64| counted(rows - fewer, &counted(1, &[]));
+        let name = |rows: u64| format!("{} constants and a case", rows - fewer);
+        let check = Case::CheckWhole {
+            grammar: grammar.clone(),
+            record: record(1_024),
+        };
+        list.add(&name(1_024), check);
+        for capacity in [2_000, 4_096] {
+            let check = Case::CheckWholeWith {
+                grammar: grammar.clone(),
+                record: record(capacity),
+                capacity: capacity as usize,
+            };
+            list.add(&name(capacity), check);
+        }
     }
     list.0
 }

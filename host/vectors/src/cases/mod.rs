@@ -2,6 +2,7 @@
 //! and commas between them, bytes in hexadecimal.
 
 pub mod borders;
+mod capacities;
 mod choosing;
 mod grammar;
 mod long;
@@ -106,6 +107,14 @@ fn numbers<N: FromStr>(text: &str) -> Vec<N> {
 fn hex(text: &str) -> Vec<u8> {
     let digits: String = text.split_whitespace().collect();
     compare::list::bytes_of(&digits).expect("hexadecimal digits")
+}
+
+/// A number below 1,000,000 in digits, grouped by a comma.
+fn grouped(number: u64) -> String {
+    match (number / 1_000, number % 1_000) {
+        (0, low) => low.to_string(),
+        (high, low) => format!("{high},{low:03}"),
+    }
 }
 
 /// The 8 bytes of a count or a tag, and others behind them.

@@ -4,6 +4,7 @@ use std::collections::BTreeSet;
 
 use compare::{doubling, own_bytes, Case};
 
+use super::capacities::capacities;
 use super::long::{fields_of_each_kind, record};
 use super::magnitudes;
 use super::{counted, hex, numbers, table, Cases, List, MAX_BYTES, ROW_WORDS};
@@ -29,14 +30,14 @@ fn parse_val(grammar: &[u32], record: &[u8], index: usize, words: usize) -> Case
     }
 }
 
-fn check_whole(grammar: &[u32], record: &[u8]) -> Case {
+pub(super) fn check_whole(grammar: &[u32], record: &[u8]) -> Case {
     Case::CheckWhole {
         grammar: grammar.to_vec(),
         record: record.to_vec(),
     }
 }
 
-fn check_val(grammar: &[u32], record: &[u8], index: usize) -> Case {
+pub(super) fn check_val(grammar: &[u32], record: &[u8], index: usize) -> Case {
     Case::CheckVal {
         grammar: grammar.to_vec(),
         record: record.to_vec(),
@@ -44,8 +45,30 @@ fn check_val(grammar: &[u32], record: &[u8], index: usize) -> Case {
     }
 }
 
+pub(super) fn check_whole_with(grammar: &[u32], record: &[u8], capacity: usize) -> Case {
+    Case::CheckWholeWith {
+        grammar: grammar.to_vec(),
+        record: record.to_vec(),
+        capacity,
+    }
+}
+
+pub(super) fn check_val_with(
+    grammar: &[u32],
+    record: &[u8],
+    index: usize,
+    capacity: usize,
+) -> Case {
+    Case::CheckValWith {
+        grammar: grammar.to_vec(),
+        record: record.to_vec(),
+        index,
+        capacity,
+    }
+}
+
 /// Name, grammar, record and its number of rows.
-const ACCEPTED: [(&str, &str, &str, usize); 30] = [
+pub(super) const ACCEPTED: [(&str, &str, &str, usize); 30] = [
     ("example A", A, A_RECORD, 3),
     ("example B, constant", B, "", 1),
     ("example C, array of 3 constants", C, "0300000000000000", 4),
@@ -113,8 +136,8 @@ const ACCEPTED: [(&str, &str, &str, usize); 30] = [
     ),
 ];
 
-/// Adds each accepted record to all four calls: whole with more words lent than needed, and between
-/// other bytes from an index on.
+/// Adds each accepted record to the four calls that name no capacity: whole with more words lent than
+/// needed, and between other bytes from an index on.
 fn accepted(list: &mut List) {
     for (name, grammar, record, rows) in ACCEPTED {
         let (grammar, record) = (numbers::<u32>(grammar), hex(record));
@@ -127,7 +150,7 @@ fn accepted(list: &mut List) {
 }
 
 /// Name, grammar, record and capacity of whole readings.
-const WHOLE: [(&str, &str, &str, usize); 54] = [
+pub(super) const WHOLE: [(&str, &str, &str, usize); 58] = [
     (
         "example A without its last byte",
         A,
@@ -254,6 +277,20 @@ const WHOLE: [(&str, &str, &str, usize); 54] = [
     ),
     ("4,096 rows", C, "FF0F000000000000", 4_096),
     ("4,095 rows for 4,096", C, "FF0F000000000000", 4_095),
+    ("4,097 rows for 4,096", C, "FF0F000000000000", 4_097),
+    ("no row for a tuple without fields", TUP0, "", 0),
+    (
+        "a count above the rows left in a case",
+        "3, 8 0 1, 3 1 1, 0 0 0, 2, 1 2",
+        "0000000000000000 FF0F000000000000",
+        4_096,
+    ),
+    (
+        "no row for a uint32 behind 3 constants",
+        "4, 4 0 2, 3 2 1, 1 0 0, 0 0 0, 3, 1 2 3",
+        "0300000000000000 07000000",
+        5,
+    ),
     ("example I, int32, 3 bytes", I32, "FFFFFF", 1),
     ("example I, int64, 7 bytes", I64, "FFFFFFFFFFFFFF", 1),
     ("int32, no bytes", I32, "", 1),
@@ -275,7 +312,7 @@ const WHOLE: [(&str, &str, &str, usize); 54] = [
 ];
 
 /// Two faults in one whole reading: name, grammar, record and capacity.
-const ORDER: [(&str, &str, &str, usize); 24] = [
+pub(super) const ORDER: [(&str, &str, &str, usize); 24] = [
     ("no row before 9", U32, "", 0),
     ("no row before 9 of an int32", I32, "", 0),
     ("no row before 9 of an int64", I64, "", 0),
@@ -380,6 +417,16 @@ fn whole(list: &mut List, listed: &[(&str, &str, &str, usize)]) {
     }
 }
 
+/// Adds the listed whole readings from byte 3 on, behind three others.
+fn from_an_index(list: &mut List) {
+    for &(name, grammar, record, capacity) in WHOLE.iter().chain(&ORDER) {
+        let (grammar, record) = (numbers::<u32>(grammar), hex(record));
+        let behind = [&[0xff; 3], &record[..]].concat();
+        let name = format!("{name}, from an index");
+        list.add(&name, parse_val(&grammar, &behind, 3, ROW_WORDS * capacity));
+    }
+}
+
 /// Words that are no multiple of 4, and words behind the rows.
 fn words_lent(list: &mut List) {
     let (c, three) = (numbers::<u32>(C), counted(3, &[]));
@@ -393,6 +440,10 @@ fn words_lent(list: &mut List) {
         list.add(&name, demarshall(&c, &three, words));
     }
     let constant = numbers::<u32>(B);
+    list.add(
+        "65,536 words for 1 row",
+        parse_val(&constant, &[], 0, 65_536),
+    );
     list.add("3 words for 1 row", demarshall(&constant, &[], 3));
     list.add("4 words for 1 row", demarshall(&constant, &[], 4));
 }
@@ -508,7 +559,7 @@ fn longest(list: &mut List) {
     );
 }
 
-/// Wide and shared grammars, and the most rows.
+/// Wide and shared grammars.
 fn large_grammars(list: &mut List) {
     let wide = table(&[[4, 0, 1_024], [1, 0, 0]], &[1; 1_024]);
     let record = vec![9; 4_096];
@@ -519,10 +570,6 @@ fn large_grammars(list: &mut List) {
     list.add(
         "a tuple of 1,024 uint32 and 1,024 rows",
         demarshall(&wide, &record, ROW_WORDS * 1_024),
-    );
-    list.add(
-        "the last of 1,024 fields lacks a byte",
-        check_whole(&wide, &record[1..]),
     );
     list.add(
         "2^255 leaves, all constants",
@@ -538,11 +585,6 @@ fn large_grammars(list: &mut List) {
     );
     let most = table(&[[0, 0, 0]; 256], &[]);
     list.add("example F, N 256", demarshall(&most, &[], 4));
-    let (c, none) = (numbers::<u32>(C), counted(4_096, &[]));
-    list.add("4,096 rows", check_whole(&c, &counted(4_095, &[])));
-    list.add("4,097 rows", check_whole(&c, &none));
-    list.add("4,096 rows", check_val(&c, &counted(4_095, &[]), 0));
-    list.add("4,097 rows", check_val(&c, &none, 0));
 }
 
 /// The deepest grammars.
@@ -654,6 +696,7 @@ pub fn reading() -> Cases {
     accepted(&mut list);
     whole(&mut list, &WHOLE);
     whole(&mut list, &ORDER);
+    from_an_index(&mut list);
     words_lent(&mut list);
     indices(&mut list);
     before_the_values(&mut list);
@@ -662,5 +705,6 @@ pub fn reading() -> Cases {
     deep_grammars(&mut list);
     front_parts(&mut list);
     list.0.extend(magnitudes::reading());
+    list.0.extend(capacities());
     list.0
 }

@@ -12,7 +12,7 @@ fn number(given: &Given) -> u64 {
     }
 }
 
-/// An index, a row number or a row count.
+/// An index, a row number, a row count or a capacity.
 fn size(given: &Given) -> usize {
     number(given) as usize
 }
@@ -160,6 +160,18 @@ pub fn of_model(call: &Call) -> Outcome {
             model::check_whole(&short_words(grammar), bytes(record)),
             None,
         ),
+        ("check_val_with", [grammar, record, index, capacity]) => {
+            let (grammar, index, capacity) = (short_words(grammar), size(index), size(capacity));
+            let reading = model::check_val_with(&grammar, bytes(record), index, capacity);
+            read(reading, None)
+        }
+        ("check_whole_with", [grammar, record, capacity]) => {
+            let (grammar, capacity) = (short_words(grammar), size(capacity));
+            read(
+                model::check_whole_with(&grammar, bytes(record), capacity),
+                None,
+            )
+        }
         ("marshall_val", [grammar, rows, n, store, out, index]) => {
             let (grammar, rows, n) = (short_words(grammar), words(rows), size(n));
             let (store, out, index) = (bytes(store), bytes(out), size(index));

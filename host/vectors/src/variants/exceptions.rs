@@ -34,7 +34,7 @@ const LIST_WORDS: u64 = 28_722;
 pub const LONG: &str = "only a slice of 2^31 or more elements can tell";
 
 /// The bounds. A number that is written down is below the next one; those are not listed.
-const BOUNDS: [Bound; 65] = [
+const BOUNDS: [Bound; 66] = [
     Bound {
         file: "choosing.rs",
         functions: &["grammars"],
@@ -205,16 +205,17 @@ const BOUNDS: [Bound; 65] = [
     },
     Bound {
         file: "reading.rs",
-        functions: &["~"],
-        texts: &[
-            "capacity",
-            "self.rows_left",
-            "span",
-            "values.len()",
-            "MOST_ROWS",
-        ],
+        functions: &["new", "read", "read_whole", "parse_val", "demarshall"],
+        texts: &["capacity"],
         below: ROWS,
-        why: "a capacity is at most 4,096",
+        why: "a capacity in force is at most 4,096",
+    },
+    Bound {
+        file: "reading.rs",
+        functions: &["~"],
+        texts: &["self.rows_left", "span", "values.len()", "MOST_ROWS"],
+        below: ROWS,
+        why: "a capacity in force is at most 4,096",
     },
     Bound {
         file: "reading.rs",
@@ -1040,7 +1041,7 @@ const EXCEPTIONS: [Exception; 66] = [
 ];
 
 /// Variants by hand: file, pieces of its text with what stands for each, what is broken.
-pub(super) const BY_HAND: [(&str, &[(&str, &str)], &str); 38] = [
+pub(super) const BY_HAND: [(&str, &[(&str, &str)], &str); 50] = [
     (
         "rows.rs",
         &[
@@ -1412,6 +1413,123 @@ pub(super) const BY_HAND: [(&str, &[(&str, &str)], &str); 38] = [
     let is_accepted = outcome.is_ok();",
         )],
         "a try that is refused with 9 at byte 0 begins no value",
+    ),
+    (
+        "reading.rs",
+        &[(
+            "    check_val_with(grammar, record, index, CHECK_ROWS)",
+            "    check_val_with(grammar, record, index, MOST_ROWS)",
+        )],
+        "a check from an index for which no capacity is named has the greatest",
+    ),
+    (
+        "reading.rs",
+        &[(
+            "    check_whole_with(grammar, record, CHECK_ROWS)",
+            "    check_whole_with(grammar, record, MOST_ROWS)",
+        )],
+        "a check of a whole record for which no capacity is named has the greatest",
+    ),
+    (
+        "reading.rs",
+        &[(
+            "    parse_val(grammar, record, index, in_force(capacity))",
+            "    match capacity {
+        0 => check_val(grammar, record, index),
+        _ => parse_val(grammar, record, index, in_force(capacity)),
+    }",
+        )],
+        "0 is no capacity named, from an index",
+    ),
+    (
+        "reading.rs",
+        &[(
+            "    demarshall(grammar, record, in_force(capacity))",
+            "    match capacity {
+        0 => check_whole(grammar, record),
+        _ => demarshall(grammar, record, in_force(capacity)),
+    }",
+        )],
+        "0 is no capacity named, of a whole record",
+    ),
+    (
+        "reading.rs",
+        &[(
+            "    parse_val(grammar, record, index, in_force(capacity))",
+            "    parse_val(grammar, record, index, in_force(capacity).min(CHECK_ROWS))",
+        )],
+        "a capacity that is named is one of 1,024 at most, from an index",
+    ),
+    (
+        "reading.rs",
+        &[(
+            "    demarshall(grammar, record, in_force(capacity))",
+            "    demarshall(grammar, record, in_force(capacity).min(CHECK_ROWS))",
+        )],
+        "a capacity that is named is one of 1,024 at most, of a whole record",
+    ),
+    (
+        "reading.rs",
+        &[(
+            "    parse_val(grammar, record, index, in_force(capacity))",
+            "    parse_val(grammar, record, index, if capacity > MOST_ROWS { 0 } else { capacity })",
+        )],
+        "a capacity above 4,096 is refused with 8, from an index",
+    ),
+    (
+        "reading.rs",
+        &[(
+            "    demarshall(grammar, record, in_force(capacity))",
+            "    demarshall(grammar, record, if capacity > MOST_ROWS { 0 } else { capacity })",
+        )],
+        "a capacity above 4,096 is refused with 8, of a whole record",
+    ),
+    (
+        "reading.rs",
+        &[(
+            "    parse_val(grammar, record, index, in_force(capacity))",
+            "    if capacity == 0 {
+        return Err(at_byte(8, index));
+    }
+    parse_val(grammar, record, index, in_force(capacity))",
+        )],
+        "capacity 0 is refused with 8 before the grammar is checked, from an index",
+    ),
+    (
+        "reading.rs",
+        &[(
+            "    demarshall(grammar, record, in_force(capacity))",
+            "    if capacity == 0 {
+        return Err(at_byte(8, 0));
+    }
+    demarshall(grammar, record, in_force(capacity))",
+        )],
+        "capacity 0 is refused with 8 before the grammar is checked, of a whole record",
+    ),
+    (
+        "reading.rs",
+        &[(
+            "    parse_val(grammar, record, index, in_force(capacity))",
+            "    check_grammar(grammar)?;
+    check_length(record)?;
+    if capacity == 0 {
+        return Err(at_byte(8, index));
+    }
+    parse_val(grammar, record, index, in_force(capacity))",
+        )],
+        "capacity 0 is refused with 8 before 7",
+    ),
+    (
+        "reading.rs",
+        &[(
+            "    parse_val(grammar, record, index, in_force(capacity))",
+            "    let reading = parse_val(grammar, record, index, in_force(capacity));
+    match capacity {
+        0 if reading == Err(at_byte(8, index)) => Err(at_byte(8, 0)),
+        _ => reading,
+    }",
+        )],
+        "capacity 0 is refused with 8 at byte 0",
     ),
 ];
 
