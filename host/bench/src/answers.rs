@@ -2,7 +2,7 @@
 //! case, as the library's are.
 
 use compare::{Answer, Case, Outcome};
-use route_record::{Place, Refusal};
+use route_record::{Place, Refusal, MAX_ROWS};
 
 use crate::peer;
 use crate::program::Call;
@@ -38,6 +38,11 @@ pub fn of_rust(case: &Case) -> Outcome {
     let answer = match &mut after {
         Case::CheckGrammar { grammar } => answer(peer::check_grammar(grammar).map(|()| [])),
         Case::CheckWhole { grammar, record } => read(peer::check_whole(grammar, record)),
+        Case::CheckWholeWith {
+            grammar,
+            record,
+            capacity,
+        } => read(peer::check_whole_with(grammar, record, *capacity)),
         Case::Demarshall {
             grammar,
             record,
@@ -113,6 +118,11 @@ pub fn case_of(call: Call, input: &Input) -> Case {
     match call {
         Call::CheckGrammar => Case::CheckGrammar { grammar },
         Call::Check => Case::CheckWhole { grammar, record },
+        Call::CheckMost => Case::CheckWholeWith {
+            grammar,
+            record,
+            capacity: MAX_ROWS,
+        },
         Call::Read => Case::Demarshall {
             grammar,
             record,

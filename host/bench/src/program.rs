@@ -2,6 +2,8 @@
 
 use std::hint::black_box;
 
+use route_record::MAX_ROWS;
+
 use crate::measure::Contender;
 use crate::records::{Input, WORDS};
 
@@ -11,8 +13,10 @@ pub enum Call {
     /// The check of the grammar, which the other calls make first, but for the size, unpacking and
     /// packing.
     CheckGrammar,
-    /// The check of the record, with no rows.
+    /// The check of the record, with no rows, as a value of at most 1,024.
     Check,
+    /// That check with capacity 4,096, so that records of more rows are accepted, too.
+    CheckMost,
     /// Reading the record into rows.
     Read,
     /// Writing the record's value from its rows.
@@ -36,7 +40,7 @@ impl Call {
     pub fn name(self) -> &'static str {
         match self {
             Call::CheckGrammar => "check the grammar",
-            Call::Check => "check",
+            Call::Check | Call::CheckMost => "check",
             Call::Read => "read",
             Call::Write => "write",
             Call::Preview => "preview",
@@ -86,6 +90,9 @@ macro_rules! contender {
             Call::Check => {
                 Contender::new(|| calls::check_whole(black_box(grammar), black_box(record)))
             }
+            Call::CheckMost => Contender::new(|| {
+                calls::check_whole_with(black_box(grammar), black_box(record), MAX_ROWS)
+            }),
             Call::Read => {
                 let mut rows = vec![0; WORDS];
                 Contender::new(move || {
@@ -167,8 +174,8 @@ impl Program for Rust {
 
 /// The model's calls with the library's parameters.
 mod of_model {
-    pub use model::{check_grammar, check_whole, choose_grammar, compute_size_of};
-    pub use model::{marshall, preview, same_route};
+    pub use model::{check_grammar, check_whole, check_whole_with, choose_grammar};
+    pub use model::{compute_size_of, marshall, preview, same_route};
     use model::{Reading, Refusal};
 
     pub fn demarshall(grammar: &[u32], record: &[u8], rows: &[u64]) -> Result<Reading, Refusal> {

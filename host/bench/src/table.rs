@@ -1,5 +1,8 @@
 //! The measurements: the calls on records of several sizes, and the time per row.
 
+use compare::Answer;
+use route_record::CHECK_ROWS;
+
 use crate::answers::{case_of, of_rust};
 use crate::measure::measure;
 use crate::picture::Curve;
@@ -19,9 +22,8 @@ const ROW_COUNTS: [usize; 5] = [16, 64, 256, 1_024, 4_096];
 /// The most that the greatest time per further row of a reading may be, divided by the least.
 const SPREAD: f64 = 1.3;
 
-/// The calls in the table for records of all sizes.
-const CALLS: [Call; 6] = [
-    Call::Check,
+/// The calls in the table for records of all sizes, behind the check.
+const CALLS: [Call; 5] = [
     Call::Read,
     Call::Write,
     Call::Preview,
@@ -40,7 +42,12 @@ pub fn calls(report: &mut Report, programs: &[&dyn Program]) {
         ("1 MiB", records::long_array),
     ];
     for (size, input) in sizes {
-        for call in CALLS {
+        // A check that names no capacity would refuse more rows.
+        let check = match input().rows() {
+            (_, rows) if rows <= CHECK_ROWS => Call::Check,
+            _ => Call::CheckMost,
+        };
+        for call in [check].into_iter().chain(CALLS) {
             let limit = match (call, size) {
                 (Call::Check | Call::Read | Call::Write | Call::Preview, "300 rows")
                 | (Call::Preview, "1 MiB") => beside_rust,
@@ -120,10 +127,10 @@ fn times(programs: &[&dyn Program], call: Call, inputs: &[Input]) -> Vec<Vec<Opt
 pub fn rows(report: &mut Report, programs: &[&dyn Program]) -> Vec<Curve> {
     report.rows(&ROW_COUNTS);
     let mut curves = Vec::new();
-    for call in [Call::Check, Call::Read, Call::Write] {
+    for call in [Call::CheckMost, Call::Read, Call::Write] {
         curves.extend(per_row(report, programs, call, ("mixed", records::mixed)));
     }
-    for call in [Call::Check, Call::Read] {
+    for call in [Call::CheckMost, Call::Read] {
         per_row(
             report,
             programs,
@@ -134,8 +141,9 @@ pub fn rows(report: &mut Report, programs: &[&dyn Program]) -> Vec<Curve> {
     curves
 }
 
-/// Prints the times per row of a call on records of so many rows: the library's, also without what
-/// a record of one row takes, which has the limit of a reading, and those of the others.
+/// Prints the times per row of a call on records of so many rows, which it accepts: the library's,
+/// also without what a record of one row takes, which has the limit of a reading, and those of the
+/// others.
 fn per_row(
     report: &mut Report,
     programs: &[&dyn Program],
@@ -143,6 +151,11 @@ fn per_row(
     (records, record_of): (&str, fn(usize) -> Input),
 ) -> Vec<Curve> {
     let inputs: Vec<_> = [1].into_iter().chain(ROW_COUNTS).map(record_of).collect();
+    for input in &inputs {
+        let answer = case_of(call, input).of_library().answer;
+        let accepted = matches!(answer, Answer::Accepted(_));
+        assert!(accepted, "the library refuses a record: {}", call.name());
+    }
     let measured = times(programs, call, &inputs);
     let (one_row, measured) = measured.split_first().expect("the record of one row");
     let mut curves = Vec::new();

@@ -5,7 +5,7 @@ use bench::answers::{case_of, of_rust};
 use bench::program::Call;
 use bench::records::{self, Input};
 use compare::{on_large_stack, run, Answer, Answers};
-use route_record::MAX_BYTES;
+use route_record::{Refusal, CHECK_ROWS, MAX_BYTES};
 use vectors::{Vector, FILES};
 
 #[test]
@@ -40,13 +40,20 @@ fn answer(call: Call, input: &Input) -> Answer {
     library.answer
 }
 
-/// A record is accepted by every call, with so many rows.
+/// A record is accepted by every call, with so many rows, but by the check that names no capacity
+/// only up to 1,024.
 fn assert_accepted(input: &Input, rows: usize) {
     let size = input.record.len() as u64;
     assert_eq!(answer(Call::CheckGrammar, input), Answer::Accepted(vec![]));
-    for call in [Call::Check, Call::Read] {
-        let given = vec![rows as u64, size];
-        assert_eq!(answer(call, input), Answer::Accepted(given));
+    let given = Answer::Accepted(vec![rows as u64, size]);
+    for call in [Call::CheckMost, Call::Read] {
+        assert_eq!(answer(call, input), given);
+    }
+    if rows <= CHECK_ROWS {
+        assert_eq!(answer(Call::Check, input), given);
+    } else {
+        let [number, ..] = answer(Call::Check, input).c_words();
+        assert_eq!(number, Refusal::ROWS_EXHAUSTED);
     }
     for call in [Call::Write, Call::Size] {
         assert_eq!(answer(call, input), Answer::Accepted(vec![size]));

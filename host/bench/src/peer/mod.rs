@@ -12,6 +12,6 @@ mod writing;
 pub use choosing::{choose_grammar, Chosen};
 pub use grammar::check_grammar;
 pub use packed::{pack_u32_seq, unpack_u32_seq};
-pub use reading::{check_whole, demarshall, same_route, Parsed};
+pub use reading::{check_whole, check_whole_with, demarshall, same_route, Parsed};
 pub use refusal::{Place, Refusal};
 pub use writing::{compute_size_of, marshall, marshall_val, preview, Preview};

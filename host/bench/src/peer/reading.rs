@@ -2,7 +2,7 @@
 //! does not arise.
 
 use super::grammar::Grammar;
-use route_record::{MAX_BYTES, MAX_ROWS};
+use route_record::{CHECK_ROWS, MAX_BYTES, MAX_ROWS};
 
 use super::Refusal;
 
@@ -15,10 +15,15 @@ pub struct Parsed {
     pub rest_index: usize,
 }
 
-/// Reads a record as a check, with no rows.
+/// Reads a record as a check, with no rows, as a value of at most 1,024.
 pub fn check_whole(words: &[u32], record: &[u8]) -> Result<Parsed, Refusal> {
+    check_whole_with(words, record, CHECK_ROWS)
+}
+
+/// Reads a record as a check, with no rows, as a value of at most `capacity` and at most 4,096.
+pub fn check_whole_with(words: &[u32], record: &[u8], capacity: usize) -> Result<Parsed, Refusal> {
     let grammar = Grammar::of(words)?;
-    check(grammar, record, MAX_ROWS)
+    check(grammar, record, capacity.min(MAX_ROWS))
 }
 
 /// Reads a record and lays it out in rows: first as a check, so that a refusal changes no row.
