@@ -2,6 +2,7 @@
 //! model's text, and the lists of exceptions name places that are there.
 
 use std::collections::BTreeMap;
+use std::thread::available_parallelism;
 
 use compare::on_large_stack;
 use vectors::variants::{self, driver, exceptions, Thing};
@@ -59,7 +60,8 @@ fn the_sound_model_is_not_caught() {
 /// another order and another place of the chooser's answers, and other capacities of a check.
 #[test]
 fn the_variants_by_hand_are_caught() {
-    let variants = variants::run_by_hand().expect("a run");
+    let jobs = available_parallelism().map_or(1, usize::from);
+    let variants = variants::run_by_hand(jobs).expect("a run");
     let changes = variants::changes(&variants::model_files().expect("the model"));
     let by_hand = changes.iter().filter(|change| change.rule == "by hand");
     // One that does not compile is not run.

@@ -419,10 +419,10 @@ pub fn run(jobs: usize, mut report: impl FnMut(Stage)) -> io::Result<()> {
     Ok(())
 }
 
-/// Runs the changes by hand alone.
-pub fn run_by_hand() -> io::Result<Vec<Variant>> {
+/// Runs the changes by hand alone, with this number of threads.
+pub fn run_by_hand(jobs: usize) -> io::Result<Vec<Variant>> {
     let (files, calls) = (model_files()?, calls()?);
     let mut changes = changes(&files);
     changes.retain(|change| change.rule == "by hand");
-    run_changes(&files, &calls, changes, 1)
+    run_changes(&files, &calls, changes, jobs)
 }
