@@ -474,6 +474,28 @@ fn checks_with_each_capacity() {
     }
 }
 
+/// Both checks with a capacity named have lines of a field of each kind that finds no row, without
+/// bytes.
+#[test]
+fn a_field_of_each_kind_finds_no_row() {
+    let mut kinds: BTreeMap<&str, BTreeSet<u32>> = BTreeMap::new();
+    for line in &calls() {
+        let Some(check) = check_of(&line.case) else {
+            continue;
+        };
+        let [_, 4, _, 1, kind, ..] = *check.grammar else {
+            continue;
+        };
+        let is_empty = check.record.len() == check.index.unwrap_or(0);
+        if is_empty && check.named == Some(1) && line.outcome.answer.number() == 8 {
+            kinds.entry(line.case.call()).or_default().insert(kind);
+        }
+    }
+    for call in ["check_val_with", "check_whole_with"] {
+        assert_eq!(kinds[call], (0..=10).collect(), "{call}");
+    }
+}
+
 /// Each line of preview says what the model's writing to a copy of the output gives and changes.
 #[test]
 fn preview_is_a_writing_to_a_copy() {
