@@ -4,3 +4,4 @@ pub mod Calls
 pub mod Meaning
 pub mod Source
 pub mod Steps
+pub mod Fitting

@@ -1,9 +1,11 @@
 -- Numbers as bytes, least byte first, at any width: PackedInts' definitions (PI), and what the calls over them answer.
-use Prim.Native.Nat.{ℕ, zero, suc, _+_, _*_, _/_, _%_, _^_, _<_}
+use mathlib.Core.Path.{_≡_}
+use mathlib.Core.Logic.{_⊎_}
+use Prim.Native.Nat.{ℕ, zero, suc, _+_, _*_, _/_, _%_, _^_, _≤_, _<_}
 use mathlib.Core.List.{List, [], _∷_, _++_}
 use lib.ListN.{length, getD, take, drop}
 use lib.Dec.{leb}
-use Rattle.refusal.specs.Outcome.{Outcome, accepted, test, map, Reason, reason, byte}
+use Rattle.refusal.specs.Outcome.{Outcome, accepted, test, map, contents, Reason, reason, byte}
 
 -- each element is a byte: what Dafny's `byte` says
 abbrev pub Bytes : List ℕ → Type 0
@@ -61,3 +63,11 @@ put out index bs = take index out ++ (bs ++ drop (index + length bs) out)
 
 abbrev pub putAt : List ℕ → ℕ → List ℕ → Outcome Reason (List ℕ)
 putAt out index bs = map (λ _. put out index bs) (room (length out) index (length bs))
+
+-- the output with bs put where they have room, else as it was
+unfoldable pub putWithin : List ℕ → ℕ → List ℕ → List ℕ
+putWithin out index bs = contents (putAt out index bs) out
+
+-- a buffer of at least n elements, or one of none, into which nothing is put
+abbrev pub Lent : ℕ → List ℕ → Type 0
+Lent n l = (l ≡ []) ⊎ (n ≤ length l)

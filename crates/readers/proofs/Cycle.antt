@@ -13,15 +13,14 @@ use borrow.Author.Tests.{lt-ltb, le-ltb, le-leb, lt-leb}
 use lib.Dec.{leb, ltb}
 use Rattle.refusal.specs.Outcome.{Outcome, accepted, refused, test, map}
 use Rattle.refusal.proofs.Outcome.{map-accepted, test-true, test-false}
-use Rattle.packed.specs.Packed.{Bytes, put}
-use Rattle.packed.proofs.Put.{length-put, put-more, put-nothing}
+use Rattle.packed.specs.Packed.{Bytes, Lent}
+use Rattle.packed.proofs.Fitting.{putWithin-nothing, putWithin-behind, putWithin-before}
 use Rattle.value.specs.Tree.{G, Gs, GArray, GTaggedUnion, VArray, VCase, Val, Vals, vnil, vcons, seqG, caseAt, ValidGrammar, SizeOfV, rowCount, rowCounts}
 use Rattle.value.specs.Step.{Step, yield, next, give, both, elements}
 use Rattle.value.specs.Reading.{State, Stop, Reading, stop, free, takeNumber, readBody, readCaseAt, readVal}
 use Rattle.value.proofs.Agreement.{agrees, agrees-accepted}
 use Rattle.value.proofs.Reading.{read-accepted, readCaseAt-below, readCaseAt-above}
 use Rattle.tables.specs.Row.{rowWidth, laid}
-use Rattle.tables.proofs.Laws.{laid-fits, laid-short}
 use Rattle.rows.specs.Layout.{rowsOf, rowsOfAll}
 use Rattle.rows.proofs.LayoutLaws.{length-rowsOf, length-rowsOfAll}
 use Rattle.readers.specs.declared.State.{State as CodeState}
@@ -33,48 +32,7 @@ use Rattle.readers.proofs.Laws.{reads-next}
 
 -- Rows laid one behind the other.
 
--- bytes put right before bytes
-put-before : (out : List ℕ) (index : ℕ) (xs ys : List ℕ) (k : ℕ) → k ≡ index + length xs → k + length ys ≤ length out → put (put out k ys) index xs ≡ put out index (xs ++ ys)
-unfolding put
-put-before out index xs ys k e h =
-    let m : length (take k out) ≡ k = length-take-le k out (omega arith) in
-    let t : take index (take k out ++ (ys ++ drop (k + length ys) out)) ≡ take index out = take-append-le index (take k out) (ys ++ drop (k + length ys) out) (omega arith) ∙ take-take index k out (omega arith) in
-    let d : drop (index + length xs) (take k out ++ (ys ++ drop (k + length ys) out)) ≡ ys ++ drop (k + length ys) out = ap (λ (i : ℕ). drop i (take k out ++ (ys ++ drop (k + length ys) out))) (sym e) ∙ drop-at (take k out) (ys ++ drop (k + length ys) out) k m in
-    let l : k + length ys ≡ index + length (xs ++ ys) = omega (arith, length-append xs ys) in
-    rw (t, d, append-assoc, l)
-
--- rows lent for n words from row i on, or none
-abbrev Fits : List ℕ → ℕ → ℕ → Type 0
-Fits l i n = (l ≡ []) ⊎ (rowWidth * i + n ≤ length l)
-
-laid-nothing : (l : List ℕ) (i : ℕ) → laid l i [] ≡ l
-laid-nothing l i = go (decLe (rowWidth * i) (length l))
-  where
-    go : Dec (rowWidth * i ≤ length l) → laid l i [] ≡ l
-    go (yes h) = laid-fits l i [] (omega arith) ∙ put-nothing l (rowWidth * i)
-    go (no h) = laid-short l i [] (omega arith)
-
-pub laid-none : (l : List ℕ) (i : ℕ) (ws : List ℕ) → l ≡ [] → laid l i ws ≡ l
-laid-none l i [] e = laid-nothing l i
-laid-none l i (x ∷ ws) e = laid-short l i (x ∷ ws) (let z : length l ≡ 0 = ap length e in omega arith)
-
-module _ (l : List ℕ) (i j : ℕ) (xs ys : List ℕ) (e : rowWidth * j ≡ rowWidth * i + length xs) where
-  laid-both : rowWidth * i + (length xs + length ys) ≤ length l → laid l i (xs ++ ys) ≡ put l (rowWidth * i) (xs ++ ys)
-  laid-both f = laid-fits l i (xs ++ ys) (rw length-append f)
-
-  pub laid-behind : Fits l i (length xs + length ys) → laid (laid l i xs) j ys ≡ laid l i (xs ++ ys)
-  laid-behind (inl n) = ap (λ (m : List ℕ). laid m j ys) (laid-none l i xs n) ∙ laid-none l j ys n ∙ sym (laid-none l i (xs ++ ys) n)
-  laid-behind (inr f) =
-      let n : length (put l (rowWidth * i) xs) ≡ length l = length-put l (rowWidth * i) xs (omega arith) in
-      ap (λ (m : List ℕ). laid m j ys) (laid-fits l i xs (omega arith)) ∙ laid-fits (put l (rowWidth * i) xs) j ys (omega arith) ∙ put-more l (rowWidth * i) xs ys (rowWidth * j) e (omega arith) ∙ sym (laid-both f)
-
-  pub laid-before : Fits l i (length xs + length ys) → laid (laid l j ys) i xs ≡ laid l i (xs ++ ys)
-  laid-before (inl n) = ap (λ (m : List ℕ). laid m i xs) (laid-none l j ys n) ∙ laid-none l i xs n ∙ sym (laid-none l i (xs ++ ys) n)
-  laid-before (inr f) =
-      let n : length (put l (rowWidth * j) ys) ≡ length l = length-put l (rowWidth * j) ys (omega arith) in
-      ap (λ (m : List ℕ). laid m i xs) (laid-fits l j ys (omega arith)) ∙ laid-fits (put l (rowWidth * j) ys) i xs (omega arith) ∙ put-before l (rowWidth * i) xs ys (rowWidth * j) e (omega arith) ∙ sym (laid-both f)
-
-fits-room : (capacity : ℕ) (l : List ℕ) (i n : ℕ) → Room capacity l → rowWidth * i + n ≤ rowWidth * capacity → Fits l i n
+fits-room : (capacity : ℕ) (l : List ℕ) (i n : ℕ) → Room capacity l → rowWidth * i + n ≤ rowWidth * capacity → Lent (rowWidth * i + n) l
 fits-room capacity l i n r h = ⊎-elim (λ (e : l ≡ []). inl e) (λ (f : rowWidth * capacity ≤ length l). inr (omega arith)) r
 
 -- What an accepted value says.
@@ -111,7 +69,7 @@ give-accepted f (refused e) t h = let z : _≡_ {A = ℕ} 0 1 = cc in absurd (om
 
 pub reads-none : (entry : List ℕ) (u : CodeState) → Reads rowsOfAll (yield vnil (stateOf u)) (u .capacity) (u .begun) (u .at) entry (Next u) entry
 unfolding rowsOf
-reads-none entry u = reads-next u vnil refl refl (sym (laid-nothing entry (u .begun)))
+reads-none entry u = reads-next u vnil refl refl (sym (putWithin-nothing entry (rowWidth * u .begun)))
 
 -- a value that was read, with what is read behind it
 module _ {x : Reading Val} {capacity row p : ℕ} {entry mid exit : List ℕ} {r : CodeStep} (k : State → Reading Vals) (u : CodeState) (v : Val) (e : x ≡ yield v (stateOf u)) (a : u .at ≡ p + SizeOfV v) (b : u .begun ≡ row + rowCount v) (c : u .begun ≤ capacity) (m : mid ≡ laid entry row (rowsOf v p)) (room : Room capacity entry) where
@@ -127,7 +85,7 @@ module _ {x : Reading Val} {capacity row p : ℕ} {entry mid exit : List ℕ} {r
         let l = length-rowsOfAll vs (p + SizeOfV v) in
         let f = few (q .0) (q .1) in
         let o : exit ≡ laid (laid entry row (rowsOf v p)) (u .begun) (rowsOfAll vs (p + SizeOfV v)) = rest .rows (q .0) (q .1) ∙ ap (λ (l : List ℕ). laid l (u .begun) (rowsOfAll vs (u .at))) m ∙ ap (λ (i : ℕ). laid (laid entry row (rowsOf v p)) (u .begun) (rowsOfAll vs i)) a in
-        o ∙ laid-behind entry row (u .begun) (rowsOf v p) (rowsOfAll vs (p + SizeOfV v)) (omega arith) (fits-room capacity entry row (length (rowsOf v p) + length (rowsOfAll vs (p + SizeOfV v))) room (omega arith))
+        o ∙ putWithin-behind entry (rowWidth * row) (rowWidth * u .begun) (rowsOf v p) (rowsOfAll vs (p + SizeOfV v)) (omega arith) (fits-room capacity entry row (length (rowsOf v p) + length (rowsOfAll vs (p + SizeOfV v))) room (omega arith))
         ∙ ap (λ (y : Step State Vals). laid entry row (rowsOfAll (y .value) p)) (sym (q .2));
   }
 
@@ -141,7 +99,7 @@ module _ {A : Type 0} {rowsAt : A → ℕ → List ℕ} {x : Reading A} {capacit
       let ws = kind ∷ (u .begun - row) ∷ word2 ∷ 0 ∷ [] in
       let n : length (rowsOf (f (w .0)) p) ≡ 4 + length (rowsAt (w .0) q) = ap length (o .0) ∙ omega arith in
       reads-next u (f (w .0)) (sym (ap (give f) (w .1))) (w .2)
-      (ap (λ (l : List ℕ). laid l row ws) (w .3) ∙ laid-before entry row (suc row) ws (rowsAt (w .0) q) (omega arith) (fits-room capacity entry row (length ws + length (rowsAt (w .0) q)) room (omega (arith, o .1))) ∙ ap (laid entry row) (sym (o .0)))
+      (ap (λ (l : List ℕ). laid l row ws) (w .3) ∙ putWithin-before entry (rowWidth * row) (rowWidth * suc row) ws (rowsAt (w .0) q) (omega arith) (fits-room capacity entry row (length ws + length (rowsAt (w .0) q)) room (omega (arith, o .1))) ∙ ap (laid entry row) (sym (o .0)))
   reads-close (Stopped u g) own r = record {
     answers = r .answers ∙ sym (map-give f x);
     keeps = r .keeps;

@@ -27,7 +27,7 @@ use Rattle.readers.specs.declared.Step.the-variants.{Next, Stopped}
 use Rattle.readers.specs.Meaning.{stateOf, stepOf, StepKeeps}
 use Rattle.readers.specs.Reads.{Room, Reads}
 use Rattle.readers.specs.Root.{capacityWithin, beforeStart, ended, readRoot, FillsRows, Admitted}
-use Rattle.readers.proofs.Cycle.{laid-none}
+use Rattle.packed.proofs.Fitting.{putWithin-none}
 
 -- The capacity.
 
@@ -144,7 +144,7 @@ module _ {x : Reading Val} {capacity index : ℕ} {entry : List ℕ} where
 
       go : (y : Reading Val) → entry ≡ contents (map (λ t. laid entry 0 (rowsOf (t .value) index)) y) entry
       go (refused e) = refl
-      go (accepted t) = sym (laid-none entry 0 (rowsOf (t .value) index) (empty entry n))
+      go (accepted t) = sym (putWithin-none entry 0 (rowsOf (t .value) index) (empty entry n))
 
   -- the root read again over the rows lent
   pub fills-read : {y : Reading Val} {s : State} {r : CodeStep} {exit : List ℕ} → accepted s ≡ map (λ t. t .state) x → ((t : Step State Val) → x ≡ accepted t → y ≡ accepted t) → Reads rowsOf y capacity 0 index entry r exit → FillsRows x capacity index r entry exit

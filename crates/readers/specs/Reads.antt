@@ -1,11 +1,10 @@
 -- The contracts of the inner readers: a reading of the definition done by the code, and the rows it lays.
 use mathlib.Core.Path.{_≡_}
 use mathlib.Core.List.{List, [], _∷_}
-use mathlib.Core.Logic.{_⊎_}
 use Prim.Native.Nat.{ℕ, _+_, _-_, _*_, _^_, _≤_, _<_}
 use lib.ListN.{length}
 use Rattle.refusal.specs.Outcome.{accepted, map, test}
-use Rattle.packed.specs.Packed.{Bytes, Below}
+use Rattle.packed.specs.Packed.{Bytes, Below, Lent}
 use lib.Dec.{ltb}
 use Rattle.value.specs.Step.{Step, yield, next}
 use Rattle.value.specs.Reading.{State, Reading, stop, takeNumber}
@@ -19,7 +18,7 @@ use Rattle.readers.specs.Meaning.{stepOf, StepKeeps}
 
 -- rows are lent for the whole capacity, or none
 abbrev pub Room : ℕ → List ℕ → Type 0
-Room capacity rows = (rows ≡ []) ⊎ (rowWidth * capacity ≤ length rows)
+Room capacity rows = Lent (rowWidth * capacity) rows
 
 -- a state from which a value can be read
 pub record Ready (d rows : List ℕ) (s : CodeState) : Type 0 where

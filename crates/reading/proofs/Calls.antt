@@ -19,7 +19,7 @@ use Rattle.value.proofs.Capacity.{Or8, or8-val}
 use Rattle.grammar.specs.Check.{checkGrammar}
 use Rattle.grammar.specs.Tree.{treeOf}
 use Rattle.tables.specs.Row.{laid}
-use Rattle.tables.proofs.Laws.{laid-fits}
+use Rattle.packed.proofs.Fitting.{putWithin-fits}
 use Rattle.rows.specs.Layout.{rowsOf}
 use Rattle.rows.proofs.LayoutLaws.{length-rowsOf}
 use Rattle.admission.specs.Admission.{inForce, capacityOf, admitOf}
@@ -188,4 +188,4 @@ module _ (g d : List ℕ) (index : ℕ) (whole : Bool) (o : ℕ → Outcome Reas
     where
       filled : (x : Reading Val) → ((t : Step State Val) → x ≡ accepted t → length (rowsOf (t .value) index) ≤ length entry) → contents (map (λ t. laid entry 0 (rowsOf (t .value) index)) x) entry ≡ contents (map (λ t. put entry 0 (rowsOf (t .value) index)) (withoutState x)) entry
       filled (refused r) l = refl
-      filled (accepted t) l = laid-fits entry 0 (rowsOf (t .value) index) (omega (arith, l t refl))
+      filled (accepted t) l = putWithin-fits entry 0 (rowsOf (t .value) index) (omega (arith, l t refl))

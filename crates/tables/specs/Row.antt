@@ -2,8 +2,7 @@
 use Prim.Native.Nat.{ℕ, _+_, _*_}
 use mathlib.Core.List.{List, [], _∷_}
 use lib.ListN.{getD}
-use Rattle.refusal.specs.Outcome.{contents}
-use Rattle.packed.specs.Packed.{putAt}
+use Rattle.packed.specs.Packed.{putWithin}
 
 -- the words of a row
 abbrev pub rowWidth : ℕ
@@ -29,5 +28,5 @@ rowAt t i = record {
 }
 
 -- words laid over a table from row i on: all of them where the table has room for all, else none
-unfoldable pub laid : List ℕ → ℕ → List ℕ → List ℕ
-laid t i ws = contents (putAt t (rowWidth * i) ws) t
+abbrev pub laid : List ℕ → ℕ → List ℕ → List ℕ
+laid t i ws = putWithin t (rowWidth * i) ws

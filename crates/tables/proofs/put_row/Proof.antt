@@ -4,7 +4,8 @@ use Prim.Native.Nat.{_*_}
 use native.Mathlib.Omega.{arith}
 use lib.ListN.{length-set}
 use Rattle.tables.specs.Row.{rowWidth}
-use Rattle.tables.proofs.Laws.{laid-fits, laid-short, put-four}
+use Rattle.packed.proofs.Fitting.{putWithin-fits, putWithin-short}
+use Rattle.tables.proofs.Laws.{put-four}
 use borrow.Author.Needs.{needs}
 use Rattle.tables.proofs.put_row.Statement.{statement}
 use Rattle.tables.proofs.put_row.Tie as tie
@@ -51,12 +52,12 @@ same-length c = search needs
 returns : tie.Need-returns
 returns c =
     let a = c .before .args in
-    put-four (a .rows .now) (rowWidth * a .row) (a .kind) (a .span) (a .word2) (a .word3) (omega arith) ∙ sym (laid-fits (a .rows .now) (a .row) (a .kind ∷ a .span ∷ a .word2 ∷ a .word3 ∷ []) (omega arith))
+    put-four (a .rows .now) (rowWidth * a .row) (a .kind) (a .span) (a .word2) (a .word3) (omega arith) ∙ sym (putWithin-fits (a .rows .now) (rowWidth * a .row) (a .kind ∷ a .span ∷ a .word2 ∷ a .word3 ∷ []) (omega arith))
 
 returns-2 : tie.Need-returns-2
 returns-2 c =
     let a = c .before .args in
-    sym (laid-short (a .rows .now) (a .row) (a .kind ∷ a .span ∷ a .word2 ∷ a .word3 ∷ []) (omega arith))
+    sym (putWithin-short (a .rows .now) (rowWidth * a .row) (a .kind ∷ a .span ∷ a .word2 ∷ a .word3 ∷ []) (omega arith))
 
 pub put-row-spec : {M : Type 1} → statement M
 put-row-spec =
