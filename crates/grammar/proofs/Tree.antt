@@ -8,7 +8,7 @@ use native.Mathlib.Omega.{arith}
 use lib.ListN.{length, getD, List·getD-eq-default}
 use Rattle.packed.specs.Packed.{Below}
 use Rattle.value.specs.Kinds.{Kind, kindOf, constant, number, array, tuple, elements, union, other}
-use Rattle.value.specs.Tree.{G, Gs, gnil, gcons, seqG, caseAt, ValidGrammar, ValidGrammars}
+use Rattle.value.specs.Tree.{G, Gs, GConstant, gnil, gcons, seqG, caseAt, ValidGrammar, ValidGrammars}
 use Rattle.tables.specs.Grammar.{nodeCount, kindWord, firstWord, countWord, childWord}
 use Rattle.grammar.specs.Rule.{Passes}
 use Rattle.grammar.specs.Tree.{onlyChild, nodeTree, childTrees, treeTo, treeOf}
@@ -33,7 +33,7 @@ pub tree-node : (t : List ℕ) → Passes t → (k : ℕ) → k < nodeCount t �
 unfolding treeOf treeTo
 tree-node t p k h = tree-depth t p (nodeCount t) (suc (nodeCount t)) k h (omega arith) (omega arith)
 
--- ---- GM's `ValidGrammar` of every tree of a table that passes
+-- ---- the children's trees
 
 pub trees-length : (t : List ℕ) (r : ℕ → G) (n i : ℕ) → length (seqG (childTrees t r i n)) ≡ n
 unfolding childTrees
@@ -49,10 +49,34 @@ trees-at t r (suc n) first (suc i) h =
     let e : suc first + i ≡ first + suc i = omega arith in
     trees-at t r n (suc first) i (omega arith) ∙ rw e
 
-trees-valid : (t : List ℕ) (r : ℕ → G) → ((k : ℕ) → ValidGrammar (r k)) → (n i : ℕ) → ValidGrammars (childTrees t r i n)
-unfolding childTrees ValidGrammar
-trees-valid t r h zero i = tt
-trees-valid t r h (suc n) i = (h (childWord t i), trees-valid t r h n (suc i))
+-- ---- what every tree of a table of words has: a property of each node that has fewer than 2^32 children, where their trees have it
+
+-- past the end of a table of words stands 0
+below-everywhere : (t : List ℕ) → Below (2 ^ 32) t → (j : ℕ) → getD t j 0 < 2 ^ 32
+below-everywhere t b j = go (decLt j (length t))
+  where
+    go : Dec (j < length t) → getD t j 0 < 2 ^ 32
+    go (yes l) = b j l
+    go (no l) = rw (List·getD-eq-default t 0 {n = j} (omega arith)) (omega arith)
+
+module _ (P : G → Type 0) (All : Gs → Type 0) (none : All gnil) (more : (g : G) (gs : Gs) → P g → All gs → All (gcons g gs)) (last : P GConstant) (node : (k : Kind) (gs : Gs) → length (seqG gs) < 2 ^ 32 → All gs → P (nodeTree k gs)) where
+  trees-hold : (t : List ℕ) (r : ℕ → G) → ((k : ℕ) → P (r k)) → (n i : ℕ) → All (childTrees t r i n)
+  unfolding childTrees
+  trees-hold t r h zero i = none
+  trees-hold t r h (suc n) i = more (r (childWord t i)) (childTrees t r (suc i) n) (h (childWord t i)) (trees-hold t r h n (suc i))
+
+  tree-to-holds : (t : List ℕ) → Below (2 ^ 32) t → (n k : ℕ) → P (treeTo n t k)
+  unfolding treeTo
+  tree-to-holds t b zero k = last
+  tree-to-holds t b (suc n) k =
+      let e = trees-length t (treeTo n t) (countWord t k) (firstWord t k) in
+      node (kindOf (kindWord t k)) (childTrees t (treeTo n t) (firstWord t k) (countWord t k)) (omega (arith, e, below-everywhere t b (3 + 3 * k))) (trees-hold t (treeTo n t) (tree-to-holds t b n) (countWord t k) (firstWord t k))
+
+  pub tree-holds : (t : List ℕ) → Below (2 ^ 32) t → (k : ℕ) → P (treeOf t k)
+  unfolding treeOf
+  tree-holds t b k = tree-to-holds t b (nodeCount t) k
+
+-- ---- GM's `ValidGrammar`
 
 only-valid : (gs : Gs) → ValidGrammars gs → ValidGrammar (onlyChild gs)
 unfolding ValidGrammar
@@ -69,22 +93,7 @@ node-valid (elements k) gs l h = tt
 node-valid union gs l h = (l, h)
 node-valid other gs l h = tt
 
--- past the end of a table of words stands 0
-below-everywhere : (t : List ℕ) → Below (2 ^ 32) t → (j : ℕ) → getD t j 0 < 2 ^ 32
-below-everywhere t b j = go (decLt j (length t))
-  where
-    go : Dec (j < length t) → getD t j 0 < 2 ^ 32
-    go (yes l) = b j l
-    go (no l) = rw (List·getD-eq-default t 0 {n = j} (omega arith)) (omega arith)
-
 -- every count word is below 2^32, so below 2^64
-tree-to-valid : (t : List ℕ) → Below (2 ^ 32) t → (n k : ℕ) → ValidGrammar (treeTo n t k)
-unfolding treeTo ValidGrammar
-tree-to-valid t b zero k = tt
-tree-to-valid t b (suc n) k =
-    let e = trees-length t (treeTo n t) (countWord t k) (firstWord t k) in
-    node-valid (kindOf (kindWord t k)) (childTrees t (treeTo n t) (firstWord t k) (countWord t k)) (omega (arith, e, below-everywhere t b (3 + 3 * k))) (trees-valid t (treeTo n t) (tree-to-valid t b n) (countWord t k) (firstWord t k))
-
 pub tree-valid : (t : List ℕ) → Below (2 ^ 32) t → (k : ℕ) → ValidGrammar (treeOf t k)
-unfolding treeOf
-tree-valid t b k = tree-to-valid t b (nodeCount t) k
+unfolding ValidGrammar
+tree-valid = tree-holds ValidGrammar ValidGrammars tt (λ g gs h hs. (h, hs)) tt (λ k gs l h. node-valid k gs (omega arith) h)
