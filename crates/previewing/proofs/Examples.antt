@@ -8,10 +8,10 @@ use Rattle.grammar.specs.Check.{checkLayout, checkNode, checkChildren, checkNod
 use Rattle.grammar.specs.Tree.{nodeTree, childTrees, treeTo, treeOf}
 use Rattle.rows.specs.Walk.{rowValue, checkRow, walkChildren, walkTo, walk}
 use Rattle.sizing.specs.InGrammar.{checkInGrammar}
-use Rattle.sizing.specs.Writes.{valueToWrite, marshallValOf}
+use Rattle.sizing.specs.Writes.{valueInGrammar, valueToWrite, marshallValOf}
 use Rattle.previewing.specs.Preview.{differing, previewOf}
 use Rattle.previewing.specs.Examples.{ExamplesHold}
 
 pub examples-hold : ExamplesHold
-unfolding previewOf differing marshallValOf valueToWrite checkInGrammar checkGrammar checkLayout checkNodes checkNode checkChildren treeOf treeTo nodeTree childTrees walk walkTo walkChildren checkRow rowValue kindOf kinds unpackLittleEndian unpackLittleEndianSeq packLittleEndian packLittleEndianSeq room put SizeOfV rowCount bytesOf
+unfolding previewOf differing marshallValOf valueToWrite valueInGrammar checkInGrammar checkGrammar checkLayout checkNodes checkNode checkChildren treeOf treeTo nodeTree childTrees walk walkTo walkChildren checkRow rowValue kindOf kinds unpackLittleEndian unpackLittleEndianSeq packLittleEndian packLittleEndianSeq room put SizeOfV rowCount bytesOf
 examples-hold = refl

@@ -41,7 +41,7 @@ use Rattle.admission.proofs.Admission.{length-fits, length-above, length-post, 
 use Rattle.reading.proofs.Calls.{parse-admitted, parse-refused, whole-parse}
 use Rattle.reading.proofs.Bridge.{parse-inside}
 use Rattle.sizing.specs.InGrammar.{checkInGrammar}
-use Rattle.sizing.specs.Writes.{valueToWrite, marshallValOf}
+use Rattle.sizing.specs.Writes.{valueInGrammar, valueToWrite, marshallValOf}
 use Rattle.sizing.proofs.InGrammar.{in-grammar-exactly, in-grammar-refused}
 use Rattle.route.specs.Rewriting.{rewriteOf}
 use Rattle.comparing.specs.SameRoute.{NamedReason, ofGrammar, ofFirst, ofSecond, naming, readBoth}
@@ -443,17 +443,21 @@ module _ (g t : List ℕ) (n : ℕ) (s : List ℕ) (len index : ℕ) where
           fails e (subst (WritingRefused g t n s len index) (sym (x .is)) (notInGrammar v p w (λ i. clash (sym q ∙ in-grammar-exactly v (treeOf g 0) 0 .1 i)) (x .at) (omega (arith, x .to)) (q ∙ ap refused (x .is))))
 
   pub marshall-refuses : Refuses (WritingRefused g t n s len index) (marshallValOf g t n s len index)
-  unfolding marshallValOf valueToWrite room
+  unfolding marshallValOf valueToWrite valueInGrammar room
   marshall-refuses =
       refuses refl
       (post-bind _
+      (post-bind _
       (post-bind _ (before (λ e q. grammarBefore q) (refused-exactly g)) (λ _ p.
       post-bind _ (before (λ e q. rowsBefore p q) (walk-refuses t n s)) (λ v w.
-      post-bind _ (post-weaken (λ _ i. i) (λ e q _. q) (in-post v p w)) (λ _ i.
-      post-reflects {P = Written} _ _ _ (reflects-leb (SizeOfV v) 1048576) (λ l. holds v (p, w, i, l)) (λ m _. sizeAbove v p w i (omega (arith, m)))))))
+      post-bind {R = Decided} _ (post-weaken (λ _ i. i) (λ e q _. q) (in-post v p w)) (λ _ i. holds v (p, w, i)))))
+      (λ v h. post-reflects {P = Written} _ _ _ (reflects-leb (SizeOfV v) 1048576) (λ l. holds v (h .0, h .1, h .2, l)) (λ m _. sizeAbove v (h .0) (h .1) (h .2) (omega (arith, m)))))
       (λ v h. only-map (λ _. v) (post-reflects _ _ _ (reflects-leb (index + SizeOfV v) len) (λ _. gives tt) (λ m _. noRoom v (h .0) (h .1) (h .2) (h .3) (omega (arith, m))))))
       (λ e q. back q)
     where
+      Decided : Val → Type 0
+      Decided v = (checkGrammar g ≡ accepted tt) × (walk t n s ≡ accepted v) × ValInGrammar v (treeOf g 0)
+
       Written : Val → Type 0
       Written v = (checkGrammar g ≡ accepted tt) × (walk t n s ≡ accepted v) × ValInGrammar v (treeOf g 0) × (SizeOfV v ≤ 1048576)
 

@@ -12,13 +12,20 @@ use Rattle.grammar.specs.Tree.{treeOf}
 use Rattle.rows.specs.Walk.{walk}
 use Rattle.sizing.specs.InGrammar.{checkInGrammar}
 
--- the value to be written: 1 to 5 of the grammar, 6 and 12 to 14 of the rows, 15, then 16
-unfoldable pub valueToWrite : List ℕ → List ℕ → ℕ → List ℕ → Outcome Reason Val
-valueToWrite g t n s =
+-- the value that rows with their store stand for, where it is one of the grammar: 1 to 5 of the grammar, 6 and 12 to 14 of the rows, then 15
+unfoldable pub valueInGrammar : List ℕ → List ℕ → ℕ → List ℕ → Outcome Reason Val
+valueInGrammar g t n s =
     bind (checkGrammar g) (λ _.
     bind (walk t n s) (λ v.
-    bind (checkInGrammar v (treeOf g 0) 0) (λ _.
-    test (leb (SizeOfV v) 1048576) (reason 16 (row 0)) (λ _. accepted v))))
+    bind (checkInGrammar v (treeOf g 0) 0) (λ _. accepted v)))
+
+-- refusal 16: a, where its size in bytes is at most 1,048,576
+abbrev pub checkSize : {A : Type 0} → ℕ → A → Outcome Reason A
+checkSize size a = test (leb size 1048576) (reason 16 (row 0)) (λ _. accepted a)
+
+-- the value to be written: 1 to 6 and 12 to 15, then 16
+unfoldable pub valueToWrite : List ℕ → List ℕ → ℕ → List ℕ → Outcome Reason Val
+valueToWrite g t n s = bind (valueInGrammar g t n s) (λ v. checkSize (SizeOfV v) v)
 
 -- GM's `MarshallVal` at an index of an output of len bytes: the value, where it has room; 17 where it has not
 unfoldable pub marshallValOf : List ℕ → List ℕ → ℕ → List ℕ → ℕ → ℕ → Outcome Reason Val

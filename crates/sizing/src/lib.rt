@@ -1,17 +1,17 @@
 // Sizing: the size of the value that rows with their store stand for, where it may be written by a grammar; or the first refusal.
 ghost use mathlib.Core.Path.{_≡_};
 ghost use Prim.Native.Nat.{_<_};
-ghost use lib.Dec.{leb};
-ghost use Rattle.refusal.specs.Outcome.{accepted, refused, test, map, reason, row as atRow};
+ghost use Rattle.refusal.specs.Outcome.{refused, map, reason, row as atRow};
 ghost use Rattle.refusal.specs.Meaning.{outcomeOf};
 ghost use Rattle.value.specs.Tree.{SizeOfV};
 ghost use Rattle.tables.specs.Grammar.{nodeCount, firstWord, countWord};
 ghost use Rattle.grammar.specs.Rule.{Passes};
 ghost use Rattle.grammar.specs.Tree.{treeOf, childTrees};
+ghost use Rattle.rows.specs.Size.{AtMost};
 ghost use Rattle.rows.specs.Meaning.{sizeOf};
 ghost use Rattle.sizing.specs.InGrammar.{checkAllInGrammar, checkEachInGrammar};
 ghost use Rattle.sizing.specs.Checks.{Standing, StandingAll, Checks, ChecksAll};
-ghost use Rattle.sizing.specs.Writes.{valueToWrite, marshallValOf};
+ghost use Rattle.sizing.specs.Writes.{valueInGrammar, checkSize, valueToWrite, marshallValOf};
 use refusal::Answer;
 use rows::SizeOf;
 
@@ -105,9 +105,25 @@ fn check_each_in_grammar(rows: &[u64], grammar: &[u32], row: usize, node: usize)
     Answer::Accepted
 }
 
-// Refusal 16.
-fn check_size(size: u64) -> SizeOf
-    ensures { λ r. ⌜ sizeOf r ≡ test (leb size 1048576) (reason 16 (atRow 0)) (λ _. accepted size) ⌝ }
+// GM's `ComputeSizeOf` of a value of the grammar, whatever its size: 1 to 6, 12 to 14, then 15.
+pub fn size_in_grammar(grammar: &[u32], rows: &[u64], n: usize, store: &[u8]) -> SizeOf
+    ensures { λ r. ⌜ (sizeOf r ≡ map SizeOfV (valueInGrammar (now (grammar .entry)) (now (rows .entry)) n (now (store .entry)))) × AtMost 4293951488 (sizeOf r) ⌝ }
+{
+    match grammar::check_grammar(grammar) {
+        Answer::Refused(r) => SizeOf::Refused(r),
+        Answer::Accepted => match rows::compute_size_of(rows, n, store) {
+            SizeOf::Refused(r) => SizeOf::Refused(r),
+            SizeOf::Size(bytes) => match check_in_grammar(rows, grammar, 0, 0) {
+                Answer::Refused(r) => SizeOf::Refused(r),
+                Answer::Accepted => SizeOf::Size(bytes),
+            },
+        },
+    }
+}
+
+// Refusal 16, of a size by any rule of bytes.
+pub fn check_size(size: u64) -> SizeOf
+    ensures { λ r. ⌜ sizeOf r ≡ checkSize size size ⌝ }
 {
     if tables::MOST_BYTES < size as usize {
         SizeOf::Refused(refusal::at_row(refusal::SIZE_TOO_LARGE, 0))
@@ -120,15 +136,9 @@ fn check_size(size: u64) -> SizeOf
 fn size_of_value(grammar: &[u32], rows: &[u64], n: usize, store: &[u8]) -> SizeOf
     ensures { λ r. ⌜ sizeOf r ≡ map SizeOfV (valueToWrite (now (grammar .entry)) (now (rows .entry)) n (now (store .entry))) ⌝ }
 {
-    match grammar::check_grammar(grammar) {
-        Answer::Refused(r) => SizeOf::Refused(r),
-        Answer::Accepted => match rows::compute_size_of(rows, n, store) {
-            SizeOf::Refused(r) => SizeOf::Refused(r),
-            SizeOf::Size(size) => match check_in_grammar(rows, grammar, 0, 0) {
-                Answer::Refused(r) => SizeOf::Refused(r),
-                Answer::Accepted => check_size(size),
-            },
-        },
+    match size_in_grammar(grammar, rows, n, store) {
+        SizeOf::Refused(r) => SizeOf::Refused(r),
+        SizeOf::Size(size) => check_size(size),
     }
 }
 

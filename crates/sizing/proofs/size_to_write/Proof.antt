@@ -1,6 +1,8 @@
 use Rattle.refusal.specs.Outcome.{accepted, refused}
 use Rattle.refusal.proofs.Meaning.{done, stopped}
-use Rattle.sizing.proofs.Writes.{sized, size-refused, write-refused, write-room}
+use Rattle.value.specs.Tree.{SizeOfV}
+use Rattle.sizing.specs.Writes.{valueToWrite, marshallValOf}
+use Rattle.sizing.proofs.Writes.{sized, size-refused, size-stops, size-room}
 use borrow.Author.Needs.{needs}
 use Rattle.sizing.proofs.size_to_write.Statement.{statement}
 use Rattle.sizing.proofs.size_to_write.Tie as tie
@@ -24,19 +26,22 @@ enum-told : tie.Need-enum-told
 enum-told c = search needs
 
 returns : tie.Need-returns
+unfolding marshallValOf
 returns c =
     let a = c .before .before .before .before .before .before .before .args in
-    write-refused (a .grammar .now) (a .rows .now) (a .n) (a .store .now) (a .len) (a .index) (size-refused (c .before .r .given .1) (c .before .before .before .size-of-value .ensures))
+    size-stops SizeOfV SizeOfV (valueToWrite (a .grammar .now) (a .rows .now) (a .n) (a .store .now)) _ (size-refused (c .before .r .given .1) (c .before .before .before .size-of-value .ensures))
 
 returns-2 : tie.Need-returns-2
+unfolding marshallValOf
 returns-2 c =
     let a = c .before .before .before .before .before .before .before .before .before .before .before .args in
-    write-room (a .grammar .now) (a .rows .now) (a .n) (a .store .now) (a .len) (a .index) (sized (c .before .before .before .before .before .size .given .1) (c .before .before .before .before .before .before .before .size-of-value .ensures)) (refused _) (stopped (c .before .r2 .given .1) (c .before .before .before .room .ensures))
+    size-room SizeOfV (a .len) (a .index) (valueToWrite (a .grammar .now) (a .rows .now) (a .n) (a .store .now)) (sized (c .before .before .before .before .before .size .given .1) (c .before .before .before .before .before .before .before .size-of-value .ensures)) (refused _) (stopped (c .before .r2 .given .1) (c .before .before .before .room .ensures))
 
 returns-3 : tie.Need-returns-3
+unfolding marshallValOf
 returns-3 c =
     let a = c .before .before .before .before .before .before .before .before .before .before .args in
-    write-room (a .grammar .now) (a .rows .now) (a .n) (a .store .now) (a .len) (a .index) (sized (c .before .before .before .before .size .given .1) (c .before .before .before .before .before .before .size-of-value .ensures)) (accepted tt) (done (c .enum-told .given .1) (c .before .before .room .ensures))
+    size-room SizeOfV (a .len) (a .index) (valueToWrite (a .grammar .now) (a .rows .now) (a .n) (a .store .now)) (sized (c .before .before .before .before .size .given .1) (c .before .before .before .before .before .before .size-of-value .ensures)) (accepted tt) (done (c .enum-told .given .1) (c .before .before .room .ensures))
 
 pub size-to-write-spec : {M : Type 1} → statement M
 size-to-write-spec =
