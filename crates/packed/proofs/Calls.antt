@@ -8,14 +8,14 @@ use lib.ListN.{length, take, drop}
 use lib.Seq.{take-all}
 use lib.Dec.{leb}
 use borrow.Author.Tests.{le-leb, lt-leb, leb-true}
-use mathlib.Core.List.{List}
-use Rattle.refusal.specs.Outcome.{Outcome, accepted, refused, test, map, Fills, Reason, reason, byte}
+use mathlib.Core.List.{List, _++_}
+use Rattle.refusal.specs.Outcome.{Outcome, accepted, refused, test, map, contents, Fills, Reason, reason, byte}
 use Rattle.refusal.proofs.Tests.{leb-iff}
 use Rattle.refusal.proofs.Outcome.{test-true, test-false, test-passed, fills-refused, fills-accepted}
 use Rattle.packed.specs.Packed.{present, room, unpackLittleEndian, unpackLittleEndianSeq, packLittleEndianSeq, unpackAt, unpackSeqAt, put, putAt}
 use Rattle.packed.specs.Steps.{UnpackedTo, PackedTo}
 use Rattle.packed.proofs.Laws.{length-unpackSeq, unpackSeq-take, length-packSeq}
-use Rattle.packed.proofs.Put.{put-whole}
+use Rattle.packed.proofs.Put.{length-put, put-whole, put-more}
 
 -- a count compared with the numbers that have room says what the product would
 pub count-compared : (len index count width : ℕ) → 0 < width → index ≤ len → leb count ((len - index) / width) ≡ leb (index + width * count) len
@@ -93,6 +93,11 @@ module _ (out : List ℕ) (index : ℕ) (bs : List ℕ) (size : ℕ) (l : length
   pub put-accepted : {exit : List ℕ} → accepted tt ≡ room (length out) index size → exit ≡ put out index bs → Fills (putAt out index bs) (accepted tt) out exit
   put-accepted h e = rw l (fills-accepted (λ _. put out index bs) out h e)
 
+  -- bytes that have room were put
+  pub fills-put : index + size ≤ length out → {o : Outcome Reason (Unit {0})} {exit : List ℕ} → Fills (putAt out index bs) o out exit → exit ≡ put out index bs
+  fills-put h f =
+      f .buffer ∙ ap (λ (x : Outcome Reason (Unit {0})). contents (map (λ _. put out index bs) x) out) (sym (room-all (length out) index (length bs) (omega arith)))
+
 -- the same of a sequence, whose loop has packed all i numbers
 module _ (w : ℕ) (numbers out : List ℕ) (index : ℕ) where
   pub packSeq-refused : {x : Reason} → refused x ≡ room (length out) index (w * length numbers) → Fills (putAt out index (packLittleEndianSeq w numbers)) (refused x) out out
@@ -102,3 +107,9 @@ module _ (w : ℕ) (numbers out : List ℕ) (index : ℕ) where
   packSeq-accepted i e f h =
       put-accepted out index (packLittleEndianSeq w numbers) (w * length numbers) (length-packSeq w numbers) h
       (f ∙ ap (λ (ns : List ℕ). put out index (packLittleEndianSeq w ns)) (take-all i numbers (omega arith)))
+
+-- bytes that were put right behind others
+pub fills-more : (out mid : List ℕ) (index at : ℕ) (xs ys : List ℕ) → index + (length xs + length ys) ≤ length out → at ≡ index + length xs → mid ≡ put out index xs → {o : Outcome Reason (Unit {0})} {exit : List ℕ} → Fills (putAt mid at ys) o mid exit → exit ≡ put out index (xs ++ ys)
+fills-more out mid index at xs ys h a m f =
+    let k : length mid ≡ length out = ap length m ∙ length-put out index xs (omega arith) in
+    fills-put mid at ys (length ys) refl (omega arith) f ∙ ap (λ (x : List ℕ). put x at ys) m ∙ put-more out index xs ys at a (omega arith)

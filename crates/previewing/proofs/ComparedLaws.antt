@@ -8,9 +8,8 @@ use lib.ListN.{length, drop, length-append}
 use lib.Seq.{drop-drop}
 use Rattle.packed.specs.Packed.{packLittleEndian}
 use Rattle.packed.proofs.Laws.{length-pack}
-use Rattle.rows.specs.Size.{bytesFrom}
-use Rattle.writing.specs.Put.{ownBytesAt}
-use Rattle.writing.proofs.Put.{bytes-next, bytes-none}
+use Rattle.rows.specs.Size.{ownBytes, ownBytesAt, bytesFrom}
+use Rattle.rows.proofs.Loop.{bytes-next, bytes-none}
 use Rattle.previewing.specs.declared.Compared.{Compared}
 use Rattle.previewing.specs.Preview.{differing}
 use Rattle.previewing.specs.Compared.{comparedWith}
@@ -48,11 +47,11 @@ module _ (t s out : List ℕ) (index : ℕ) where
   rowsCompared i = comparedWith out start (bytesFrom t s 0 i)
 
   pub rows-none : start ≡ rowsCompared 0
-  rows-none = compared-nothing out start ∙ ap (comparedWith out start) (sym (bytes-none t s 0))
+  rows-none = compared-nothing out start ∙ ap (comparedWith out start) (sym (bytes-none ownBytes t s 0))
 
   pub rows-next : (i : ℕ) {c r : Compared} → c ≡ rowsCompared i → r ≡ comparedWith out c (ownBytesAt t s i) → r ≡ rowsCompared (i + 1)
   rows-next i b e =
       e
       ∙ ap (λ (x : Compared). comparedWith out x (ownBytesAt t s i)) b
       ∙ compared-more out start (bytesFrom t s 0 i) (ownBytesAt t s i)
-      ∙ ap (comparedWith out start) (bytes-next t s i)
+      ∙ ap (comparedWith out start) (bytes-next ownBytes t s i)

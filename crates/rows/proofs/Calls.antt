@@ -17,7 +17,7 @@ use Rattle.rows.specs.Rule.{TableOf}
 use Rattle.rows.specs.Locate.{Part, lookUp, elementsPart, locateArray}
 use Rattle.rows.proofs.Laws.{ends}
 use Rattle.rows.proofs.Rule.{accepted-exactly}
-use Rattle.rows.proofs.Size.{table-within}
+use Rattle.rows.proofs.Parts.{table-holds}
 
 -- a refusal goes through
 pub map-refused : {A B : Type 0} (f : A → B) (o : Outcome Reason A) {e : Reason} → refused e ≡ ends o → refused e ≡ map f o
@@ -94,4 +94,4 @@ unfolding locateArray
 locate-within t n s i p words bytes h =
     let f = found t n s words bytes 18 i (ends-bind (lookUp 18 t n s i) _ p h) in
     let e : accepted p ≡ elementsPart (kindOf (rowAt t i .kind)) (rowAt t i) (reason 18 (row i)) = h ∙ rw (f .row) in
-    part-within (kindOf (rowAt t i .kind)) (rowAt t i) (length s) (reason 18 (row i)) p (table-within t n s (f .table .value) (f .table .table) i (f .below)) e
+    part-within (kindOf (rowAt t i .kind)) (rowAt t i) (length s) (reason 18 (row i)) p (table-holds t n s (f .table .value) (f .table .table) i (f .below) .within) e

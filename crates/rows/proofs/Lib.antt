@@ -1,6 +1,10 @@
 pub mod LayoutLaws
 pub mod Laws
+pub mod Words
 pub mod Rule
+pub mod Parts
+pub mod Loop
+pub mod Spelling
 pub mod Size
 pub mod Meaning
 pub mod Calls

@@ -1,13 +1,20 @@
 -- What the walk means, in document 01's terms: when rows, with a store, stand for a value.
 use mathlib.Core.Path.{_≡_}
+use mathlib.Core.Bool.{true}
 use mathlib.Core.List.{List}
 use Prim.Native.Nat.{ℕ, suc, _+_, _*_, _≤_}
 use lib.ListN.{length, take, drop}
 use Rattle.packed.specs.Packed.{packLittleEndianSeq}
-use Rattle.value.specs.Kinds.{Elements, elementWidth}
+use Rattle.value.specs.Kinds.{Elements, elementWidth, kindOf}
 use Rattle.value.specs.Tree.{Val, Vals, VConstant, VNumber, VArray, VTuple, VNumberArray, VCase, vnil, vcons, ValidVal, TypedVal, rowCount}
 use Rattle.tables.specs.Row.{rowWidth, rowAt}
 use Rattle.rows.specs.Layout.{ownRow}
+use Rattle.rows.specs.Walk.{keepsRule, withinStore}
+
+-- row i by itself keeps its kind's rule and has its array in the store: 13 and 14 are not given
+pub record RowHolds (t s : List ℕ) (i : ℕ) : Type 0 where
+  pub rule : keepsRule (kindOf (rowAt t i .kind)) (rowAt t i) ≡ true
+  pub within : withinStore (kindOf (rowAt t i .kind)) (rowAt t i) (length s) ≡ true
 
 -- row i is the row of v itself, wherever its array lies
 abbrev pub RowOf : List ℕ → ℕ → Val → Type 0

@@ -1,4 +1,4 @@
--- The bytes of a row by itself, and the size that the rows come to.
+-- The bytes of a row by itself, and what the rows come to.
 use Prim.Native.Nat.{ℕ, zero, suc, _+_, _*_, _≤_}
 use mathlib.Core.List.{List, [], _++_}
 use lib.ListN.{take, drop}
@@ -42,14 +42,35 @@ ownSize other r = 0
 abbrev pub mostOwnSize : ℕ
 mostOwnSize = 8 + 1048576
 
-abbrev pub sizeAt : List ℕ → ℕ → ℕ
-sizeAt t i = ownSize (kindOf (rowAt t i .kind)) (rowAt t i)
+-- ---- all rows, by any rule `own` for a row's own bytes, given the store where its array lies, and any rule `size` for how many they are
+
+-- what a rule says of row i, by its kind and words
+abbrev pub ofRow : {A : Type 0} → (Kind → Row → A) → List ℕ → ℕ → A
+ofRow f t i = f (kindOf (rowAt t i .kind)) (rowAt t i)
+
+-- the own bytes of row i
+abbrev pub ownAt : (Kind → Row → List ℕ → List ℕ) → List ℕ → List ℕ → ℕ → List ℕ
+ownAt own t s i = ofRow (λ k r. own k r s) t i
 
 -- the own bytes of n rows from row i on, one behind the other
-unfoldable pub bytesFrom : List ℕ → List ℕ → ℕ → ℕ → List ℕ
-bytesFrom t s i zero = []
-bytesFrom t s i (suc n) = ownBytes (kindOf (rowAt t i .kind)) (rowAt t i) s ++ bytesFrom t s (suc i) n
+unfoldable pub ownFrom : (Kind → Row → List ℕ → List ℕ) → List ℕ → List ℕ → ℕ → ℕ → List ℕ
+ownFrom own t s i zero = []
+ownFrom own t s i (suc n) = ownAt own t s i ++ ownFrom own t s (suc i) n
 
-unfoldable pub sizeFrom : List ℕ → ℕ → ℕ → ℕ
-sizeFrom t i zero = 0
-sizeFrom t i (suc n) = sizeAt t i + sizeFrom t (suc i) n
+-- their own sizes, added up
+unfoldable pub sumFrom : (Kind → Row → ℕ) → List ℕ → ℕ → ℕ → ℕ
+sumFrom size t i zero = 0
+sumFrom size t i (suc n) = ofRow size t i + sumFrom size t (suc i) n
+
+-- the same by the byte rule
+abbrev pub ownBytesAt : List ℕ → List ℕ → ℕ → List ℕ
+ownBytesAt t s i = ownAt ownBytes t s i
+
+abbrev pub bytesFrom : List ℕ → List ℕ → ℕ → ℕ → List ℕ
+bytesFrom t s i n = ownFrom ownBytes t s i n
+
+abbrev pub sizeAt : List ℕ → ℕ → ℕ
+sizeAt t i = ofRow ownSize t i
+
+abbrev pub sizeFrom : List ℕ → ℕ → ℕ → ℕ
+sizeFrom t i n = sumFrom ownSize t i n

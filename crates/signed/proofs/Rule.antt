@@ -18,7 +18,7 @@ use Rattle.rows.specs.Walk.{keepsRule}
 use Rattle.rows.specs.Locate.{lookUp}
 use Rattle.rows.proofs.Laws.{number-below}
 use Rattle.rows.proofs.Rule.{class-word, accepted-exactly}
-use Rattle.rows.proofs.Size.{table-rule}
+use Rattle.rows.proofs.Parts.{table-holds}
 use Rattle.rows.proofs.Calls.{ends-bind, found}
 use Rattle.signed.specs.Signed.{signedOfRow, signedNumberOf}
 use Rattle.signed.specs.Rule.{NumberOf}
@@ -44,7 +44,7 @@ module _ (t : List ℕ) (n : ℕ) (s : List ℕ) (i : ℕ) (z : ℤ) (words : Be
   signed-is h =
       let f = found t n s words bytes 20 i (ends-bind (lookUp 20 t n s i) _ z h) in
       let x = of-kind (kindOf (rowAt t i .kind)) (rowAt t i) (reason 20 (row i)) z (h ∙ rw (f .row)) in
-      let l = number-below (x .0) (rowAt t i) (ap (λ (c : Kind). keepsRule c (rowAt t i)) (sym (x .2)) ∙ table-rule t n s (f .table .value) (f .table .table) i (f .below)) in
+      let l = number-below (x .0) (rowAt t i) (ap (λ (c : Kind). keepsRule c (rowAt t i)) (sym (x .2)) ∙ table-holds t n s (f .table .value) (f .table .table) i (f .below) .rule) in
       record {
         value = f .table .value;
         table = f .table .table;

@@ -10,14 +10,14 @@ use Rattle.refusal.proofs.Outcome.{map-accepted, map-refused}
 use Rattle.packed.specs.Packed.{Bytes, Below, put}
 use Rattle.value.specs.Tree.{Val, SizeOfV}
 use Rattle.value.specs.Bytes.{bytesOf}
-use Rattle.rows.specs.Rule.{TableOf}
+use Rattle.rows.specs.Rule.{RowHolds, TableOf}
 use Rattle.rows.specs.Size.{sizeFrom}
 use Rattle.rows.specs.declared.SizeOf.the-variants as SizeOf
 use Rattle.rows.proofs.Rule.{accepted-exactly as rows-exactly}
-use Rattle.rows.proofs.Size.{table-rule, table-within, table-size}
+use Rattle.rows.proofs.Parts.{table-holds}
+use Rattle.rows.proofs.Size.{table-size}
 use Rattle.sizing.specs.Writes.{marshallValOf}
 use Rattle.sizing.proofs.Writes.{accepted-writes}
-use Rattle.writing.specs.Put.{RowHolds}
 use Rattle.writing.specs.Marshall.{Marshalls}
 
 -- the value to be put, and its table
@@ -37,7 +37,7 @@ module _ (g t : List ℕ) (n : ℕ) (s : List ℕ) (len index : ℕ) where
   put-ready w =
       let v = w .value in
       let h = w .table in
-      (λ j l. record { rule = table-rule t n s v h j l; within = table-within t n s v h j l }, omega (arith, table-size t n s v h, accepted-writes g t n s len index v (w .decided) .room))
+      (table-holds t n s v h, omega (arith, table-size t n s v h, accepted-writes g t n s len index v (w .decided) .room))
 
 module _ (o : Outcome Reason Val) (index : ℕ) (out : List ℕ) where
   output : {x : Outcome Reason Val} → o ≡ x → contents (map (λ v. put out index (bytesOf v)) o) out ≡ contents (map (λ v. put out index (bytesOf v)) x) out

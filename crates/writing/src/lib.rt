@@ -4,9 +4,9 @@ ghost use mathlib.Core.List.{_++_};
 ghost use Prim.Native.Nat.{ℕ, _+_, _*_, _≤_, _<_};
 ghost use lib.ListN.{length, take, drop};
 ghost use Rattle.packed.specs.Packed.{packLittleEndian, put};
-ghost use Rattle.rows.specs.Size.{sizeAt, bytesFrom, sizeFrom};
+ghost use Rattle.rows.specs.Rule.{RowHolds};
+ghost use Rattle.rows.specs.Size.{ownBytesAt, sizeAt, bytesFrom, sizeFrom};
 ghost use Rattle.sizing.specs.Writes.{marshallValOf};
-ghost use Rattle.writing.specs.Put.{RowHolds, ownBytesAt};
 ghost use Rattle.writing.specs.Marshall.{Marshalls};
 use rows::SizeOf;
 

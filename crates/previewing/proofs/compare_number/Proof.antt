@@ -6,7 +6,7 @@ use lib.ListN.{take, drop}
 use Rattle.packed.specs.Packed.{packLittleEndian}
 use Rattle.packed.proofs.Laws.{length-pack, pack-front}
 use Rattle.packed.proofs.Put.{put-whole}
-use Rattle.writing.proofs.Put.{number-put}
+use Rattle.packed.proofs.Calls.{fills-put}
 use Rattle.previewing.specs.Preview.{differing}
 use Rattle.previewing.proofs.Differing.{front-most}
 use Rattle.previewing.proofs.ComparedLaws.{compared-as}
@@ -40,7 +40,7 @@ returns c =
     let s = c .before .before .before .before .before .before .before in
     let a = s .args in
     let p = c .before .before .before .before .pack-little-endian-uint64-into-array in
-    let e : take (a .width) (p .last .1 .0) ≡ packLittleEndian (a .width) (a .n) = ap (take (a .width)) (number-put 8 (a .n) _ 0 (omega arith) (p .ensures) ∙ put-whole _ (packLittleEndian 8 (a .n)) (length-pack 8 (a .n))) ∙ pack-front (a .width) 8 (a .n) (s .pre .0) in
+    let e : take (a .width) (p .last .1 .0) ≡ packLittleEndian (a .width) (a .n) = ap (take (a .width)) (fills-put _ 0 (packLittleEndian 8 (a .n)) 8 (length-pack 8 (a .n)) (omega arith) (p .ensures) ∙ put-whole _ (packLittleEndian 8 (a .n)) (length-pack 8 (a .n))) ∙ pack-front (a .width) 8 (a .n) (s .pre .0) in
     compared-as (a .out .now) (a .before) (packLittleEndian (a .width) (a .n))
     (omega (arith, length-pack (a .width) (a .n)))
     (ap (λ (x : ℕ). a .before .changed + x) (c .before .count-differing .ensures ∙ ap (differing (drop (a .before .at) (a .out .now))) e))

@@ -7,9 +7,8 @@ use lib.ListN.{length}
 use Rattle.value.specs.Kinds.{Elements, bytes, uint32s, uint64s, elementWidth, Kind, kinds, kindOf, elements}
 use Rattle.value.proofs.KindLaws.{none-of}
 use Rattle.tables.specs.Row.{Row}
-use Rattle.rows.specs.Size.{ownBytes, ownSize}
-use Rattle.writing.specs.Put.{ownBytesAt}
-use Rattle.writing.proofs.Put.{words, own-words, size-words, elements-fit}
+use Rattle.rows.specs.Size.{ownBytes, ownSize, ownBytesAt}
+use Rattle.rows.proofs.Words.{words, by-words, elements-fit}
 use Rattle.previewing.specs.declared.Compared.{Compared}
 use Rattle.previewing.specs.Compared.{comparedWith}
 use Rattle.previewing.proofs.ComparedLaws.{compared-nothing}
@@ -21,19 +20,19 @@ use Rattle.previewing.proofs.compare_row.Tie as tie
 abbrev this : tie.After-word3-at → Row
 this c =
     let a = c .before .before .before .before .before .before .args in
-    words (a .rows .now) (a .store .now) (a .row) (c .before .before .kind-at .ensures) (c .before .word2-at .ensures) (c .word3-at .ensures)
+    words (a .rows .now) (a .row) (c .before .before .kind-at .ensures) (c .before .word2-at .ensures) (c .word3-at .ensures)
 
 -- what a row of class k comes to
 arm : (c : tie.After-word3-at) {k : Kind} {r : Compared} → kindOf (this c .kind) ≡ k → let a = c .before .before .before .before .before .before .args in r ≡ comparedWith (a .out .now) (a .before) (ownBytes k (this c) (a .store .now)) → r ≡ comparedWith (a .out .now) (a .before) (ownBytesAt (a .rows .now) (a .store .now) (a .row))
 arm c e h =
     let a = c .before .before .before .before .before .before .args in
-    h ∙ ap (comparedWith (a .out .now) (a .before)) (own-words (a .rows .now) (a .store .now) (a .row) (c .before .before .kind-at .ensures) (c .before .word2-at .ensures) (c .word3-at .ensures) e)
+    h ∙ ap (comparedWith (a .out .now) (a .before)) (by-words (a .rows .now) (a .row) (c .before .before .kind-at .ensures) (c .before .word2-at .ensures) (c .word3-at .ensures) (λ x r. ownBytes x r (a .store .now)) e)
 
 room : (c : tie.After-word3-at) {k : Kind} → kindOf (this c .kind) ≡ k → let a = c .before .before .before .before .before .before .args in a .before .at + ownSize k (this c) ≤ length (a .out .now)
 room c e =
     let s = c .before .before .before .before .before .before in
     let a = s .args in
-    omega (arith, s .pre .1, size-words (a .rows .now) (a .store .now) (a .row) (c .before .before .kind-at .ensures) (c .before .word2-at .ensures) (c .word3-at .ensures) e)
+    omega (arith, s .pre .1, by-words (a .rows .now) (a .row) (c .before .before .kind-at .ensures) (c .before .word2-at .ensures) (c .word3-at .ensures) ownSize e)
 
 -- a row without bytes of its own
 nothing : (c : tie.After-word3-at) → let a = c .before .before .before .before .before .before .args in a .before ≡ comparedWith (a .out .now) (a .before) []
@@ -46,7 +45,7 @@ array-words : (c : tie.After-word3-at) (k : Elements) → kindOf (this c .kind) 
 array-words c k e =
     let s = c .before .before .before .before .before .before in
     let a = s .args in
-    (elements-fit (a .rows .now) (a .store .now) (a .row) (c .before .before .kind-at .ensures) (c .before .word2-at .ensures) (c .word3-at .ensures) k e (s .pre .0), room c e, s .pre .2)
+    (elements-fit (a .rows .now) (a .row) (c .before .before .kind-at .ensures) (c .before .word2-at .ensures) (c .word3-at .ensures) k e (s .pre .0), room c e, s .pre .2)
 
 kind-at-requires : tie.Need-kind-at-requires
 kind-at-requires c κs = search needs

@@ -4,8 +4,9 @@ use Prim.Native.Nat.{ℕ, _+_, _-_, _≤_}
 use native.Mathlib.Nat.{zero-add}
 use native.Mathlib.Omega.{arith}
 use lib.ListN.{length, drop}
-use Rattle.rows.specs.Size.{bytesFrom}
-use Rattle.writing.proofs.Put.{size-within, put-length}
+use Rattle.rows.specs.Size.{ownBytes, ownSize, bytesFrom}
+use Rattle.rows.proofs.Loop.{size-within, put-length}
+use Rattle.rows.proofs.Size.{length-ownBytes}
 use Rattle.previewing.specs.declared.Compared.{Compared}
 use Rattle.previewing.specs.Preview.{differing}
 use Rattle.previewing.proofs.ComparedLaws.{compared-below, rowsCompared, rows-none, rows-next}
@@ -31,7 +32,7 @@ compare-row-requires c κs =
     let l = c .before .loop in
     let e : l .compared .at ≡ a .index + length (bytesFrom (a .rows .now) (a .store .now) 0 (l .i)) = ap (λ (x : Compared). x .at) (l .inv .1) in (
       s .pre .0 (l .i) (c .loop-test .taken),
-      omega (arith, e, s .pre .1, put-length (a .rows .now) (a .store .now) (a .n) (a .out .now) (a .index) (s .pre .0) (s .pre .1) (l .i) (l .inv .0), size-within (a .rows .now) (a .store .now) (l .i) (a .n) (c .loop-test .taken)),
+      omega (arith, e, s .pre .1, put-length ownBytes (a .rows .now) (a .store .now) ownSize length-ownBytes (a .n) (s .pre .0) (l .i) (l .inv .0), size-within ownSize (a .rows .now) (l .i) (a .n) (c .loop-test .taken)),
       rw (l .inv .1) (compared-below (a .out .now) (record { at = a .index; changed = 0 }) (bytesFrom (a .rows .now) (a .store .now) 0 (l .i)) (omega arith)),
     )
 

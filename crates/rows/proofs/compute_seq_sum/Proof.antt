@@ -2,8 +2,8 @@
 use mathlib.Core.Path.{_≡_, ap, _∙_}
 use Prim.Native.Nat.{_-_, _≤_}
 use native.Mathlib.Omega.{arith}
-use Rattle.rows.specs.Size.{sizeFrom}
-use Rattle.rows.proofs.Size.{size-none, size-next, size-below}
+use Rattle.rows.specs.Size.{ownSize, mostOwnSize, sizeFrom}
+use Rattle.rows.proofs.Loop.{size-none, size-next, size-below}
 use borrow.Author.Needs.{needs}
 use Rattle.rows.proofs.compute_seq_sum.Statement.{statement}
 use Rattle.rows.proofs.compute_seq_sum.Tie as tie
@@ -15,7 +15,7 @@ abbrev μ-loop : tie.MeasureT-loop
 μ-loop rows n sum₀ i₀ sum i = n - i
 
 loop-holds : tie.Need-loop-holds Inv-loop μ-loop
-loop-holds c = (omega arith, size-none (c .before .args .rows .now) 0)
+loop-holds c = (omega arith, size-none ownSize (c .before .args .rows .now) 0)
 
 own-size-requires : tie.Need-own-size-requires Inv-loop μ-loop
 own-size-requires c κs = c .before .before .before .pre .1 (c .before .loop .i) (c .loop-test .taken)
@@ -25,7 +25,7 @@ add-sum c =
     let t = c .before .before .before .before .args .rows .now in
     let small = c .before .before .before .before .pre .1 in
     let i = c .before .before .loop .i in
-    omega (arith, c .own-size .ensures, small i (c .before .loop-test .taken), size-below t (c .before .before .before .before .args .n) i (omega arith) small)
+    omega (arith, c .own-size .ensures, small i (c .before .loop-test .taken), size-below ownSize t mostOwnSize (c .before .before .before .before .args .n) i (omega arith) small)
 
 add-i : tie.Need-add-i Inv-loop μ-loop
 add-i c = search needs
@@ -34,7 +34,7 @@ loop-less : tie.Need-loop-less Inv-loop μ-loop
 loop-less c = search needs
 
 loop-again : tie.Need-loop-again Inv-loop μ-loop
-loop-again c = (omega arith, omega (arith, c .own-size .ensures, size-next (c .before .before .before .before .args .rows .now) (c .before .before .loop .i)))
+loop-again c = (omega arith, omega (arith, c .own-size .ensures, size-next ownSize (c .before .before .before .before .args .rows .now) (c .before .before .loop .i)))
 
 returns : tie.Need-returns Inv-loop μ-loop
 returns c =

@@ -5,7 +5,7 @@ use Rattle.refusal.proofs.Meaning.{done, stopped}
 use Rattle.value.specs.Kinds.{kindOf}
 use Rattle.tables.specs.Row.{Row}
 use Rattle.rows.specs.Locate.{lookUp}
-use Rattle.rows.proofs.Size.{table-rule}
+use Rattle.rows.proofs.Parts.{table-holds}
 use Rattle.rows.proofs.Calls.{bind-refused, Found, found}
 use Rattle.signed.specs.Signed.{signedOfRow, signedNumberOf}
 use borrow.Author.Needs.{needs}
@@ -31,7 +31,7 @@ number-at-requires : tie.Need-number-at-requires
 number-at-requires c κs =
     let a = c .before .before .before .before .before .args in
     let h = row-found c in
-    table-rule (a .rows .now) (a .n) (a .store .now) (h .table .value) (h .table .table) (a .row) (h .below)
+    table-holds (a .rows .now) (a .n) (a .store .now) (h .table .value) (h .table .table) (a .row) (h .below) .rule
 
 returns : tie.Need-returns
 unfolding signedNumberOf

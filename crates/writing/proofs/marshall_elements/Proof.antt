@@ -5,7 +5,8 @@ use native.Mathlib.Omega.{arith}
 use lib.ListN.{length, take, drop, length-drop}
 use lib.Seq.{length-take-le}
 use Rattle.packed.specs.Packed.{packLittleEndian, put}
-use Rattle.writing.proofs.Put.{count-put}
+use Rattle.packed.proofs.Laws.{length-pack}
+use Rattle.packed.proofs.Calls.{fills-more}
 use borrow.Author.Needs.{needs}
 use Rattle.writing.proofs.marshall_elements.Statement.{statement}
 use Rattle.writing.proofs.marshall_elements.Tie as tie
@@ -45,9 +46,10 @@ returns c =
     let m = a .place + n - a .place in
     let e : m ≡ n = omega arith in
     let l : length (take m (drop (a .place) (a .store .now))) ≡ m = length-take-le m (drop (a .place) (a .store .now)) (rw length-drop (omega arith)) in
+    let w : length (packLittleEndian 8 (a .count)) ≡ 8 = length-pack 8 (a .count) in
     let u = c .before .before .before .before .before .before .before .marshall-uint64 in (
       omega (arith, u .ensures .0),
-      count-put (a .out .now) _ (a .index) (u .result) (a .count) (take m (drop (a .place) (a .store .now))) (omega arith) (u .ensures .0) (u .ensures .1) (c .before .before .copy-seq-into-array .ensures)
+      fills-more (a .out .now) _ (a .index) (u .result) (packLittleEndian 8 (a .count)) (take m (drop (a .place) (a .store .now))) (omega arith) (omega (arith, u .ensures .0)) (u .ensures .1) (c .before .before .copy-seq-into-array .ensures)
           ∙ ap (λ (k : ℕ). put (a .out .now) (a .index) (packLittleEndian 8 (a .count) ++ take k (drop (a .place) (a .store .now)))) e,
     )
 

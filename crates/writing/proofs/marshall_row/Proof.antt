@@ -9,10 +9,9 @@ use Rattle.packed.specs.Packed.{put}
 use Rattle.packed.proofs.Put.{put-nothing}
 use Rattle.value.specs.Kinds.{Number, uint32, int32, width, Elements, bytes, uint32s, uint64s, elementWidth, Kind, kinds, kindOf, number, elements}
 use Rattle.tables.specs.Row.{Row}
-use Rattle.rows.specs.Size.{ownBytes, ownSize, sizeAt}
+use Rattle.rows.specs.Size.{ownBytes, ownSize, ownBytesAt, sizeAt}
+use Rattle.rows.proofs.Words.{words, by-words, number-fits, elements-fit}
 use Rattle.value.proofs.KindLaws.{none-of}
-use Rattle.writing.specs.Put.{ownBytesAt}
-use Rattle.writing.proofs.Put.{words, own-words, size-words, number-fits, elements-fit}
 use borrow.Author.Needs.{needs}
 use Rattle.writing.proofs.marshall_row.Statement.{statement}
 use Rattle.writing.proofs.marshall_row.Tie as tie
@@ -21,13 +20,13 @@ use Rattle.writing.proofs.marshall_row.Tie as tie
 abbrev this : tie.After-word3-at → Row
 this c =
     let a = c .before .before .before .before .before .before .args in
-    words (a .rows .now) (a .store .now) (a .row) (c .before .before .kind-at .ensures) (c .before .word2-at .ensures) (c .word3-at .ensures)
+    words (a .rows .now) (a .row) (c .before .before .kind-at .ensures) (c .before .word2-at .ensures) (c .word3-at .ensures)
 
 -- what is put of a row of class k
 arm : (c : tie.After-word3-at) {k : Kind} {r : ℕ} {exit : List ℕ} → kindOf (this c .kind) ≡ k → let a = c .before .before .before .before .before .before .args in (r ≡ a .index + ownSize k (this c)) × (exit ≡ put (a .out .now) (a .index) (ownBytes k (this c) (a .store .now))) → (r ≡ a .index + sizeAt (a .rows .now) (a .row)) × (exit ≡ put (a .out .now) (a .index) (ownBytesAt (a .rows .now) (a .store .now) (a .row)))
 arm c e h =
     let a = c .before .before .before .before .before .before .args in
-    (h .0 ∙ ap (λ (n : ℕ). a .index + n) (size-words (a .rows .now) (a .store .now) (a .row) (c .before .before .kind-at .ensures) (c .before .word2-at .ensures) (c .word3-at .ensures) e), h .1 ∙ ap (put (a .out .now) (a .index)) (own-words (a .rows .now) (a .store .now) (a .row) (c .before .before .kind-at .ensures) (c .before .word2-at .ensures) (c .word3-at .ensures) e))
+    (h .0 ∙ ap (λ (n : ℕ). a .index + n) (by-words (a .rows .now) (a .row) (c .before .before .kind-at .ensures) (c .before .word2-at .ensures) (c .word3-at .ensures) ownSize e), h .1 ∙ ap (put (a .out .now) (a .index)) (by-words (a .rows .now) (a .row) (c .before .before .kind-at .ensures) (c .before .word2-at .ensures) (c .word3-at .ensures) (λ x r. ownBytes x r (a .store .now)) e))
 
 -- a row without bytes of its own
 nothing : (c : tie.After-word3-at) → let a = c .before .before .before .before .before .before .args in (a .index ≡ a .index + 0) × (a .out .now ≡ put (a .out .now) (a .index) [])
@@ -37,19 +36,19 @@ room : (c : tie.After-word3-at) {k : Kind} → kindOf (this c .kind) ≡ k → l
 room c e =
     let s = c .before .before .before .before .before .before in
     let a = s .args in
-    omega (arith, s .pre .1, size-words (a .rows .now) (a .store .now) (a .row) (c .before .before .kind-at .ensures) (c .before .word2-at .ensures) (c .word3-at .ensures) e)
+    omega (arith, s .pre .1, by-words (a .rows .now) (a .row) (c .before .before .kind-at .ensures) (c .before .word2-at .ensures) (c .word3-at .ensures) ownSize e)
 
 number-word : (c : tie.After-word3-at) (k : Number) → kindOf (this c .kind) ≡ number k → this c .word2 < 256 ^ width k
 number-word c k e =
     let s = c .before .before .before .before .before .before in
     let a = s .args in
-    number-fits (a .rows .now) (a .store .now) (a .row) (c .before .before .kind-at .ensures) (c .before .word2-at .ensures) (c .word3-at .ensures) k e (s .pre .0)
+    number-fits (a .rows .now) (a .row) (c .before .before .kind-at .ensures) (c .before .word2-at .ensures) (c .word3-at .ensures) k e (s .pre .0)
 
 array-words : (c : tie.After-word3-at) (k : Elements) → kindOf (this c .kind) ≡ elements k → let a = c .before .before .before .before .before .before .args in (this c .word3 + elementWidth k * this c .word2 ≤ length (a .store .now)) × (a .index + (8 + elementWidth k * this c .word2) ≤ length (a .out .now))
 array-words c k e =
     let s = c .before .before .before .before .before .before in
     let a = s .args in
-    (elements-fit (a .rows .now) (a .store .now) (a .row) (c .before .before .kind-at .ensures) (c .before .word2-at .ensures) (c .word3-at .ensures) k e (s .pre .0), room c e)
+    (elements-fit (a .rows .now) (a .row) (c .before .before .kind-at .ensures) (c .before .word2-at .ensures) (c .word3-at .ensures) k e (s .pre .0), room c e)
 
 kind-at-requires : tie.Need-kind-at-requires
 kind-at-requires c κs = search needs

@@ -5,9 +5,9 @@ use native.Mathlib.Omega.{arith}
 use lib.ListN.{length}
 use Rattle.packed.specs.Packed.{put}
 use Rattle.packed.proofs.Put.{put-nothing}
-use Rattle.rows.specs.Size.{bytesFrom, sizeFrom}
-use Rattle.rows.proofs.Size.{size-none, size-next}
-use Rattle.writing.proofs.Put.{size-within, bytes-none, rows-next}
+use Rattle.rows.specs.Size.{ownBytes, ownSize, bytesFrom, sizeFrom}
+use Rattle.rows.proofs.Loop.{size-none, size-next, size-within, bytes-none, rows-next}
+use Rattle.rows.proofs.Size.{length-ownBytes}
 use borrow.Author.Needs.{needs}
 use Rattle.writing.proofs.marshall_rows.Statement.{statement}
 use Rattle.writing.proofs.marshall_rows.Tie as tie
@@ -21,13 +21,13 @@ abbrev μ-loop : tie.MeasureT-loop
 loop-holds : tie.Need-loop-holds Inv-loop μ-loop
 loop-holds c =
     let a = c .before .before .before .args in
-    (omega arith, omega (arith, size-none (a .rows .now) 0), sym (ap (put (a .out .now) (a .index)) (bytes-none (a .rows .now) (a .store .now) 0) ∙ put-nothing (a .out .now) (a .index)), refl)
+    (omega arith, omega (arith, size-none ownSize (a .rows .now) 0), sym (ap (put (a .out .now) (a .index)) (bytes-none ownBytes (a .rows .now) (a .store .now) 0) ∙ put-nothing (a .out .now) (a .index)), refl)
 
 marshall-row-requires : tie.Need-marshall-row-requires Inv-loop μ-loop
 marshall-row-requires c κs =
     let s = c .before .before .before .before .before .before in
     let l = c .before .before .loop in
-    (s .pre .0 (l .i) (c .before .loop-test .taken), omega (arith, s .pre .1, size-within (s .args .rows .now) (s .args .store .now) (l .i) (s .args .n) (c .before .loop-test .taken)))
+    (s .pre .0 (l .i) (c .before .loop-test .taken), omega (arith, s .pre .1, size-within ownSize (s .args .rows .now) (l .i) (s .args .n) (c .before .loop-test .taken)))
 
 add-i : tie.Need-add-i Inv-loop μ-loop
 add-i c = search needs
@@ -41,8 +41,8 @@ loop-again c =
     let a = s .args in
     let l = c .before .before .before .before .before .loop in
     let q = c .before .before .marshall-row in
-    let r = rows-next (a .rows .now) (a .store .now) (a .n) (a .out .now) (a .index) (s .pre .0) (s .pre .1) (l .out) _ (l .at) (l .i) (c .before .before .before .before .loop-test .taken) (l .inv .1) (l .inv .2) (q .ensures .1) in
-    (omega arith, omega (arith, q .ensures .0, size-next (a .rows .now) (l .i)), r .0, r .1)
+    let r = rows-next ownBytes (a .rows .now) (a .store .now) ownSize length-ownBytes (a .n) (s .pre .0) (a .out .now) (a .index) (s .pre .1) (l .out) _ (l .at) (l .i) (c .before .before .before .before .loop-test .taken) (l .inv .1) (l .inv .2) (q .ensures .1) in
+    (omega arith, omega (arith, q .ensures .0, size-next ownSize (a .rows .now) (l .i)), r .0, r .1)
 
 same-length : tie.Need-same-length Inv-loop μ-loop
 same-length c = c .before .loop .inv .3

@@ -1,5 +1,7 @@
 use mathlib.Core.Path.{refl}
-use Rattle.writing.proofs.Put.{number-put}
+use Rattle.packed.specs.Packed.{packLittleEndian}
+use Rattle.packed.proofs.Laws.{length-pack}
+use Rattle.packed.proofs.Calls.{fills-put}
 use borrow.Author.Needs.{needs}
 use Rattle.writing.proofs.marshall_uint64.Statement.{statement}
 use Rattle.writing.proofs.marshall_uint64.Tie as tie
@@ -16,7 +18,7 @@ same-length c = search needs
 returns : tie.Need-returns
 returns c =
     let s = c .before .before .before .before .before in
-    (refl, number-put 8 (s .args .n) (s .args .out .now) (s .args .index) (s .pre) (c .before .before .pack-little-endian-uint64-into-array .ensures))
+    (refl, fills-put (s .args .out .now) (s .args .index) (packLittleEndian 8 (s .args .n)) 8 (length-pack 8 (s .args .n)) (s .pre) (c .before .before .pack-little-endian-uint64-into-array .ensures))
 
 pub marshall-uint64-spec : {M : Type 1} → statement M
 marshall-uint64-spec = tie.close (tie.spec pack-little-endian-uint64-into-array-requires add-result same-length returns)
