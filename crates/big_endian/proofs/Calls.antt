@@ -2,7 +2,7 @@
 use mathlib.Core.Path.{_≡_, refl, ap, sym, _∙_}
 use mathlib.Core.List.{List, [], _∷_, _++_, append-assoc, append-nil, reverse, reverse-append, reverse-reverse}
 use Prim.Native.Nat.{ℕ, zero, suc, _+_, _*_, _/_, _%_, _^_, _<_, _≤_}
-use native.Mathlib.Nat.{pow-suc, pow-succ', pow-le-pow-right, div-div-eq-div-mul, div-one, mul-suc, mul-zero, add-comm, lt-of-lt-of-le, le-refl}
+use native.Mathlib.Nat.{pow-suc, pow-succ', pow-le-pow-right, div-div-eq-div-mul, div-one, mul-suc, mul-zero, mul-le-mul-left, add-comm, lt-of-lt-of-le, le-refl}
 use native.Mathlib.Numerals.{add-one}
 use native.Mathlib.Omega.{arith}
 use lib.ListN.{length, getD, take, drop, length-drop, length-reverse}
@@ -105,14 +105,18 @@ reverseEach-snoc w (suc n) s =
     let e : w + w * n ≡ w * suc n = rw mul-suc (add-comm w (w * n)) in
     rw (reverseEach-snoc w n (drop w s), drop-drop, e, append-assoc)
 
+-- an element more is within all
+pub one-more : (w i n : ℕ) → i < n → w * i + w ≤ w * n
+one-more w i n h = rw (sym (mul-suc w i)) (mul-le-mul-left w h)
+
 -- a loop that turns elements round: each is unpacked most byte first and packed least byte first behind those before it
-pub reverseEach-next : (w : ℕ) (src out now next : List ℕ) (index i v : ℕ) → Bytes src → w * suc i ≤ length src → index + w * suc i ≤ length out → now ≡ put out index (reverseEach w src i) → v ≡ unpackBigEndian w (drop (w * i) src) → PutSoFar v now (index + w * i) w next → next ≡ put out index (reverseEach w src (i + 1))
-reverseEach-next w src out now next index i v b fits room e f g =
-    let n : w * suc i ≡ w * i + w = mul-suc w i in
+pub reverseEach-next : (w : ℕ) (src out now next : List ℕ) (index n i v : ℕ) → Bytes src → i < n → w * n ≤ length src → index + w * n ≤ length out → now ≡ put out index (reverseEach w src i) → v ≡ unpackBigEndian w (drop (w * i) src) → PutSoFar v now (index + w * i) w next → next ≡ put out index (reverseEach w src (i + 1))
+reverseEach-next w src out now next index n i v b h fits room e f g =
+    let m : w * i + w ≤ w * n = one-more w i n h in
     let t = reverse (take w (drop (w * i) src)) in
     let d : w ≤ length (drop (w * i) src) = rw length-drop (omega arith) in
     let l : length (reverseEach w src i) ≡ w * i = length-reverseEach w i src (omega arith) in
     let k : length t ≡ w = length-reverse (take w (drop (w * i) src)) ∙ length-take-le w (drop (w * i) src) d in
     let p : packLittleEndian w v ≡ t = ap (packLittleEndian w) f ∙ pack-unpackBig w (drop (w * i) src) (bytes-drop (w * i) src b) d in
-    let m : put now (index + w * i) (packLittleEndian w v) ≡ put out index (reverseEach w src i ++ t) = rw (e, p) (put-more out index (reverseEach w src i) t (index + w * i) (omega arith) (omega arith)) in
-    g ∙ m ∙ rw (add-one, reverseEach-snoc)
+    let q : put now (index + w * i) (packLittleEndian w v) ≡ put out index (reverseEach w src i ++ t) = rw (e, p) (put-more out index (reverseEach w src i) t (index + w * i) (omega arith) (omega arith)) in
+    g ∙ q ∙ rw (add-one, reverseEach-snoc)

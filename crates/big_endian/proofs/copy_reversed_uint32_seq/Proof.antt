@@ -1,0 +1,53 @@
+use Prim.Native.Nat.{_*_, _/_}
+use native.Mathlib.Omega.{arith}
+use lib.ListN.{length}
+use Rattle.refusal.proofs.Meaning.{done, stopped}
+use Rattle.packed.proofs.Calls.{room-fits, put-refused, put-accepted}
+use Rattle.big_endian.specs.BigEndian.{reverseEach}
+use Rattle.big_endian.proofs.Laws.{length-reverseEach}
+use borrow.Author.Needs.{needs}
+use Rattle.big_endian.proofs.copy_reversed_uint32_seq.Statement.{statement}
+use Rattle.big_endian.proofs.copy_reversed_uint32_seq.Tie as tie
+
+room-requires : tie.Need-room-requires
+room-requires c κs = search needs
+
+enum-known-r : tie.Need-enum-known-r
+enum-known-r c = search needs
+
+enum-told : tie.Need-enum-told
+enum-told c = search needs
+
+copy-reversed-requires : tie.Need-copy-reversed-requires
+copy-reversed-requires c κs =
+    let a = c .before .before .before .before .before .before .args in
+    let n = length (a .src .now) / 4 in
+    let h = room-fits (length (a .out .now)) (a .index) (4 * n) (done (c .before .enum-told .given .1) (c .before .before .before .room .ensures)) in
+    omega arith
+
+returns : tie.Need-returns
+returns c =
+    let a = c .before .before .before .before .before .before .args in
+    let n = length (a .src .now) / 4 in
+    put-refused (a .out .now) (a .index) (reverseEach 4 (a .src .now) n) (4 * n) (length-reverseEach 4 n (a .src .now) (omega arith)) (stopped (c .before .r .given .1) (c .before .before .before .room .ensures))
+
+same-length : tie.Need-same-length
+same-length c = search needs
+
+returns-2 : tie.Need-returns-2
+returns-2 c =
+    let a = c .before .before .before .before .before .before .before .before .before .args in
+    let n = length (a .src .now) / 4 in
+    put-accepted (a .out .now) (a .index) (reverseEach 4 (a .src .now) n) (4 * n) (length-reverseEach 4 n (a .src .now) (omega arith)) (done (c .before .before .before .before .enum-told .given .1) (c .before .before .before .before .before .before .room .ensures)) (c .before .before .copy-reversed .ensures)
+
+pub copy-reversed-uint32-seq-spec : {M : Type 1} → statement M
+copy-reversed-uint32-seq-spec =
+    tie.close
+    (tie.spec
+    room-requires
+    enum-known-r
+    enum-told
+    copy-reversed-requires
+    returns
+    same-length
+    returns-2)
