@@ -20,9 +20,7 @@ enum-told c = search needs
 
 copy-reversed-requires : tie.Need-copy-reversed-requires
 copy-reversed-requires c κs =
-    let a = c .before .before .before .before .before .before .args in
-    let n = length (a .src .now) / 4 in
-    let h = room-fits (length (a .out .now)) (a .index) (4 * n) (done (c .before .enum-told .given .1) (c .before .before .before .room .ensures)) in
+    let h = room-fits _ _ _ (done (c .before .enum-told .given .1) (c .before .before .before .room .ensures)) in
     omega arith
 
 returns : tie.Need-returns

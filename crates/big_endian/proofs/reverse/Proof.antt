@@ -35,7 +35,7 @@ mul-sum : tie.Need-mul-sum Inv-loop μ-loop
 mul-sum c = record { fits = omega (arith, below c) }
 
 add-sum : tie.Need-add-sum Inv-loop μ-loop
-add-sum c = record { fits = below c }
+add-sum c = record { fits = omega (arith, below c) }
 
 add-i : tie.Need-add-i Inv-loop μ-loop
 add-i c = search needs

@@ -45,7 +45,7 @@ mul-sum : tie.Need-mul-sum Inv-loop μ-loop
 mul-sum c = record { fits = omega (arith, below c) }
 
 add-sum-2 : tie.Need-add-sum-2 Inv-loop μ-loop
-add-sum-2 c = record { fits = below c }
+add-sum-2 c = record { fits = omega (arith, below c) }
 
 add-i : tie.Need-add-i Inv-loop μ-loop
 add-i c = search needs
