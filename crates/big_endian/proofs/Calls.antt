@@ -2,19 +2,19 @@
 use mathlib.Core.Path.{_≡_, refl, ap, sym, _∙_}
 use mathlib.Core.List.{List, [], _∷_, _++_, append-assoc, append-nil, reverse, reverse-append, reverse-reverse}
 use Prim.Native.Nat.{ℕ, zero, suc, _+_, _*_, _/_, _%_, _^_, _<_, _≤_}
-use native.Mathlib.Nat.{pow-suc, pow-succ', pow-le-pow-right, div-div-eq-div-mul, div-one, mul-suc, mul-zero, mul-le-mul-left, add-comm, lt-of-lt-of-le, le-refl}
+use native.Mathlib.Nat.{pow-suc, pow-succ', pow-le-pow-right, div-div-eq-div-mul, div-one, mul-suc, mul-zero, mul-le-mul-left, mul-comm, le-div-iff-mul-le, add-comm, lt-of-lt-of-le, le-refl}
 use native.Mathlib.Numerals.{add-one}
 use native.Mathlib.Omega.{arith}
 use lib.ListN.{length, getD, take, drop, length-drop, length-reverse}
 use lib.Dec.{lit<}
 use lib.Seq.{take-suc, take-all, drop-drop, length-take-le}
-use Rattle.refusal.specs.Outcome.{Outcome, accepted, refused, map, Fills, Reason}
+use Rattle.refusal.specs.Outcome.{accepted, refused, map, Fills, Reason}
 use Rattle.refusal.proofs.Outcome.{map-accepted, map-refused}
-use Rattle.packed.specs.Packed.{Bytes, unpackLittleEndian, packLittleEndian, present, bytesAt, unpackAt, put, putAt}
+use Rattle.packed.specs.Packed.{Bytes, unpackLittleEndian, packLittleEndian, present, room, bytesAt, unpackAt, put, putAt}
 use Rattle.packed.specs.Steps.{PutSoFar}
 use Rattle.packed.proofs.Laws.{bytes-drop, bytes-take, unpack-cons, length-pack, pack-bytes, pack-unpack}
 use Rattle.packed.proofs.Put.{put-more}
-use Rattle.packed.proofs.Calls.{present-fits}
+use Rattle.packed.proofs.Calls.{present-fits, put-refused, put-accepted}
 use Rattle.big_endian.specs.BigEndian.{packBigEndian, unpackBigEndian, unpackBigEndianAt, reverseEach}
 use Rattle.big_endian.proofs.Laws.{unpackBig-below, unpackBig-take, packBig-unpack, length-reverseEach}
 
@@ -111,7 +111,7 @@ one-more w i n h = rw (sym (mul-suc w i)) (mul-le-mul-left w h)
 
 -- a loop that turns elements round: each is unpacked most byte first and packed least byte first behind those before it
 pub reverseEach-next : (w : ℕ) (src out now next : List ℕ) (index n i v : ℕ) → Bytes src → i < n → w * n ≤ length src → index + w * n ≤ length out → now ≡ put out index (reverseEach w src i) → v ≡ unpackBigEndian w (drop (w * i) src) → PutSoFar v now (index + w * i) w next → next ≡ put out index (reverseEach w src (i + 1))
-reverseEach-next w src out now next index n i v b h fits room e f g =
+reverseEach-next w src out now next index n i v b h inside fits e f g =
     let m : w * i + w ≤ w * n = one-more w i n h in
     let t = reverse (take w (drop (w * i) src)) in
     let d : w ≤ length (drop (w * i) src) = rw length-drop (omega arith) in
@@ -120,3 +120,15 @@ reverseEach-next w src out now next index n i v b h fits room e f g =
     let p : packLittleEndian w v ≡ t = ap (packLittleEndian w) f ∙ pack-unpackBig w (drop (w * i) src) (bytes-drop (w * i) src b) d in
     let q : put now (index + w * i) (packLittleEndian w v) ≡ put out index (reverseEach w src i ++ t) = rw (e, p) (put-more out index (reverseEach w src i) t (index + w * i) (omega arith) (omega arith)) in
     g ∙ q ∙ rw (add-one, reverseEach-snoc)
+
+-- the elements of a slice are within it; what is left is a cut one
+pub elements-inside : (w len : ℕ) → 0 < w → w * (len / w) ≤ len
+elements-inside w len pos = let p : len / w * w ≤ len = le-div-iff-mul-le pos .0 (le-refl (len / w)) in omega (arith, mul-comm w (len / w))
+
+-- n elements that have room, or refused
+module _ (w n : ℕ) (src : List ℕ) (l : w * n ≤ length src) (out : List ℕ) (index : ℕ) where
+  pub copy-refused : {x : Reason} → refused x ≡ room (length out) index (w * n) → Fills (putAt out index (reverseEach w src n)) (refused x) out out
+  copy-refused h = put-refused out index (reverseEach w src n) (w * n) (length-reverseEach w n src l) h
+
+  pub copy-accepted : {exit : List ℕ} → accepted tt ≡ room (length out) index (w * n) → exit ≡ put out index (reverseEach w src n) → Fills (putAt out index (reverseEach w src n)) (accepted tt) out exit
+  copy-accepted h e = put-accepted out index (reverseEach w src n) (w * n) (length-reverseEach w n src l) h e

@@ -1,4 +1,4 @@
-// Numbers most byte first, as RFC 4506 has them: at an index of a lent slice one by one, and runs of them copied from one byte order to the other.
+// Numbers most byte first, as RFC 4506 has them: one by one at an index of a lent slice, and runs copied from one byte order to the other.
 ghost use mathlib.Core.Path.{_≡_};
 ghost use Prim.Native.Nat.{_+_, _*_, _/_, _≤_};
 ghost use lib.ListN.{length, drop};
@@ -101,7 +101,7 @@ fn pack_little_endian(n: u64, out: &mut [u8], index: usize, width: usize)
 
 // Puts count elements of src from the index on, the bytes of each turned round. All bytes of an element are read before the first is put: the
 // compiler can't know that src and out are apart.
-fn copy_reversed(src: &[u8], out: &mut [u8], index: usize, count: usize, width: usize)
+fn copy_elements(src: &[u8], out: &mut [u8], index: usize, count: usize, width: usize)
     requires { ⌜ (width ≤ 8) × (width * count ≤ length (now src)) × (index + width * count ≤ length (now out)) ⌝ }
     ensures { λ _. ⌜ now (out .exit) ≡ put (now (out .entry)) index (reverseEach width (now (src .entry)) count) ⌝ }
 {
@@ -112,30 +112,30 @@ fn copy_reversed(src: &[u8], out: &mut [u8], index: usize, count: usize, width: 
     }
 }
 
-// Puts the numbers of src, of which each has four bytes, at the index in the other byte order. The bytes of a cut last number are left out.
-pub fn copy_reversed_uint32_seq(src: &[u8], out: &mut [u8], index: usize) -> Answer
-    ensures { λ r. ⌜ Fills (putAt (now (out .entry)) index (reverseEach 4 (now (src .entry)) (length (now (src .entry)) / 4))) (outcomeOf r) (now (out .entry)) (now (out .exit)) ⌝ }
+// Puts the numbers of src, of width bytes each, at the index in the other byte order. The bytes of a cut last number are left out.
+fn copy_reversed(src: &[u8], out: &mut [u8], index: usize, width: usize) -> Answer
+    requires { ⌜ (1 ≤ width) × (width ≤ 8) ⌝ }
+    ensures { λ r. ⌜ Fills (putAt (now (out .entry)) index (reverseEach width (now (src .entry)) (length (now (src .entry)) / width))) (outcomeOf r) (now (out .entry)) (now (out .exit)) ⌝ }
 {
-    let count = src.len() / 4;
-    match packed::room(out.len(), index, count, 4) {
+    let count = src.len() / width;
+    match packed::room(out.len(), index, count, width) {
         Answer::Refused(r) => Answer::Refused(r),
         Answer::Accepted => {
-            copy_reversed(src, out, index, count, 4);
+            copy_elements(src, out, index, count, width);
             Answer::Accepted
         }
     }
 }
 
-// The same of numbers of eight bytes.
+// The width is known in each of these, so that they compile to loops over loads, swaps and stores.
+pub fn copy_reversed_uint32_seq(src: &[u8], out: &mut [u8], index: usize) -> Answer
+    ensures { λ r. ⌜ Fills (putAt (now (out .entry)) index (reverseEach 4 (now (src .entry)) (length (now (src .entry)) / 4))) (outcomeOf r) (now (out .entry)) (now (out .exit)) ⌝ }
+{
+    copy_reversed(src, out, index, 4)
+}
+
 pub fn copy_reversed_uint64_seq(src: &[u8], out: &mut [u8], index: usize) -> Answer
     ensures { λ r. ⌜ Fills (putAt (now (out .entry)) index (reverseEach 8 (now (src .entry)) (length (now (src .entry)) / 8))) (outcomeOf r) (now (out .entry)) (now (out .exit)) ⌝ }
 {
-    let count = src.len() / 8;
-    match packed::room(out.len(), index, count, 8) {
-        Answer::Refused(r) => Answer::Refused(r),
-        Answer::Accepted => {
-            copy_reversed(src, out, index, count, 8);
-            Answer::Accepted
-        }
-    }
+    copy_reversed(src, out, index, 8)
 }

@@ -1,8 +1,8 @@
 -- The loop's invariant: exactly the first i bytes of n are put, and `rest` has those behind them.
 use mathlib.Core.Path.{_≡_, refl, ap, _∙_}
-use Prim.Native.Nat.{ℕ, _+_, _-_, _/_, _%_, _^_, _≤_}
+use Prim.Native.Nat.{ℕ, _-_, _/_, _^_, _≤_}
 use native.Mathlib.Omega.{arith}
-use lib.ListN.{length, set, length-set}
+use lib.ListN.{length, length-set}
 use Rattle.packed.specs.Packed.{packLittleEndian, put}
 use Rattle.packed.specs.Steps.{PutSoFar}
 use Rattle.packed.proofs.Steps.{in-order}
