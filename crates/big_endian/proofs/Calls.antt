@@ -16,7 +16,7 @@ use Rattle.packed.proofs.Laws.{bytes-drop, bytes-take, unpack-cons, length-pack
 use Rattle.packed.proofs.Put.{put-more}
 use Rattle.packed.proofs.Calls.{present-fits, put-refused, put-accepted}
 use Rattle.big_endian.specs.BigEndian.{packBigEndian, unpackBigEndian, unpackBigEndianAt, reverseEach}
-use Rattle.big_endian.proofs.Laws.{unpackBig-below, unpackBig-take, packBig-unpack, length-reverseEach}
+use Rattle.big_endian.proofs.Laws.{unpackBig-below, unpackBig-take, pack-unpackBig, length-reverseEach}
 
 -- ---- a number byte by byte
 
@@ -62,11 +62,6 @@ turned-next w n i rest sum h e f =
     rw (e, f, sym (getD-pack w n i h)) (unpackBig-next i (packLittleEndian w n) (omega arith))
 
 -- ---- one number
-
--- unpacked most byte first and packed least byte first
-pub pack-unpackBig : (w : ℕ) (s : List ℕ) → Bytes s → w ≤ length s → packLittleEndian w (unpackBigEndian w s) ≡ reverse (take w s)
-unfolding packBigEndian
-pack-unpackBig w s h l = sym (reverse-reverse (packLittleEndian w (unpackBigEndian w s))) ∙ ap reverse (packBig-unpack w s h l)
 
 -- the bytes of a number turned round are those of the number most byte first
 pub pack-turned : (w n : ℕ) → packLittleEndian w (unpackBigEndian w (packLittleEndian w n)) ≡ packBigEndian w n

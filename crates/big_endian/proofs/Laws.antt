@@ -2,11 +2,11 @@
 use mathlib.Core.Path.{_≡_, refl, ap, sym, _∙_}
 use mathlib.Core.List.{List, [], _∷_, _++_, append-assoc, reverse, reverseAux, reverse-reverse}
 use Prim.Native.Nat.{ℕ, zero, suc, _+_, _-_, _*_, _^_, _<_, _≤_, suc-le-suc}
-use native.Mathlib.Nat.{mul-suc, mul-zero, add-comm, one-mul, le-refl}
+use native.Mathlib.Nat.{mul-suc, mul-zero, add-comm}
 use native.Mathlib.Omega.{arith}
-use lib.ListN.{length, getD, take, drop, length-append, length-drop, length-reverse}
+use lib.ListN.{length, take, drop, length-append, length-drop, length-reverse}
 use lib.Dec.{lit<}
-use lib.Seq.{take-all, take-take, take-nil, drop-nil, take-add, take-at, drop-at, length-take-le}
+use lib.Seq.{take-all, take-take, take-nil, take-add, take-at, drop-at, length-take-le}
 use Rattle.packed.specs.Packed.{Bytes, Below, unpackLittleEndian, packLittleEndian, packLittleEndianSeq}
 use Rattle.packed.proofs.Laws.{bytes-take, bytes-drop, unpack-below, length-pack, pack-bytes, unpack-packed, pack-unpack}
 use Rattle.big_endian.specs.BigEndian.{packBigEndian, unpackBigEndian, packBigEndianSeq, unpackBigEndianSeq, reverseEach}
@@ -62,6 +62,11 @@ packBig-unpack w s h l =
     let k : length (reverse (take w s)) ≡ w = length-reverse (take w s) ∙ length-take-le w s l in
     ap reverse (pack-unpack w (reverse (take w s)) (bytes-reverse (take w s) (bytes-take w s h)) (omega arith) ∙ take-all w (reverse (take w s)) (omega arith))
     ∙ reverse-reverse (take w s)
+
+-- unpacked most byte first and packed least byte first
+pub pack-unpackBig : (w : ℕ) (s : List ℕ) → Bytes s → w ≤ length s → packLittleEndian w (unpackBigEndian w s) ≡ reverse (take w s)
+unfolding packBigEndian
+pack-unpackBig w s h l = sym (reverse-reverse (packLittleEndian w (unpackBigEndian w s))) ∙ ap reverse (packBig-unpack w s h l)
 
 -- RFC 4506, sections 4.1 and 4.2: of four bytes the first is the most significant
 pub unpackBig-sum : (a b c d : ℕ) (rest : List ℕ) → unpackBigEndian 4 (a ∷ b ∷ c ∷ d ∷ rest) ≡ a * 0x1_00_00_00 + b * 0x1_00_00 + c * 0x1_00 + d
@@ -142,9 +147,6 @@ reverseEach-packSeq w (n ∷ ns) rest =
 
 -- and back
 pub packSeq-unpackBigSeq : (w n : ℕ) (s : List ℕ) → Bytes s → w * n ≤ length s → packLittleEndianSeq w (unpackBigEndianSeq w s n) ≡ reverseEach w s n
-unfolding reverseEach packLittleEndianSeq unpackBigEndianSeq packBigEndian
+unfolding reverseEach packLittleEndianSeq unpackBigEndianSeq
 packSeq-unpackBigSeq w zero s h l = refl
-packSeq-unpackBigSeq w (suc n) s h l = rw (turned, packSeq-unpackBigSeq w n (drop w s) (bytes-drop w s h) (rest-fits w n s l))
-  where
-    turned : packLittleEndian w (unpackBigEndian w s) ≡ reverse (take w s)
-    turned = sym (reverse-reverse (packLittleEndian w (unpackBigEndian w s))) ∙ ap reverse (packBig-unpack w s h (omega (arith, first-fits w n s l)))
+packSeq-unpackBigSeq w (suc n) s h l = rw (pack-unpackBig w s h (omega (arith, first-fits w n s l)), packSeq-unpackBigSeq w n (drop w s) (bytes-drop w s h) (rest-fits w n s l))
