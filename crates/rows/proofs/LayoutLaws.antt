@@ -35,17 +35,17 @@ mutual
   length-rowsOfAll (vcons v vs) p = rw length-append (omega (arith, length-rowsOf v p, length-rowsOfAll vs (p + SizeOfV v)))
 
 -- what stands behind a front part
-after : (l : List ℕ) (p n : ℕ) (front rest : List ℕ) → drop p l ≡ front ++ rest → length front ≡ n → drop (p + n) l ≡ rest
+pub after : (l : List ℕ) (p n : ℕ) (front rest : List ℕ) → drop p l ≡ front ++ rest → length front ≡ n → drop (p + n) l ≡ rest
 after l p n front rest h e = sym (drop-drop n p l) ∙ ap (drop n) h ∙ drop-at front rest n e
 
 -- a part that is there lies within
-within : (l : List ℕ) (p : ℕ) (front rest : List ℕ) → drop p l ≡ front ++ rest → 1 ≤ length front → p + length front ≤ length l
+pub within : (l : List ℕ) (p : ℕ) (front rest : List ℕ) → drop p l ≡ front ++ rest → 1 ≤ length front → p + length front ≤ length l
 within l p front rest h e =
     let a : length l - p ≡ length front + length rest = sym (length-drop p l) ∙ ap length h ∙ length-append front rest in
     omega arith
 
 -- a row that stands at row i of a table
-row-there : (t : List ℕ) (i : ℕ) (r : Row) (rest : List ℕ) → drop (rowWidth * i) t ≡ rowWords r ++ rest → rowAt t i ≡ r
+pub row-there : (t : List ℕ) (i : ℕ) (r : Row) (rest : List ℕ) → drop (rowWidth * i) t ≡ rowWords r ++ rest → rowAt t i ≡ r
 row-there t i r rest h =
     let g : (j : ℕ) → getD t (rowWidth * i + j) 0 ≡ getD (rowWords r ++ rest) j 0 = λ j. sym (getD-drop (rowWidth * i) t j 0) ∙ ap (λ (l : List ℕ). getD l j 0) h in
     let z : rowWidth * i + 0 ≡ rowWidth * i = omega arith in
@@ -62,18 +62,18 @@ own-place (VNumberArray k ns) place = refl
 own-place (VCase c v) place = refl
 
 module _ (t s : List ℕ) where
-  own-there : (v : Val) (i place : ℕ) (rest : List ℕ) → drop (rowWidth * i) t ≡ rowWords (ownRow v place) ++ rest → RowOf t i v
+  pub own-there : (v : Val) (i place : ℕ) (rest : List ℕ) → drop (rowWidth * i) t ≡ rowWords (ownRow v place) ++ rest → RowOf t i v
   own-there v i place rest h =
       let e : rowAt t i ≡ ownRow v place = row-there t i (ownRow v place) rest h in
       e ∙ own-place v place ∙ ap (λ (r : Row). ownRow v (r .word3)) (sym e)
 
-  next-there : (i n : ℕ) (front rest : List ℕ) → drop (rowWidth * i) t ≡ front ++ rest → length front ≡ rowWidth * n → drop (rowWidth * (i + n)) t ≡ rest
+  pub next-there : (i n : ℕ) (front rest : List ℕ) → drop (rowWidth * i) t ≡ front ++ rest → length front ≡ rowWidth * n → drop (rowWidth * (i + n)) t ≡ rest
   next-there i n front rest h e =
       let m : rowWidth * (i + n) ≡ rowWidth * i + rowWidth * n = omega arith in
       rw m (after t (rowWidth * i) (rowWidth * n) front rest h e)
 
   -- what stands behind a row, and behind a count or a tag
-  behind-row : (v : Val) (i place : ℕ) (rest : List ℕ) → drop (rowWidth * i) t ≡ rowWords (ownRow v place) ++ rest → drop (rowWidth * suc i) t ≡ rest
+  pub behind-row : (v : Val) (i place : ℕ) (rest : List ℕ) → drop (rowWidth * i) t ≡ rowWords (ownRow v place) ++ rest → drop (rowWidth * suc i) t ≡ rest
   behind-row v i place rest h = rw add-one at (next-there i 1 (rowWords (ownRow v place)) rest h refl)
 
   behind-count : (p n : ℕ) (bs rest : List ℕ) → drop p s ≡ (packLittleEndian 8 n ++ bs) ++ rest → drop (p + 8) s ≡ bs ++ rest

@@ -1,0 +1,5 @@
+pub mod Sizes
+pub mod Rows
+pub mod Import
+pub mod Whole
+pub mod Small

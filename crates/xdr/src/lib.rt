@@ -1,0 +1,1 @@
+// The theory of XDR: definitions in specs/, laws in proofs/.
