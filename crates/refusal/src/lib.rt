@@ -48,6 +48,8 @@ pub const LIST_LAYOUT: u64 = 21;
 
 pub const NO_GRAMMAR_ACCEPTS: u64 = 22;
 
+pub const PADDING_NOT_ZERO: u64 = 23;
+
 // Where a refusal was found: a word of a grammar or of a grammar list, a byte or a row.
 pub enum Place {
     Word(u64),
