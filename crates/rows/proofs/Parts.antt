@@ -24,32 +24,46 @@ split {A} j k f g = go (decLt j k)
     go (yes l) = f l
     go (no l) = g (omega arith)
 
-module _ (t s : List ℕ) where
+-- a property that the children of a value share
+pub record Inherited (P : Val → Type 0) (All : Vals → Type 0) : Type 0 where
+  pub ofArray : (vs : Vals) → P (VArray vs) → All vs
+  pub ofTuple : (vs : Vals) → P (VTuple vs) → All vs
+  pub ofCase : (c : ℕ) (v : Val) → P (VCase c v) → P v
+  pub ofMore : (v : Val) (vs : Vals) → All (vcons v vs) → P v × All vs
+
+module _ (t s : List ℕ) {P : Val → Type 0} {All : Vals → Type 0} (inherited : Inherited P All) where
   -- what stands at row j
   abbrev Part : ℕ → Type 0
-  Part j = (u : Val) × StandFor t s j u × TypedVal u
+  Part j = (u : Val) × StandFor t s j u × P u
 
-  first : (v : Val) (i j : ℕ) → StandFor t s i v → TypedVal v → i ≡ j → Part j
+  first : (v : Val) (i j : ℕ) → StandFor t s i v → P v → i ≡ j → Part j
   first v i j h d e = (v, rw (← e) h, d)
 
-  later : (v : Val) (i j : ℕ) → StandFor t s i v → TypedVal v → i ≤ j → (suc i ≤ j → Part j) → Part j
+  later : (v : Val) (i j : ℕ) → StandFor t s i v → P v → i ≤ j → (suc i ≤ j → Part j) → Part j
   later v i j h d a f = split i j f (λ l. first v i j h d (omega arith))
 
   mutual
-    unfolding StandFor TypedVal rowCount
+    unfolding StandFor rowCount
 
-    pub part-rows : (v : Val) (i j : ℕ) → StandFor t s i v → TypedVal v → i ≤ j → j < i + rowCount v → Part j
+    part-rows : (v : Val) (i j : ℕ) → StandFor t s i v → P v → i ≤ j → j < i + rowCount v → Part j
     part-rows VConstant i j h d a b = first VConstant i j h d (omega arith)
     part-rows (VNumber k n) i j h d a b = first (VNumber k n) i j h d (omega arith)
-    part-rows (VArray vs) i j h d a b = later (VArray vs) i j h d a (λ l. parts-rows vs (suc i) j (h .1) d l (omega arith))
-    part-rows (VTuple vs) i j h d a b = later (VTuple vs) i j h d a (λ l. parts-rows vs (suc i) j (h .1) d l (omega arith))
+    part-rows (VArray vs) i j h d a b = later (VArray vs) i j h d a (λ l. parts-rows vs (suc i) j (h .1) (inherited .ofArray vs d) l (omega arith))
+    part-rows (VTuple vs) i j h d a b = later (VTuple vs) i j h d a (λ l. parts-rows vs (suc i) j (h .1) (inherited .ofTuple vs d) l (omega arith))
     part-rows (VNumberArray k ns) i j h d a b = first (VNumberArray k ns) i j h d (omega arith)
-    part-rows (VCase c v) i j h d a b = later (VCase c v) i j h d a (λ l. part-rows v (suc i) j (h .1) (d .1) l (omega arith))
+    part-rows (VCase c v) i j h d a b = later (VCase c v) i j h d a (λ l. part-rows v (suc i) j (h .1) (inherited .ofCase c v d) l (omega arith))
 
-    parts-rows : (vs : Vals) (i j : ℕ) → StandForAll t s i vs → TypedVals vs → i ≤ j → j < i + rowCounts vs → Part j
+    parts-rows : (vs : Vals) (i j : ℕ) → StandForAll t s i vs → All vs → i ≤ j → j < i + rowCounts vs → Part j
     parts-rows vnil i j h d a b = absurd (omega arith)
-    parts-rows (vcons v vs) i j h d a b = split j (i + rowCount v) (λ l. part-rows v i j (h .0) (d .0) a l) (λ l. parts-rows vs (i + rowCount v) j (h .1) (d .1) l (omega arith))
+    parts-rows (vcons v vs) i j h d a b =
+        let p = inherited .ofMore v vs d in
+        split j (i + rowCount v) (λ l. part-rows v i j (h .0) (p .0) a l) (λ l. parts-rows vs (i + rowCount v) j (h .1) (p .1) l (omega arith))
 
+  -- each row of a table stands for a value that has what the table's has
+  pub table-part : {n : ℕ} {v : Val} → TableOf t n s v → P v → (j : ℕ) → j < n → (u : Val) × StandFor t s j u × P u
+  table-part {n} {v} h d j l = part-rows v 0 j (h .rows) d (omega arith) (omega (arith, h .count))
+
+module _ (t s : List ℕ) where
   keeps-rows : (v : Val) (i : ℕ) → StandFor t s i v → TypedVal v → keepsRule (kindOf (rowAt t i .kind)) (rowAt t i) ≡ true
   unfolding ownRow TypedVal rowCount kindOf kinds
   keeps-rows v i h d = ap (λ (r : Row). keepsRule (kindOf (r .kind)) r) (own-row t s v i h) ∙ own v d
@@ -74,9 +88,10 @@ module _ (t s : List ℕ) where
       own (VNumberArray k ns) h = rw (elements-kind k) (le-leb (rowAt t i .word3 + elementWidth k * length ns) (length s) (h .1 .within))
       own (VCase c v) h = refl
 
-module _ (t : List ℕ) (n : ℕ) (s : List ℕ) (v : Val) (h : TableOf t n s v) where
-  part : (j : ℕ) → j < n → Part t s j
-  part j l = part-rows t s v 0 j (h .rows) (h .typed) (omega arith) (omega (arith, h .count))
+typed-inherited : Inherited TypedVal TypedVals
+unfolding TypedVal
+typed-inherited = record { ofArray = λ vs d. d; ofTuple = λ vs d. d; ofCase = λ c v d. d .1; ofMore = λ v vs d. d }
 
+module _ (t : List ℕ) (n : ℕ) (s : List ℕ) (v : Val) (h : TableOf t n s v) where
   pub table-holds : (j : ℕ) → j < n → RowHolds t s j
-  table-holds j l = let p = part j l in record { rule = keeps-rows t s (p .0) j (p .1) (p .2); within = within-rows t s (p .0) j (p .1) }
+  table-holds j l = let p = table-part t s typed-inherited h (h .typed) j l in record { rule = keeps-rows t s (p .0) j (p .1) (p .2); within = within-rows t s (p .0) j (p .1) }
