@@ -1,0 +1,6 @@
+pub mod Own
+pub mod Narrow
+pub mod Exporting
+pub mod Exports
+pub mod Laws
+pub mod Examples
