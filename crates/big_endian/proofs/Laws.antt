@@ -2,7 +2,7 @@
 use mathlib.Core.Path.{_≡_, refl, ap, sym, _∙_}
 use mathlib.Core.List.{List, [], _∷_, _++_, append-assoc, reverse, reverseAux, reverse-reverse}
 use Prim.Native.Nat.{ℕ, zero, suc, _+_, _-_, _*_, _^_, _<_, _≤_, suc-le-suc}
-use native.Mathlib.Nat.{mul-suc, mul-zero, add-comm}
+use native.Mathlib.Nat.{mul-suc, mul-zero, add-comm, mod-eq-of-lt}
 use native.Mathlib.Omega.{arith}
 use lib.ListN.{length, take, drop, length-append, length-drop, length-reverse}
 use lib.Dec.{lit<}
@@ -113,6 +113,12 @@ unfolding packBigEndianSeq unpackBigEndianSeq
 packBigSeq-unpackSeq w zero s h l = rw mul-zero
 packBigSeq-unpackSeq w (suc n) s h l =
     rw (packBig-unpack w s h (omega (arith, first-fits w n s l)), packBigSeq-unpackSeq w n (drop w s) (bytes-drop w s h) (rest-fits w n s l), take-first w n s l)
+
+-- bytes are numbers of one byte
+pub packBigSeq-of-bytes : (b : List ℕ) → Below 256 b → packBigEndianSeq 1 b ≡ b
+unfolding packBigEndianSeq packBigEndian packLittleEndian
+packBigSeq-of-bytes [] h = refl
+packBigSeq-of-bytes (n ∷ b) h = rw (mod-eq-of-lt (h 0 (omega arith)), packBigSeq-of-bytes b (λ j l. h (suc j) (omega arith)))
 
 -- ---- each element turned round
 

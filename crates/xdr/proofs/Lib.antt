@@ -3,3 +3,4 @@ pub mod Rows
 pub mod Import
 pub mod Whole
 pub mod Small
+pub mod Stops

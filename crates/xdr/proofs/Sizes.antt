@@ -1,7 +1,8 @@
 -- How many bytes: of the padding, of the XDR bytes beside those of the record and of the store.
 use mathlib.Core.Path.{_≡_, refl, ap, sym, _∙_}
-use mathlib.Core.List.{List}
+use mathlib.Core.List.{List, append-nil}
 use Prim.Native.Nat.{ℕ, _+_, _*_, _%_, _≤_}
+use native.Mathlib.Nat.{mul-assoc}
 use native.Mathlib.Omega.{arith}
 use lib.ListN.{length, length-append, length-replicate}
 use Rattle.packed.proofs.Laws.{length-packSeq}
@@ -28,6 +29,13 @@ padding-none n = omega arith
 pub length-padded : (bs : List ℕ) → length (padded bs) ≡ length bs + padding (length bs)
 unfolding padded
 length-padded bs = rw (length-append, length-replicate)
+
+-- numbers of a multiple of four bytes have none behind them
+pub padded-numbers : (m : ℕ) (ns : List ℕ) → padded (packBigEndianSeq (4 * m) ns) ≡ packBigEndianSeq (4 * m) ns
+unfolding padded
+padded-numbers m ns =
+    let e : 4 * m * length ns ≡ 4 * (m * length ns) = mul-assoc 4 m (length ns) in
+    rw (length-packBigSeq, e, padding-none (m * length ns), append-nil)
 
 -- a count and the elements behind it
 pub length-elements : (k : Elements) (ns : List ℕ) → xdrSize (VNumberArray k ns) ≡ 4 + (elementWidth k * length ns + padding (elementWidth k * length ns))
