@@ -1,3 +1,4 @@
 pub mod Laws
 pub mod Cycle
 pub mod Root
+pub mod Meaning
