@@ -18,6 +18,10 @@ use Rattle.reading.specs.Calls.{countsOf}
 use Rattle.previewing.specs.Preview.{Preview}
 use Rattle.comparing.specs.SameRoute.{NamedReason, ofGrammar, ofFirst, ofSecond, Compares}
 use Rattle.choosing.specs.Choose.{Choice}
+use Rattle.xdr.specs.Xdr.{xdrOf, xdrSize, storeOf, rowsIn}
+use Rattle.xdr.specs.Import.{Filling}
+use Rattle.importing.specs.Meaning.{Counts as ImportCounts}
+use Rattle.importing.specs.Calls.{countsOf as importCounts}
 use Rattle.answer_c.specs.declared.RouteAnswer.{RouteAnswer}
 
 -- the values of an accepted call; 0 where it gives fewer than two
@@ -70,6 +74,10 @@ previewValues p = values (p .size) (p .changed)
 abbrev pub choiceValues : Choice → Values
 choiceValues c = values (c .number) (c .begun)
 
+-- of an import: the row count, and the bytes of the store used
+abbrev pub importValues : ImportCounts → Values
+importValues c = values (c .rows) (c .used)
+
 -- of same route: 1 for yes, 0 for no
 abbrev pub sameAnswerOf : Outcome NamedReason Bool → RouteAnswer
 sameAnswerOf (accepted true) = answerOf (accepted (oneValue 1))
@@ -92,6 +100,18 @@ pub record AnswersRows (o : Outcome Reason (Step State Val)) (index : ℕ) (answ
 pub record AnswersBytes (o : Outcome Reason Val) (index : ℕ) (answer : RouteAnswer) (entry exit : List ℕ) : Type 0 where
   pub answers : answer ≡ answerOf (map oneValue (map SizeOfV o))
   pub output : exit ≡ contents (map (λ v. put entry index (bytesOf v)) o) entry
+
+-- an export answers as the outcome o says, with the XDR size; the XDR bytes of the value stand at the index of the output at exit
+pub record AnswersXdr (o : Outcome Reason Val) (index : ℕ) (answer : RouteAnswer) (entry exit : List ℕ) : Type 0 where
+  pub answers : answer ≡ answerOf (map oneValue (map xdrSize o))
+  pub output : exit ≡ contents (map (λ v. put entry index (xdrOf v)) o) entry
+
+-- an import answers as the outcome o says; at exit the rows of the value stand from row 0 on, and the bytes of its arrays in the store from
+-- byte 0 on
+pub record AnswersImport (o : Outcome Reason (Step Filling Val)) (answer : RouteAnswer) (rows₀ store₀ rows₁ store₁ : List ℕ) : Type 0 where
+  pub answers : answer ≡ answerOf (map importValues (map importCounts o))
+  pub rows : rows₁ ≡ contents (map (λ t. put rows₀ 0 (rowsIn (t .value) 0)) o) rows₀
+  pub store : store₁ ≡ contents (map (λ t. put store₀ 0 (storeOf (t .value))) o) store₀
 
 -- same route answers by the outcome that its contract allows
 pub record AnswersSame (g first second : List ℕ) (answer : RouteAnswer) : Type 0 where

@@ -10,9 +10,11 @@ ghost use Rattle.reading.specs.Meaning.{parsedOf};
 ghost use Rattle.previewing.specs.Preview.{previewedOf};
 ghost use Rattle.comparing.specs.SameRoute.{sameRouteOf};
 ghost use Rattle.choosing.specs.Choose.{chosenOf};
-ghost use Rattle.answer_c.specs.Answer.{answerOf, refusalOf, noValue, oneValue, signedValue, partValues, countValues, previewValues, choiceValues, sameAnswerOf};
+ghost use Rattle.importing.specs.Meaning.{importedOf};
+ghost use Rattle.answer_c.specs.Answer.{answerOf, refusalOf, noValue, oneValue, signedValue, partValues, countValues, previewValues, choiceValues, importValues, sameAnswerOf};
 use choosing::Chosen;
 use comparing::SameRoute;
+use importing::Imported;
 use packed::UnpackedU32;
 use packed::UnpackedU64;
 use previewing::Previewed;
@@ -186,5 +188,14 @@ pub fn of_chosen(answer: Chosen) -> RouteAnswer
     match answer {
         Chosen::Grammar { number, begun } => accept(number as u64, begun as u64),
         Chosen::Refused(r) => refuse(r),
+    }
+}
+
+pub fn of_imported(answer: Imported) -> RouteAnswer
+    ensures { λ r. ⌜ r ≡ answerOf (map importValues (importedOf answer)) ⌝ }
+{
+    match answer {
+        Imported::Value(rows, used) => accept(rows as u64, used as u64),
+        Imported::Refused(r) => refuse(r),
     }
 }

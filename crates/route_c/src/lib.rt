@@ -12,10 +12,13 @@ ghost use Rattle.reading.specs.Calls.{parseValOf, demarshallOf, countsOf};
 ghost use Rattle.sizing.specs.Writes.{marshallValOf};
 ghost use Rattle.previewing.specs.Preview.{previewOf};
 ghost use Rattle.choosing.specs.Choose.{chooseOf};
-ghost use Rattle.answer_c.specs.Answer.{answerOf, noValue, oneValue, signedValue, partValues, countValues, previewValues, choiceValues, Answers, AnswersRows, AnswersBytes, AnswersSame};
+ghost use Rattle.exporting.specs.Export.{exportOf};
+ghost use Rattle.importing.specs.Calls.{importOf};
+ghost use Rattle.answer_c.specs.Answer.{answerOf, noValue, oneValue, signedValue, partValues, countValues, previewValues, choiceValues, Answers, AnswersRows, AnswersBytes, AnswersXdr, AnswersImport, AnswersSame};
 use answer_c::RouteAnswer;
 use answer_c::of_answer;
 use answer_c::of_chosen;
+use answer_c::of_imported;
 use answer_c::of_located;
 use answer_c::of_parsed;
 use answer_c::of_previewed;
@@ -236,4 +239,30 @@ pub extern "C" fn route_choose_grammar(list: &[u32], record: &[u8]) -> RouteAnsw
     ensures { λ r. ⌜ r ≡ answerOf (map choiceValues (chooseOf (now (list .entry)) (now («record» .entry)))) ⌝ }
 {
     of_chosen(choosing::choose_grammar(list, record))
+}
+
+#[no_mangle]
+pub extern "C" fn route_export_xdr(
+    grammar: &[u32],
+    rows: &[u64],
+    n: usize,
+    store: &[u8],
+    out: &mut [u8],
+    index: usize,
+) -> RouteAnswer
+    ensures { λ r. ⌜ AnswersXdr (exportOf (now (grammar .entry)) (now (rows .entry)) n (now (store .entry)) (length (now (out .entry))) index) index r (now (out .entry)) (now (out .exit)) ⌝ }
+{
+    of_size(exporting::export_xdr(grammar, rows, n, store, out, index))
+}
+
+#[no_mangle]
+pub extern "C" fn route_import_xdr(
+    grammar: &[u32],
+    record: &[u8],
+    rows: &mut [u64],
+    store: &mut [u8],
+) -> RouteAnswer
+    ensures { λ r. ⌜ AnswersImport (importOf (now (grammar .entry)) (now («record» .entry)) (capacityOf (length (now (rows .entry)))) (length (now (store .entry)))) r (now (rows .entry)) (now (store .entry)) (now (rows .exit)) (now (store .exit)) ⌝ }
+{
+    of_imported(importing::import_xdr(grammar, record, rows, store))
 }
