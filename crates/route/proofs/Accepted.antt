@@ -14,8 +14,10 @@ use Rattle.value.proofs.Signed.{pattern-signed}
 use Rattle.signed.proofs.Rule.{signed-exactly}
 use Rattle.reading.specs.Calls.{countsOf}
 use Rattle.comparing.specs.SameRoute.{NamedReason, ofGrammar, ofFirst, ofSecond}
+use Rattle.xdr.specs.Xdr.{xdrSize}
+use Rattle.importing.specs.Calls.{countsOf as importCounts}
 use Rattle.answer_c.specs.Answer.{Values, values, answerOf, sameAnswerOf}
-use Rattle.route.specs.Refusals.{Refuses, Listed, ofWord, ofByte, ofOutput, ofRow, ofLocator, ofSigned, ofList, ofChoice, Lists, unnamed}
+use Rattle.route.specs.Refusals.{Refuses, Listed, ofWord, ofByte, ofOutput, ofRow, ofLocator, ofSigned, ofList, ofChoice, ofPadding, Lists, unnamed}
 use Rattle.route.specs.Accepted.{IsAccepted, isAccepted, ZeroIsAccepted, NumberZero, WordIsNumber}
 use Rattle.route.proofs.Refusals.{map-refuses}
 use Rattle.route.proofs.Demand1.{demand1}
@@ -29,6 +31,7 @@ listed-positive (ofLocator r) = omega arith
 listed-positive (ofSigned r) = omega arith
 listed-positive (ofList w) = omega arith
 listed-positive (ofChoice b) = omega arith
+listed-positive (ofPadding b) = omega arith
 
 not-zero : {P : Type 0} {n : ℕ} {l : Location} → Listed (reason n l) → n ≡ 0 → P
 not-zero h q = let p = listed-positive h in absurd (omega (arith, p, q))
@@ -65,9 +68,11 @@ number-zero = record {
   signed = λ t n s i. zero-of _ (demand1 .signed t n s i) (demand1 .listedSigned t n s i);
   reading = λ g d index capacity. zero-of _ (map-refuses countsOf (demand1 .reading g d index capacity)) (demand1 .listedReading g d index capacity);
   wholeReading = λ g d capacity. zero-of _ (map-refuses countsOf (demand1 .wholeReading g d capacity)) (demand1 .listedWhole g d capacity);
-  writing = λ g t n s len index. zero-of _ (map-refuses SizeOfV (demand1 .writing g t n s len index)) (demand1 .listedWriting g t n s len index);
-  preview = λ g t n s out index. zero-of _ (demand1 .preview g t n s out index) (demand1 .listedWriting g t n s (length out) index);
+  writing = λ g t n s len index. zero-of _ (map-refuses SizeOfV (demand1 .writing g t n s len index)) (demand1 .listedWriting SizeOfV g t n s len index);
+  preview = λ g t n s out index. zero-of _ (demand1 .preview g t n s out index) (demand1 .listedWriting SizeOfV g t n s (length out) index);
   choosing = λ l d. zero-of _ (demand1 .choosing l d) (demand1 .listedChoosing l d);
+  exporting = λ g t n s len index. zero-of _ (map-refuses xdrSize (demand1 .exporting g t n s len index)) (demand1 .listedWriting xdrSize g t n s len index);
+  importing = λ g d capacity len words. zero-of _ (map-refuses importCounts (demand1 .importing g d capacity len words)) (demand1 .listedImporting g d capacity len);
   routes = λ g first second o h. named-zero o (λ e q. demand1 .listedRoutes g first second e (demand1 .routes g first second e .0 (h .refuses e .0 q)));
 }
 

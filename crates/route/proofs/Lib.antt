@@ -10,3 +10,4 @@ pub mod Demand2
 pub mod Demand3
 pub mod Accepted
 pub mod CutRecords
+pub mod Xdr

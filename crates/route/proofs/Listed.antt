@@ -4,8 +4,9 @@ use Prim.Native.Nat.{ℕ}
 use native.Mathlib.Omega.{arith}
 use Rattle.refusal.specs.Outcome.{word, Reason, reason}
 use Rattle.grammar.specs.Rule.{FirstRefusal, first1, first2, first3, first4, first5}
+use Rattle.value.specs.Tree.{Val}
 use Rattle.comparing.specs.SameRoute.{NamedReason}
-use Rattle.route.specs.Refusals.{NoRoom, outputShort, NotThere, above, missing, RowRefused, broken, outside, RowsRefused, storeAbove, rowTable, atRow, LocatorRefused, SignedRefused, ofRows, notTaken, ValueRefused, noRow, bytesMissing, tagAbove, ReadingRefused, grammarFirst, recordAbove, indexAbove, atValue, WholeRefused, ofReading, recordEnd, WritingRefused, grammarBefore, rowsBefore, notInGrammar, sizeAbove, noRoom, RewritingRefused, roomFirst, readingThen, RouteRefused, byGrammar, byFirst, bySecond, ChoosingRefused, listBroken, badGrammar, recordLong, noneAccepts, Listed, ofWord, ofByte, ofOutput, ofRow, ofLocator, ofSigned, ofList, ofChoice, unnamed}
+use Rattle.route.specs.Refusals.{NoRoom, outputShort, NotThere, above, missing, RowRefused, broken, outside, RowsRefused, storeAbove, rowTable, atRow, LocatorRefused, SignedRefused, ofRows, notTaken, ValueRefused, noRow, bytesMissing, tagAbove, ReadingRefused, grammarFirst, recordAbove, indexAbove, atValue, WholeRefused, ofReading, recordEnd, WritingRefused, grammarBefore, rowsBefore, notInGrammar, sizeAbove, noRoom, ImportStopped, noRowLeft, xdrMissing, caseUnknown, storeShort, paddingSet, ImportRefused, tableFirst, bytesAbove, inValue, xdrLeft, RewritingRefused, roomFirst, readingThen, RouteRefused, byGrammar, byFirst, bySecond, ChoosingRefused, listBroken, badGrammar, recordLong, noneAccepts, Listed, ofWord, ofByte, ofOutput, ofRow, ofLocator, ofSigned, ofList, ofChoice, ofPadding, unnamed}
 
 pub grammar-listed : {g : List ℕ} {e : Reason} → FirstRefusal g e → Listed e
 grammar-listed (first1 _) = ofWord 1 _ (omega arith) (omega arith)
@@ -53,12 +54,25 @@ pub whole-listed : {g d : List ℕ} {capacity : ℕ} {e : Reason} → WholeRefus
 whole-listed (ofReading q) = reading-listed q
 whole-listed (recordEnd _ _ _) = ofByte 11 _ (omega arith) (omega arith)
 
-pub writing-listed : {g t : List ℕ} {n : ℕ} {s : List ℕ} {len index : ℕ} {e : Reason} → WritingRefused g t n s len index e → Listed e
+pub writing-listed : {sizeBy : Val → ℕ} {g t : List ℕ} {n : ℕ} {s : List ℕ} {len index : ℕ} {e : Reason} → WritingRefused sizeBy g t n s len index e → Listed e
 writing-listed (grammarBefore q) = grammar-listed q
 writing-listed (rowsBefore _ q) = rows-listed q
 writing-listed (notInGrammar _ _ _ _ _ _ _) = ofRow 15 _ (omega arith) (omega arith)
 writing-listed (sizeAbove _ _ _ _ _) = ofRow 16 _ (omega arith) (omega arith)
 writing-listed (noRoom _ _ _ _ _ _) = ofOutput _
+
+stopped-listed : {g d : List ℕ} {capacity len : ℕ} {e : Reason} → ImportStopped g d capacity len e → Listed e
+stopped-listed (noRowLeft _ _ _) = ofByte 8 _ (omega arith) (omega arith)
+stopped-listed (xdrMissing _ _ _) = ofByte 9 _ (omega arith) (omega arith)
+stopped-listed (caseUnknown _ _ _) = ofByte 10 _ (omega arith) (omega arith)
+stopped-listed (storeShort _) = ofOutput _
+stopped-listed (paddingSet _ _ _) = ofPadding _
+
+pub importing-listed : {g d : List ℕ} {capacity len : ℕ} {e : Reason} → ImportRefused g d capacity len e → Listed e
+importing-listed (tableFirst q) = grammar-listed q
+importing-listed (bytesAbove _ _) = ofByte 6 _ (omega arith) (omega arith)
+importing-listed (inValue _ _ _ q _) = stopped-listed q
+importing-listed (xdrLeft _ _ _ _ _ _) = ofByte 11 _ (omega arith) (omega arith)
 
 pub rewriting-listed : {g d : List ℕ} {capacity len index : ℕ} {e : Reason} → RewritingRefused g d capacity len index e → Listed e
 rewriting-listed (roomFirst q) = room-listed q

@@ -53,7 +53,7 @@ mutual
 pub value-of : {g : List ℕ} {v : Val} → Grammar g → ValueOfGrammar g v → ValueOf (treeOf g 0) v
 value-of {g} w o = record { inGrammar = o .inGrammar; valid = valid-counts (tree-valid g (w .words) 0) (o .inGrammar) (o .counts); typed = o .typed }
 
-of-value : {g : List ℕ} {v : Val} → ValueOf (treeOf g 0) v → ValueOfGrammar g v
+pub of-value : {g : List ℕ} {v : Val} → ValueOf (treeOf g 0) v → ValueOfGrammar g v
 of-value {g} {v} o = record { inGrammar = o .inGrammar; counts = counts-valid v (o .valid); typed = o .typed }
 
 -- ---- the rows of a call
@@ -126,7 +126,7 @@ module _ {g d rows exit : List ℕ} {r : Parsed} (h : WholeReading g d rows r ex
 -- ---- the rows at exit
 
 -- words put in front of others
-put-front : (out front : List ℕ) → put out 0 front ≡ front ++ drop (length front) out
+pub put-front : (out front : List ℕ) → put out 0 front ≡ front ++ drop (length front) out
 unfolding put
 put-front out front = rw (zero-add (length front))
 

@@ -1,6 +1,6 @@
 -- When each definition refuses (specs/Refusals.antt), proved in both directions.
 use mathlib.Core.Path.{_≡_, refl, sym, ap, subst, _∙_}
-use mathlib.Core.Logic.{_↔_, inl, inr, ⊎-elim}
+use mathlib.Core.Logic.{_↔_, _⊎_, inl, inr, ⊎-elim}
 use mathlib.Core.Bool.{Bool, true, false}
 use mathlib.Core.Option.{none, some}
 use mathlib.Core.List.{List}
@@ -8,7 +8,7 @@ use Prim.Native.Nat.{ℕ, zero, suc, _+_, _-_, _*_, _/_, _≤_, _<_}
 use native.Mathlib.Nat.{le-refl}
 use native.Mathlib.Omega.{arith}
 use lib.ListN.{length}
-use lib.Dec.{ltb, eqb}
+use lib.Dec.{leb, ltb, eqb}
 use borrow.Author.Tests.{le-leb, lt-leb, ltb-true}
 use Rattle.refusal.specs.Outcome.{Outcome, accepted, refused, bind, test, map, word, byte, row, Reason, reason}
 use Rattle.refusal.proofs.Outcome.{Post, holds, fails, post-bind, post-test, post-reflects, post-weaken, post-accepted, post-refused, clash, bind-accepted, bind-assoc, bind-test, test-true, test-false, map-refused}
@@ -41,15 +41,21 @@ use Rattle.admission.proofs.Admission.{length-fits, length-above, length-post, 
 use Rattle.reading.proofs.Calls.{parse-admitted, parse-refused, whole-parse}
 use Rattle.reading.proofs.Bridge.{parse-inside}
 use Rattle.sizing.specs.InGrammar.{checkInGrammar}
-use Rattle.sizing.specs.Writes.{valueInGrammar, valueToWrite, marshallValOf}
+use Rattle.sizing.specs.Writes.{valueInGrammar, checkSize, valueToWrite, marshallValOf}
 use Rattle.sizing.proofs.InGrammar.{in-grammar-exactly, in-grammar-refused}
+use Rattle.xdr.specs.Xdr.{xdrSize, storeOf}
+use Rattle.xdr.specs.Import.{Filling, Importing, start as startFilling, importVal, importWhole, atEnd as atXdrEnd}
+use Rattle.xdr.proofs.Small.{FewCases, small-of}
+use Rattle.xdr.proofs.Stops.{Stops, stops8, stops9, stops10, stops17, stops23, import-stays, front-refused}
+use Rattle.exporting.specs.Export.{valueToExport, exportOf}
+use Rattle.importing.specs.Calls.{admitOf as admitXdr, importOf}
 use Rattle.route.specs.Rewriting.{rewriteOf}
 use Rattle.comparing.specs.SameRoute.{NamedReason, ofGrammar, ofFirst, ofSecond, naming, readBoth}
 use Rattle.choosing.specs.Choose.{countAt, grammarOf, placedReason, chooseOf}
 use Rattle.choosing.specs.Rule.{ListRule, ListPasses}
 use Rattle.choosing.proofs.Laws.{list-post, choose-list, choose-grammars, choose-length}
 use Rattle.choosing.proofs.Rule.{rule-passes, rule-broken, FirstBad, grammars-post, grammars-pass, bad-refused, tries-post, none-accepts}
-use Rattle.route.specs.Refusals.{Refuses, NoRoom, outputShort, NotThere, above, missing, RowRefused, broken, outside, RowsRefused, storeAbove, rowTable, atRow, LookUpRefused, ofRows, notTaken, IsArray, IsSigned, LocatorRefused, SignedRefused, ValueRefused, noRow, bytesMissing, tagAbove, ReadingRefused, grammarFirst, recordAbove, indexAbove, atValue, WholeRefused, ofReading, recordEnd, WritingRefused, grammarBefore, rowsBefore, notInGrammar, sizeAbove, noRoom, RewritingRefused, roomFirst, readingThen, RouteRefused, byGrammar, byFirst, bySecond, ChoosingRefused, listBroken, badGrammar, recordLong, noneAccepts}
+use Rattle.route.specs.Refusals.{Refuses, NoRoom, outputShort, NotThere, above, missing, RowRefused, broken, outside, RowsRefused, storeAbove, rowTable, atRow, LookUpRefused, ofRows, notTaken, IsArray, IsSigned, LocatorRefused, SignedRefused, ValueRefused, noRow, bytesMissing, tagAbove, ReadingRefused, grammarFirst, recordAbove, indexAbove, atValue, WholeRefused, ofReading, recordEnd, WritingRefused, grammarBefore, rowsBefore, notInGrammar, sizeAbove, noRoom, XdrFront, ImportStopped, noRowLeft, xdrMissing, caseUnknown, storeShort, paddingSet, ImportRefused, tableFirst, bytesAbove, inValue, xdrLeft, RewritingRefused, roomFirst, readingThen, RouteRefused, byGrammar, byFirst, bySecond, ChoosingRefused, listBroken, badGrammar, recordLong, noneAccepts}
 
 -- ---- outcomes whose every error has Q
 
@@ -430,43 +436,123 @@ module _ (g d : List ℕ) (capacity : ℕ) where
       back (ofReading {e = e} q) = whole-parse g d capacity ∙ ap (λ (o : Outcome Reason (Step State Val)). bind o atEnd) (parse-refuses g d 0 capacity e .1 q)
       back (recordEnd t h l) = whole-parse g d capacity ∙ ap (λ (o : Outcome Reason (Step State Val)). bind o atEnd) h ∙ test-false _ _ (refuted (reflects-eqb (t .state .at) (length d)) (λ q. omega arith))
 
--- ---- writing
+-- ---- writing and export
 
-module _ (g t : List ℕ) (n : ℕ) (s : List ℕ) (len index : ℕ) where
-  in-post : (v : Val) → checkGrammar g ≡ accepted tt → walk t n s ≡ accepted v → Post (λ _. ValInGrammar v (treeOf g 0)) (WritingRefused g t n s len index) (checkInGrammar v (treeOf g 0) 0)
+module _ (sizeBy : Val → ℕ) (g t : List ℕ) (n : ℕ) (s : List ℕ) (len index : ℕ) where
+  in-post : (v : Val) → checkGrammar g ≡ accepted tt → walk t n s ≡ accepted v → Post (λ _. ValInGrammar v (treeOf g 0)) (WritingRefused sizeBy g t n s len index) (checkInGrammar v (treeOf g 0) 0)
   in-post v p w = go (checkInGrammar v (treeOf g 0) 0) refl
     where
-      go : (x : Outcome Reason (Unit {0})) → checkInGrammar v (treeOf g 0) 0 ≡ x → Post (λ _. ValInGrammar v (treeOf g 0)) (WritingRefused g t n s len index) x
+      go : (x : Outcome Reason (Unit {0})) → checkInGrammar v (treeOf g 0) 0 ≡ x → Post (λ _. ValInGrammar v (treeOf g 0)) (WritingRefused sizeBy g t n s len index) x
       go (accepted u) q = holds u (in-grammar-exactly v (treeOf g 0) 0 .0 q)
       go (refused e) q =
           let x = in-grammar-refused v (treeOf g 0) 0 e q in
-          fails e (subst (WritingRefused g t n s len index) (sym (x .is)) (notInGrammar v p w (λ i. clash (sym q ∙ in-grammar-exactly v (treeOf g 0) 0 .1 i)) (x .at) (omega (arith, x .to)) (q ∙ ap refused (x .is))))
+          fails e (subst (WritingRefused sizeBy g t n s len index) (sym (x .is)) (notInGrammar v p w (λ i. clash (sym q ∙ in-grammar-exactly v (treeOf g 0) 0 .1 i)) (x .at) (omega (arith, x .to)) (q ∙ ap refused (x .is))))
 
-  pub marshall-refuses : Refuses (WritingRefused g t n s len index) (marshallValOf g t n s len index)
-  unfolding marshallValOf valueToWrite valueInGrammar room
-  marshall-refuses =
+  -- 1 to 6, 12 to 15, then 16 and 17 by this size
+  abbrev spelled : Outcome Reason Val
+  spelled = bind (bind (valueInGrammar g t n s) (λ v. checkSize (sizeBy v) v)) (λ v. map (λ _. v) (room len index (sizeBy v)))
+
+  spelled-refuses : Refuses (WritingRefused sizeBy g t n s len index) spelled
+  unfolding valueInGrammar room
+  spelled-refuses =
       refuses refl
       (post-bind _
       (post-bind _
       (post-bind _ (before (λ e q. grammarBefore q) (refused-exactly g)) (λ _ p.
       post-bind _ (before (λ e q. rowsBefore p q) (walk-refuses t n s)) (λ v w.
       post-bind {R = Decided} _ (post-weaken (λ _ i. i) (λ e q _. q) (in-post v p w)) (λ _ i. holds v (p, w, i)))))
-      (λ v h. post-reflects {P = Written} _ _ _ (reflects-leb (SizeOfV v) 1048576) (λ l. holds v (h .0, h .1, h .2, l)) (λ m _. sizeAbove v (h .0) (h .1) (h .2) (omega (arith, m)))))
-      (λ v h. only-map (λ _. v) (post-reflects _ _ _ (reflects-leb (index + SizeOfV v) len) (λ _. gives tt) (λ m _. noRoom v (h .0) (h .1) (h .2) (h .3) (omega (arith, m))))))
+      (λ v h. post-reflects {P = Written} _ _ _ (reflects-leb (sizeBy v) 1048576) (λ l. holds v (h .0, h .1, h .2, l)) (λ m _. sizeAbove v (h .0) (h .1) (h .2) (omega (arith, m)))))
+      (λ v h. only-map (λ _. v) (post-reflects _ _ _ (reflects-leb (index + sizeBy v) len) (λ _. gives tt) (λ m _. noRoom v (h .0) (h .1) (h .2) (h .3) (omega (arith, m))))))
       (λ e q. back q)
     where
       Decided : Val → Type 0
       Decided v = (checkGrammar g ≡ accepted tt) × (walk t n s ≡ accepted v) × ValInGrammar v (treeOf g 0)
 
       Written : Val → Type 0
-      Written v = (checkGrammar g ≡ accepted tt) × (walk t n s ≡ accepted v) × ValInGrammar v (treeOf g 0) × (SizeOfV v ≤ 1048576)
+      Written v = (checkGrammar g ≡ accepted tt) × (walk t n s ≡ accepted v) × ValInGrammar v (treeOf g 0) × (sizeBy v ≤ 1048576)
 
-      back : {e : Reason} → WritingRefused g t n s len index e → marshallValOf g t n s len index ≡ refused e
+      back : {e : Reason} → WritingRefused sizeBy g t n s len index e → spelled ≡ refused e
       back (grammarBefore {e = e} q) = rw (refused-exactly g e .1 q)
       back (rowsBefore {e = e} p q) = rw (p, walk-refuses t n s e .1 q)
       back (notInGrammar v p w m i l q) = rw (p, w, q)
-      back (sizeAbove v p w i l) = rw (p, w, in-grammar-exactly v (treeOf g 0) 0 .1 i, lt-leb (SizeOfV v) 1048576 l)
-      back (noRoom v p w i m l) = rw (p, w, in-grammar-exactly v (treeOf g 0) 0 .1 i, le-leb (SizeOfV v) 1048576 m, lt-leb (index + SizeOfV v) len l)
+      back (sizeAbove v p w i l) = rw (p, w, in-grammar-exactly v (treeOf g 0) 0 .1 i, lt-leb (sizeBy v) 1048576 l)
+      back (noRoom v p w i m l) = rw (p, w, in-grammar-exactly v (treeOf g 0) 0 .1 i, le-leb (sizeBy v) 1048576 m, lt-leb (index + sizeBy v) len l)
+
+module _ (g t : List ℕ) (n : ℕ) (s : List ℕ) (len index : ℕ) where
+  pub marshall-refuses : Refuses (WritingRefused SizeOfV g t n s len index) (marshallValOf g t n s len index)
+  unfolding marshallValOf valueToWrite
+  marshall-refuses = spelled-refuses SizeOfV g t n s len index
+
+  pub export-refuses : Refuses (WritingRefused xdrSize g t n s len index) (exportOf g t n s len index)
+  unfolding exportOf valueToExport
+  export-refuses = spelled-refuses xdrSize g t n s len index
+
+-- ---- import
+
+module _ (g d : List ℕ) (capacity len : ℕ) (p : checkGrammar g ≡ accepted tt) where
+  -- 1 to 6 are not given
+  pub import-whole : length d ≤ 1048576 → len ≤ 1048576 → importOf g d capacity len ≡ importWhole capacity len d (treeOf g 0)
+  unfolding importOf admitXdr
+  import-whole l m = rw (p, le-leb (length d) 1048576 l, le-leb len 1048576 m)
+
+  above-refused : (1048576 < length d) ⊎ (1048576 < len) → importOf g d capacity len ≡ refused (reason 6 (byte 0))
+  unfolding importOf admitXdr
+  above-refused (inl l) = rw (p, lt-leb (length d) 1048576 l)
+  above-refused (inr l) = rw (p, lt-leb len 1048576 l) (go (leb (length d) 1048576))
+    where
+      go : (b : Bool) → bind (test b (reason 6 (byte 0)) (λ _. test false (reason 6 (byte 0)) accepted)) (λ _. importWhole capacity len d (treeOf g 0)) ≡ refused (reason 6 (byte 0))
+      go true = refl
+      go false = refl
+
+module _ (g d : List ℕ) (capacity len : ℕ) (cases : FewCases (treeOf g 0)) where
+  -- what a refusal says of a value that d begins with
+  front : (n p : ℕ) → importVal capacity len d (treeOf g 0) startFilling ≡ refused (reason n (byte p)) → (v : Val) → XdrFront g d v → ((n ≡ 8) × (capacity < rowCount v)) ⊎ ((n ≡ 17) × (len < length (storeOf v)))
+  front n p q v f = front-refused capacity len d (treeOf g 0) v (f .rest) (f .value) (small-of (f .value .inGrammar) cases (omega (arith, f .rows)) (omega (arith, f .size))) (f .bytes) n p q
+
+  -- neither 8 nor 17
+  no-front : (n p : ℕ) → (n ≡ 8 → ⊥) → (n ≡ 17 → ⊥) → importVal capacity len d (treeOf g 0) startFilling ≡ refused (reason n (byte p)) → (v : Val) → XdrFront g d v → ⊥
+  no-front n p a b q v f = ⊎-elim (λ (x : (n ≡ 8) × (capacity < rowCount v)). a (x .0)) (λ (x : (n ≡ 17) × (len < length (storeOf v))). b (x .0)) (front n p q v f)
+
+  import-stopped : (e : Reason) → importVal capacity len d (treeOf g 0) startFilling ≡ refused e → ImportStopped g d capacity len e
+  import-stopped e q = go (post-refused (rw q at (import-stays capacity len d (treeOf g 0)))) q
+    where
+      go : {x : Reason} → Stops d len x → importVal capacity len d (treeOf g 0) startFilling ≡ refused x → ImportStopped g d capacity len x
+      go (stops8 p h) q = noRowLeft p h (λ v f. ⊎-elim (λ (x : (8 ≡ 8) × (capacity < rowCount v)). x .1) (λ (x : (8 ≡ 17) × (len < length (storeOf v))). absurd (omega (arith, x .0))) (front 8 p q v f))
+      go (stops9 p h) q = xdrMissing p h (no-front 9 p (λ z. omega arith) (λ z. omega arith) q)
+      go (stops10 p h) q = caseUnknown p h (no-front 10 p (λ z. omega arith) (λ z. omega arith) q)
+      go stops17 q = storeShort (λ v f. ⊎-elim (λ (x : (17 ≡ 8) × (capacity < rowCount v)). absurd (omega (arith, x .0))) (λ (x : (17 ≡ 17) × (len < length (storeOf v))). x .1) (front 17 len q v f))
+      go (stops23 p h) q = paddingSet p h (no-front 23 p (λ z. omega arith) (λ z. omega arith) q)
+
+  whole-only : checkGrammar g ≡ accepted tt → length d ≤ 1048576 → len ≤ 1048576 → Only (ImportRefused g d capacity len) (importWhole capacity len d (treeOf g 0))
+  unfolding importWhole
+  whole-only p l m = go (importVal capacity len d (treeOf g 0) startFilling) refl (import-stays capacity len d (treeOf g 0))
+    where
+      go : (x : Importing Val) → importVal capacity len d (treeOf g 0) startFilling ≡ x → Post (λ t. t .state .at ≤ length d) (Stops d len) x → Only (ImportRefused g d capacity len) (next x (atXdrEnd d))
+      go (accepted t) q h = post-reflects _ _ _ (reflects-eqb (t .state .at) (length d)) (λ _. gives _) (λ n. xdrLeft t p l m q (let i = post-accepted h in omega (arith, n, i)))
+      go (refused e) q h = fails e (inValue p l m (import-stopped e q) q)
+
+  pub import-refuses : Refuses (ImportRefused g d capacity len) (importOf g d capacity len)
+  unfolding importOf admitXdr importWhole
+  import-refuses =
+      refuses refl
+      (post-bind _ admitted (λ _ h. post-weaken (λ _ _. tt) (λ e q _. q) (whole-only (h .0) (h .1) (h .2))))
+      (λ e q. back q)
+    where
+      Admitted : Unit {0} → Type 0
+      Admitted _ = (checkGrammar g ≡ accepted tt) × (length d ≤ 1048576) × (len ≤ 1048576)
+
+      admitted : Post Admitted (λ e. importOf g d capacity len ≡ refused e → ImportRefused g d capacity len e) (bind (checkGrammar g) (λ _. test (leb (length d) 1048576) (reason 6 (byte 0)) (λ _. test (leb len 1048576) (reason 6 (byte 0)) accepted)))
+      admitted =
+          post-bind _ (before (λ e q. tableFirst q) (refused-exactly g)) (λ _ p.
+          post-reflects _ _ _ (reflects-leb (length d) 1048576)
+          (λ l. post-reflects _ _ _ (reflects-leb len 1048576) (λ m. holds tt (p, l, m)) (λ n _. bytesAbove p (inr (omega (arith, n)))))
+          (λ n _. bytesAbove p (inl (omega (arith, n)))))
+
+      back : {e : Reason} → ImportRefused g d capacity len e → importOf g d capacity len ≡ refused e
+      back (tableFirst {e = e} q) = rw (refused-exactly g e .1 q)
+      back (bytesAbove p l) = above-refused g d capacity len p l
+      back (inValue {e = e} p l m v q) = import-whole g d capacity len p l m ∙ ap (λ (x : Importing Val). next x (atXdrEnd d)) q
+      back (xdrLeft t p l m q i) = import-whole g d capacity len p l m ∙ ap (λ (x : Importing Val). next x (atXdrEnd d)) q ∙ test-false _ _ (refuted (reflects-eqb (t .state .at) (length d)) (λ z. omega arith))
 
 -- ---- the calls of `rewriting`, `comparing` and `choosing`
 

@@ -1,4 +1,4 @@
--- The three demands of 00-demands.md, with document 02's signed numbers, preview, chooser and named capacities, as statements over the
+-- The three demands of 00-demands.md, with document 02's signed numbers, preview, chooser, named capacities and XDR, as statements over the
 -- definitions that the contracts of the public calls cite. Above each part stand the words that it says, and what would leave it empty;
 -- proofs/Demand1.antt to Demand3.antt prove them.
 use mathlib.Core.Path.{_≡_}
@@ -39,11 +39,17 @@ use Rattle.reading.specs.Calls.{parseValOf, demarshallOf, countsOf, Parses, Sam
 use Rattle.reading.specs.declared.Parsed.{Parsed}
 use Rattle.sizing.specs.Writes.{marshallValOf, Writes}
 use Rattle.writing.specs.Marshall.{Marshalls}
+use Rattle.xdr.specs.Xdr.{xdrSize}
+use Rattle.xdr.specs.Import.{Filling}
+use Rattle.exporting.specs.Export.{exportOf, Exports}
+use Rattle.importing.specs.Meaning.{importedOf}
+use Rattle.importing.specs.Calls.{importOf, Imports}
+use Rattle.importing.specs.declared.Imported.{Imported}
 use Rattle.previewing.specs.Preview.{previewOf, previewedOf}
 use Rattle.route.specs.Rewriting.{rewriteOf, Rewrites}
 use Rattle.comparing.specs.SameRoute.{NamedReason, sameRouteOf, readBoth, Compares}
 use Rattle.choosing.specs.Choose.{chosenOf, chooseOf}
-use Rattle.route.specs.Refusals.{Refuses, NoRoom, NotThere, RowsRefused, LookUpRefused, LocatorRefused, SignedRefused, ReadingRefused, WholeRefused, WritingRefused, RewritingRefused, RouteRefused, ChoosingRefused, Listed, Lists, unnamed}
+use Rattle.route.specs.Refusals.{Refuses, NoRoom, NotThere, RowsRefused, LookUpRefused, LocatorRefused, SignedRefused, ReadingRefused, WholeRefused, WritingRefused, ImportRefused, RewritingRefused, RouteRefused, ChoosingRefused, Listed, Lists, unnamed}
 use Rattle.comparing.specs.declared.SameRoute.{SameRoute}
 
 -- ==== Demand 1. "Every call is defined on every input: no grammar, record, row table or index is assumed sound, each call comes to an end"
@@ -69,6 +75,7 @@ pub record Demand1 : Type 0 where
   pub previewed : AtMostOneAnswer previewedOf
   pub route : AtMostOneAnswer sameRouteOf
   pub chosen : AtMostOneAnswer chosenOf
+  pub imported : AtMostOneAnswer importedOf
   -- `check_grammar`
   pub grammar : (g : List ℕ) → Refuses (FirstRefusal g) (checkGrammar g)
   -- `room` of `packed`
@@ -93,9 +100,13 @@ pub record Demand1 : Type 0 where
   -- `demarshall`, `check_whole`, `check_whole_with`
   pub wholeReading : (g d : List ℕ) (capacity : ℕ) → Refuses (WholeRefused g d capacity) (demarshallOf g d capacity)
   -- `marshall_val`, `marshall`
-  pub writing : (g t : List ℕ) (n : ℕ) (s : List ℕ) (len index : ℕ) → Refuses (WritingRefused g t n s len index) (marshallValOf g t n s len index)
+  pub writing : (g t : List ℕ) (n : ℕ) (s : List ℕ) (len index : ℕ) → Refuses (WritingRefused SizeOfV g t n s len index) (marshallValOf g t n s len index)
   -- `preview`
-  pub preview : (g t : List ℕ) (n : ℕ) (s out : List ℕ) (index : ℕ) → Refuses (WritingRefused g t n s (length out) index) (previewOf g t n s out index)
+  pub preview : (g t : List ℕ) (n : ℕ) (s out : List ℕ) (index : ℕ) → Refuses (WritingRefused SizeOfV g t n s (length out) index) (previewOf g t n s out index)
+  -- `export_xdr`
+  pub exporting : (g t : List ℕ) (n : ℕ) (s : List ℕ) (len index : ℕ) → Refuses (WritingRefused xdrSize g t n s len index) (exportOf g t n s len index)
+  -- `import_xdr`
+  pub importing : (g d : List ℕ) (capacity len : ℕ) → Below (2 ^ 32) g → Refuses (ImportRefused g d capacity len) (importOf g d capacity len)
   -- `rewrite`
   pub rewriting : (g d : List ℕ) (capacity len index : ℕ) → Refuses (RewritingRefused g d capacity len index) (rewriteOf g d capacity len index)
   -- `same_route`, whose contract allows one answer
@@ -113,15 +124,18 @@ pub record Demand1 : Type 0 where
   pub listedSigned : (t : List ℕ) (n : ℕ) (s : List ℕ) (i : ℕ) → Lists (SignedRefused t n s i)
   pub listedReading : (g d : List ℕ) (index capacity : ℕ) → Lists (ReadingRefused g d index capacity)
   pub listedWhole : (g d : List ℕ) (capacity : ℕ) → Lists (WholeRefused g d capacity)
-  pub listedWriting : (g t : List ℕ) (n : ℕ) (s : List ℕ) (len index : ℕ) → Lists (WritingRefused g t n s len index)
+  pub listedWriting : (sizeBy : Val → ℕ) (g t : List ℕ) (n : ℕ) (s : List ℕ) (len index : ℕ) → Lists (WritingRefused sizeBy g t n s len index)
+  pub listedImporting : (g d : List ℕ) (capacity len : ℕ) → Lists (ImportRefused g d capacity len)
   pub listedRewriting : (g d : List ℕ) (capacity len index : ℕ) → Lists (RewritingRefused g d capacity len index)
   pub listedRoutes : (g first second : List ℕ) (e : NamedReason) → RouteRefused g first second e → Listed (unnamed e)
   pub listedChoosing : (l d : List ℕ) → Lists (ChoosingRefused l d)
-  -- "and a refusal alters no buffer lent to the call": a slice of numbers or bytes, rows, the output. They would be empty if no call were
+  -- "and a refusal alters no buffer lent to the call": a slice of numbers or bytes, rows, the output, the store of an import. They would be empty if no call were
   -- refused: `reading-C` of proofs/Examples.antt is
   pub fillsNothing : (o : Outcome Reason (List ℕ)) (a : Outcome Reason (Unit {0})) (entry exit : List ℕ) → Fills o a entry exit → (e : Reason) → a ≡ refused e → exit ≡ entry
   pub parsesNothing : (o : Outcome Reason (Step State Val)) (index : ℕ) (r : Parsed) (entry exit : List ℕ) → Parses o index r entry exit → (e : Reason) → parsedOf r ≡ refused e → exit ≡ entry
   pub marshallsNothing : (o : Outcome Reason Val) (index : ℕ) (w : SizeOf) (entry exit : List ℕ) → Marshalls o index w entry exit → (e : Reason) → sizeOf w ≡ refused e → exit ≡ entry
+  pub exportsNothing : (o : Outcome Reason Val) (index : ℕ) (w : SizeOf) (entry exit : List ℕ) → Exports o index w entry exit → (e : Reason) → sizeOf w ≡ refused e → exit ≡ entry
+  pub importsNothing : (o : Outcome Reason (Step Filling Val)) (r : Imported) (rows store rows₁ store₁ : List ℕ) → Imports o r rows store rows₁ store₁ → (e : Reason) → importedOf r ≡ refused e → (rows₁ ≡ rows) × (store₁ ≡ store)
   pub rewritesNothing : (g d rows out : List ℕ) (index : ℕ) (w : SizeOf) (filled exit : List ℕ) → Rewrites g d rows out index w filled exit → (e : Reason) → sizeOf w ≡ refused e → (filled ≡ rows) × (exit ≡ out)
 
 -- ==== Demands 2 and 3 share this

@@ -4,3 +4,4 @@ pub mod Demands
 pub mod Bench
 pub mod Accepted
 pub mod CutRecords
+pub mod Xdr

@@ -4,12 +4,12 @@
 use mathlib.Core.Path.{_≡_}
 use mathlib.Core.Logic.{_↔_, _⊎_}
 use mathlib.Core.Option.{none, some}
-use mathlib.Core.List.{List, []}
-use Prim.Native.Nat.{ℕ, _+_, _*_, _≤_, _<_}
+use mathlib.Core.List.{List, [], _++_}
+use Prim.Native.Nat.{ℕ, _+_, _*_, _^_, _≤_, _<_}
 use lib.ListN.{length, drop}
 use Rattle.refusal.specs.Outcome.{Outcome, accepted, refused, word, byte, row, Reason, reason}
 use Rattle.value.specs.Kinds.{Elements, elementWidth, elementsKind}
-use Rattle.value.specs.Tree.{Val, ValInGrammar, SizeOfV, rowCount}
+use Rattle.value.specs.Tree.{Val, ValInGrammar, ValueOf, rowCount}
 use Rattle.value.specs.Step.{Step}
 use Rattle.value.specs.Reading.{State}
 use Rattle.value.specs.Parse.{parseVal}
@@ -20,6 +20,8 @@ use Rattle.tables.specs.Row.{rowWidth, rowAt}
 use Rattle.rows.specs.Walk.{walk}
 use Rattle.reading.specs.Calls.{parseValOf, demarshallOf}
 use Rattle.sizing.specs.InGrammar.{checkInGrammar}
+use Rattle.xdr.specs.Xdr.{xdrOf, xdrSize, storeOf}
+use Rattle.xdr.specs.Import.{Filling, start, importVal}
 use Rattle.comparing.specs.SameRoute.{NamedReason, ofGrammar, ofFirst, ofSecond}
 use Rattle.choosing.specs.Choose.{listCount, countAt, grammarOf}
 use Rattle.choosing.specs.Rule.{ListRule, ListPasses, Accepts}
@@ -97,15 +99,42 @@ pub data WholeRefused (g d : List ℕ) (capacity : ℕ) : Reason → Type 0 wher
   ofReading : {e : Reason} → ReadingRefused g d 0 capacity e → WholeRefused g d capacity e
   recordEnd : (t : Step State Val) → parseValOf g d 0 capacity ≡ accepted t → t .state .at < length d → WholeRefused g d capacity (reason 11 (byte (t .state .at)))
 
--- ---- writing
+-- ---- writing and export
 
-pub data WritingRefused (g t : List ℕ) (n : ℕ) (s : List ℕ) (len index : ℕ) : Reason → Type 0 where
-  grammarBefore : {e : Reason} → FirstRefusal g e → WritingRefused g t n s len index e
-  rowsBefore : {e : Reason} → checkGrammar g ≡ accepted tt → RowsRefused t n s e → WritingRefused g t n s len index e
+-- sizeBy is `SizeOfV` for writing and the XDR size for export
+pub data WritingRefused (sizeBy : Val → ℕ) (g t : List ℕ) (n : ℕ) (s : List ℕ) (len index : ℕ) : Reason → Type 0 where
+  grammarBefore : {e : Reason} → FirstRefusal g e → WritingRefused sizeBy g t n s len index e
+  rowsBefore : {e : Reason} → checkGrammar g ≡ accepted tt → RowsRefused t n s e → WritingRefused sizeBy g t n s len index e
   -- which of v's rows it is, is the second walk's definition
-  notInGrammar : (v : Val) → checkGrammar g ≡ accepted tt → walk t n s ≡ accepted v → (ValInGrammar v (treeOf g 0) → ⊥) → (i : ℕ) → i < rowCount v → checkInGrammar v (treeOf g 0) 0 ≡ refused (reason 15 (row i)) → WritingRefused g t n s len index (reason 15 (row i))
-  sizeAbove : (v : Val) → checkGrammar g ≡ accepted tt → walk t n s ≡ accepted v → ValInGrammar v (treeOf g 0) → 1048576 < SizeOfV v → WritingRefused g t n s len index (reason 16 (row 0))
-  noRoom : (v : Val) → checkGrammar g ≡ accepted tt → walk t n s ≡ accepted v → ValInGrammar v (treeOf g 0) → SizeOfV v ≤ 1048576 → len < index + SizeOfV v → WritingRefused g t n s len index (reason 17 (byte len))
+  notInGrammar : (v : Val) → checkGrammar g ≡ accepted tt → walk t n s ≡ accepted v → (ValInGrammar v (treeOf g 0) → ⊥) → (i : ℕ) → i < rowCount v → checkInGrammar v (treeOf g 0) 0 ≡ refused (reason 15 (row i)) → WritingRefused sizeBy g t n s len index (reason 15 (row i))
+  sizeAbove : (v : Val) → checkGrammar g ≡ accepted tt → walk t n s ≡ accepted v → ValInGrammar v (treeOf g 0) → 1048576 < sizeBy v → WritingRefused sizeBy g t n s len index (reason 16 (row 0))
+  noRoom : (v : Val) → checkGrammar g ≡ accepted tt → walk t n s ≡ accepted v → ValInGrammar v (treeOf g 0) → sizeBy v ≤ 1048576 → len < index + sizeBy v → WritingRefused sizeBy g t n s len index (reason 17 (byte len))
+
+-- ---- import
+
+-- v is a value of the grammar of fewer than 2^32 rows and 2^32 bytes of XDR, and d begins with its XDR bytes
+pub record XdrFront (g d : List ℕ) (v : Val) : Type 0 where
+  pub value : ValueOf (treeOf g 0) v
+  pub rows : rowCount v < 2 ^ 32
+  pub size : xdrSize v < 2 ^ 32
+  pub rest : List ℕ
+  pub bytes : d ≡ xdrOf v ++ rest
+
+-- 8, 9, 10, 17 or 23. Which byte it is, and which number, is left to the definition. After 8 every value that d begins with needs more rows
+-- than there are, after 17 more bytes than the store has; after 9, 10 and 23 d begins with none
+pub data ImportStopped (g d : List ℕ) (capacity len : ℕ) : Reason → Type 0 where
+  noRowLeft : (p : ℕ) → p ≤ length d → ((v : Val) → XdrFront g d v → capacity < rowCount v) → ImportStopped g d capacity len (reason 8 (byte p))
+  xdrMissing : (p : ℕ) → p ≤ length d → ((v : Val) → XdrFront g d v → ⊥) → ImportStopped g d capacity len (reason 9 (byte p))
+  caseUnknown : (p : ℕ) → p ≤ length d → ((v : Val) → XdrFront g d v → ⊥) → ImportStopped g d capacity len (reason 10 (byte p))
+  storeShort : ((v : Val) → XdrFront g d v → len < length (storeOf v)) → ImportStopped g d capacity len (reason 17 (byte len))
+  paddingSet : (p : ℕ) → p ≤ length d → ((v : Val) → XdrFront g d v → ⊥) → ImportStopped g d capacity len (reason 23 (byte p))
+
+pub data ImportRefused (g d : List ℕ) (capacity len : ℕ) : Reason → Type 0 where
+  tableFirst : {e : Reason} → FirstRefusal g e → ImportRefused g d capacity len e
+  -- of the record or of the lent store
+  bytesAbove : checkGrammar g ≡ accepted tt → (1048576 < length d) ⊎ (1048576 < len) → ImportRefused g d capacity len (reason 6 (byte 0))
+  inValue : {e : Reason} → checkGrammar g ≡ accepted tt → length d ≤ 1048576 → len ≤ 1048576 → ImportStopped g d capacity len e → importVal capacity len d (treeOf g 0) start ≡ refused e → ImportRefused g d capacity len e
+  xdrLeft : (t : Step Filling Val) → checkGrammar g ≡ accepted tt → length d ≤ 1048576 → len ≤ 1048576 → importVal capacity len d (treeOf g 0) start ≡ accepted t → t .state .at < length d → ImportRefused g d capacity len (reason 11 (byte (t .state .at)))
 
 -- ---- the calls of `rewriting`, `comparing` and `choosing`
 
@@ -130,7 +159,7 @@ pub data ChoosingRefused (l d : List ℕ) : Reason → Type 0 where
 
 -- ---- the table
 
--- numbers 1 to 18 of document 01's table and 20 to 22 of document 02, each with its kind of place; the relations above fix the place itself,
+-- numbers 1 to 18 of document 01's table and 20 to 23 of document 02, each with its kind of place; the relations above fix the place itself,
 -- and 19 is the program's
 pub data Listed : Reason → Type 0 where
   ofWord : (n w : ℕ) → 0 < n → n ≤ 5 → Listed (reason n (word w))
@@ -141,6 +170,7 @@ pub data Listed : Reason → Type 0 where
   ofSigned : (r : ℕ) → Listed (reason 20 (row r))
   ofList : (w : ℕ) → Listed (reason 21 (word w))
   ofChoice : (b : ℕ) → Listed (reason 22 (byte b))
+  ofPadding : (b : ℕ) → Listed (reason 23 (byte b))
 
 -- every refusal with Q is one of these
 abbrev pub Lists : (Reason → Type 0) → Type 0
