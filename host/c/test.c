@@ -20,7 +20,7 @@
 typedef struct vector {
     const char *name, *call;
     const char *given[6];
-    const char *after; /* the lent array after an accepted call that has one */
+    const char *after[3]; /* the lent arrays after an accepted call, in order, and NULL */
     route_answer answer;
 } vector;
 
@@ -290,10 +290,11 @@ static void run(const struct call *call, const vector *v, enum side side)
             check_pages(call->letters[i], &arguments[i], side);
     }
     CHECK(equal(call->make(arguments), v->answer));
+    const char *const *after = v->after;
     for (int i = 0; call->letters[i] != 0; i++)
         if (strchr("BWR", call->letters[i])) {
-            const char *after = v->after != NULL ? v->after : v->given[i];
-            CHECK(holds(i, call->letters[i], &arguments[i], after, side));
+            const char *text = *after != NULL ? *after++ : v->given[i];
+            CHECK(holds(i, call->letters[i], &arguments[i], text, side));
         }
 }
 

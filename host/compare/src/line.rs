@@ -131,7 +131,7 @@ fn given_of(case: &Case, text: &str) -> Result<u64, String> {
 }
 
 /// The fields of a line that say what comes of the case: `accepted` with the numbers given and the
-/// lent buffer after the call, or `refused`.
+/// lent buffers after the call, or `refused`.
 fn outcome_fields(outcome: &Outcome) -> Vec<(String, Json)> {
     let mut after = outcome.after();
     match &outcome.answer {
@@ -139,7 +139,7 @@ fn outcome_fields(outcome: &Outcome) -> Vec<(String, Json)> {
             let given = after.given_names().iter().zip(numbers);
             let given = given.map(|(name, &number)| named(name, given_text(&after, number)));
             let mut fields = vec![("accepted".to_string(), Json::Object(given.collect()))];
-            if let (Some(name), Some(lent)) = (after.lent_name(), after.lent()) {
+            for (name, lent) in after.lent() {
                 fields.push((format!("{name}_after"), lent.to_json(name)));
             }
             fields
@@ -234,7 +234,7 @@ impl Line {
         let mut after = case.clone();
         let answer = match fields.take_any("accepted") {
             Some(accepted) => {
-                if let (Some(name), Some(lent)) = (case.lent_name(), after.lent()) {
+                for (name, lent) in after.lent() {
                     lent.read(fields.take(&format!("{name}_after"))?)?;
                 }
                 read_accepted(&case, accepted)?

@@ -16,8 +16,8 @@ fn packing() -> Case {
 
 /// The bytes of the output, with the margins if it has them.
 fn output(case: &mut Case) -> &mut Vec<u8> {
-    match case.lent() {
-        Some(Field::Bytes(out)) => out,
+    match case.lent().pop() {
+        Some(("out", Field::Bytes(out))) => out,
         _ => panic!("an output is lent"),
     }
 }
@@ -31,7 +31,9 @@ fn each_call_has_one() {
         if let Answer::Accepted(given) = answer {
             assert_eq!(given.len(), blank.given_names().len());
         }
-        assert_eq!(blank.lent().is_some(), blank.lent_name().is_some());
+        let names = blank.lent_names();
+        let lent: Vec<&str> = blank.lent().iter().map(|lent| lent.0).collect();
+        assert_eq!(lent, names);
     }
 }
 
@@ -179,7 +181,7 @@ fn a_whole_reading_is_compared_with_a_front_part() {
     assert_eq!(beside(&nine, &nine, &case), sound);
     assert_eq!(sound.unsound_front(), None);
     let mut changed = case.clone();
-    if let Some(Field::Uint64s(rows)) = changed.lent() {
+    if let Some((_, Field::Uint64s(rows))) = changed.lent().pop() {
         rows[3] = 0;
     }
     let elsewhere = refused(9, Place::Byte(1));

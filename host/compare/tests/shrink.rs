@@ -199,7 +199,7 @@ fn leaves_out_the_last_byte(case: &Case) -> Outcome {
         _ => return outcome,
     };
     let mut after = outcome.after();
-    if let (Some(Field::Bytes(out)), true) = (after.lent(), size > 0) {
+    if let (Some((_, Field::Bytes(out))), true) = (after.lent().pop(), size > 0) {
         out[index + size - 1] ^= 1;
     }
     Outcome::with(outcome.answer, &after)

@@ -20,7 +20,7 @@ fn text_of(json: &Json) -> String {
     }
 }
 
-/// Adds the line of a call: name, call, what it is given, the lent buffer after an accepted call,
+/// Adds the line of a call: name, call, what it is given, the lent buffers after an accepted call,
 /// and the answer.
 fn add_line(table: &mut String, line: &Line) -> std::fmt::Result {
     let (name, call) = (&line.name, line.case.call());
@@ -32,11 +32,12 @@ fn add_line(table: &mut String, line: &Line) -> std::fmt::Result {
         let field = fields.iter().find(|field| field.0 == name);
         write!(table, "\"{}\", ", text_of(&field.expect(name).1))?;
     }
-    let after = fields.iter().find(|field| field.0.ends_with("_after"));
-    let after = after.map(|(_, list)| format!("\"{}\"", text_of(list)));
-    let after = after.unwrap_or("NULL".to_string());
+    write!(table, "}}, {{")?;
+    for (_, after) in fields.iter().filter(|field| field.0.ends_with("_after")) {
+        write!(table, "\"{}\", ", text_of(after))?;
+    }
     let answer = line.outcome.answer.c_words().map(|word| format!("{word}u"));
-    writeln!(table, "}}, {after}, {{{}}}}},", answer.join(", "))
+    writeln!(table, "NULL}}, {{{}}}}},", answer.join(", "))
 }
 
 /// The table of these calls.

@@ -13,7 +13,7 @@ fn answer<const N: usize>(result: Result<[u64; N], Refusal>) -> Answer {
     Answer::of(result.map_err(refusal))
 }
 
-/// The answer of a call that changes the lent buffer and gives no number.
+/// The answer of a call that changes its one lent buffer and gives no number.
 fn fill<T: Copy>(buffer: &mut [T], call: impl FnOnce(&[T]) -> Result<Vec<T>, Refusal>) -> Answer {
     let lent = between_margins(buffer);
     let content = call(lent);

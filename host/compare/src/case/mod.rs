@@ -13,12 +13,12 @@ use field::Given;
 
 use crate::{Difference, Random, Value};
 
-/// Defines the cases: a variant for each call, with the call's name, what it is given, the buffer
-/// that is lent to it and the numbers that it gives when it is accepted.
+/// Defines the cases: a variant for each call, with the call's name, what it is given, the buffers
+/// that are lent to it and the numbers that it gives when it is accepted.
 macro_rules! cases {
     ($(
         $variant:ident $call:ident { $($field:ident: $kind:ty),* }
-        lends [$($lent:ident)?] gives [$($given:ident),*];
+        lends [$($lent:ident),*] gives [$($given:ident),*];
     )*) => {
         /// A call of the library with everything that it is given. A lent buffer is given as it is
         /// before the call.
@@ -50,8 +50,8 @@ macro_rules! cases {
                 }
             }
 
-            /// The model's answer to the case, which is then as after the call. The lent buffer
-            /// has margins.
+            /// The model's answer to the case, which is then as after the call. The lent buffers
+            /// have margins.
             fn call_model(&mut self) -> Answer {
                 match self {
                     $(Case::$variant { $($field),* } => {
@@ -60,8 +60,8 @@ macro_rules! cases {
                 }
             }
 
-            /// The library's answer to the case, which is then as after the call. The lent buffer
-            /// has margins.
+            /// The library's answer to the case, which is then as after the call. The lent buffers
+            /// have margins.
             fn call_library(&mut self) -> Answer {
                 match self {
                     $(Case::$variant { $($field),* } => {
@@ -70,13 +70,10 @@ macro_rules! cases {
                 }
             }
 
-            /// The name of the lent buffer, if there is one.
-            pub fn lent_name(&self) -> Option<&'static str> {
+            /// The names of the lent buffers.
+            pub fn lent_names(&self) -> &'static [&'static str] {
                 match self {
-                    $(Case::$variant { .. } => {
-                        let lent: &[&'static str] = &[$(stringify!($lent))?];
-                        lent.first().copied()
-                    })*
+                    $(Case::$variant { .. } => &[$(stringify!($lent)),*],)*
                 }
             }
 
@@ -139,11 +136,12 @@ cases! {
 }
 
 impl Case {
-    /// The lent buffer, if there is one.
-    pub fn lent(&mut self) -> Option<Field<'_>> {
-        let name = self.lent_name()?;
-        let lent = self.fields().into_iter().find(|field| field.0 == name);
-        lent.map(|(_, field)| field)
+    /// The lent buffers, by name.
+    pub fn lent(&mut self) -> Vec<(&'static str, Field<'_>)> {
+        let names = self.lent_names();
+        let mut lent = self.fields();
+        lent.retain(|(name, _)| names.contains(name));
+        lent
     }
 
     /// The numbers of the answers that the call can give, 0 for accepted.

@@ -65,7 +65,7 @@ impl Answer {
 }
 
 /// What comes of a case: the answer, and everything that the call was given as it is afterwards,
-/// the margins around the lent buffer included. So two outcomes are equal only if the buffers are,
+/// the margins around the lent buffers included. So two outcomes are equal only if the buffers are,
 /// and if nothing outside them and nothing that is only read was changed differently. Outcomes
 /// of previews are equal only if the writings beside them answer and change alike, too, and that of an
 /// accepted whole reading equals the model's only if the reading of a front part beside it is sound.
@@ -73,7 +73,7 @@ impl Answer {
 pub struct Outcome {
     /// The answer.
     pub answer: Answer,
-    /// The case after the call, with margins around the lent buffer.
+    /// The case after the call, with margins around the lent buffers.
     after: Case,
     /// Of a preview, the answer that is right by the writing beside it; its own, if there is none.
     by_writing: Option<Answer>,
@@ -83,10 +83,10 @@ pub struct Outcome {
 }
 
 impl Outcome {
-    /// The outcome of a call that gets the case with margins around the lent buffer.
+    /// The outcome of a call that gets the case with margins around the lent buffers.
     pub fn of(case: &Case, call: impl FnOnce(&mut Case) -> Answer) -> Outcome {
         let mut after = case.clone();
-        if let Some(lent) = after.lent() {
+        for (_, lent) in after.lent() {
             lent.add_margins();
         }
         let answer = call(&mut after);
@@ -148,7 +148,7 @@ impl Outcome {
     }
 
     /// Whether the case was refused with 9 at a byte, and everything that the call was given is as it
-    /// was, the margins around the lent buffer included.
+    /// was, the margins around the lent buffers included.
     pub fn is_refused_with_9(&self, case: &Case) -> bool {
         let Answer::Refused { refusal, record: 0 } = self.answer else {
             return false;
@@ -177,7 +177,7 @@ impl Outcome {
     /// The case after the call, without the margins.
     pub fn after(&self) -> Case {
         let mut after = self.after.clone();
-        if let Some(lent) = after.lent() {
+        for (_, lent) in after.lent() {
             lent.remove_margins();
         }
         after

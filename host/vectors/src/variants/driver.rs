@@ -45,55 +45,56 @@ fn refused(refusal: Refusal, record: u64) -> Outcome {
         Place::Byte(byte) => (2, byte),
         Place::Row(row) => (3, row),
     };
-    (vec![refusal.number, kind, place, record], None)
+    (vec![refusal.number, kind, place, record], vec![])
 }
 
-/// The outcome of a call that gives these numbers and leaves this in the lent buffer.
-fn outcome(result: Result<(Vec<u64>, Option<Given>), Refusal>) -> Outcome {
+/// The outcome of a call that gives these numbers and leaves this in the lent buffers.
+fn outcome(result: Result<(Vec<u64>, Vec<Given>), Refusal>) -> Outcome {
     match result {
         Ok((numbers, after)) => ([&[0], &numbers[..]].concat(), after),
         Err(refusal) => refused(refusal, 0),
     }
 }
 
+/// The lent rows with these in the place of the first.
+fn filled(lent: &[u64], rows: &[u64]) -> Given {
+    Given::Words([rows, &lent[rows.len()..]].concat())
+}
+
 /// The outcome of a reading whose rows are put into the lent ones.
 fn read(reading: Result<Reading, Refusal>, lent: Option<&[u64]>) -> Outcome {
     outcome(reading.map(|reading| {
         let numbers = vec![reading.rows.len() as u64 / 4, reading.rest_index as u64];
-        let after = lent.map(|lent| {
-            let mut after = lent.to_vec();
-            after[..reading.rows.len()].copy_from_slice(&reading.rows);
-            Given::Words(after)
-        });
-        (numbers, after)
+        let after = lent.map(|lent| filled(lent, &reading.rows));
+        (numbers, after.into_iter().collect())
     }))
 }
 
 /// The outcome of a writing.
 fn written(writing: Result<Writing, Refusal>) -> Outcome {
-    outcome(writing.map(|writing| (vec![writing.size as u64], Some(Given::Bytes(writing.out)))))
+    outcome(writing.map(|writing| (vec![writing.size as u64], vec![Given::Bytes(writing.out)])))
 }
 
 /// The outcome of a preview.
 fn previewed(preview: Result<Preview, Refusal>) -> Outcome {
     let numbers = |preview: Preview| vec![preview.size as u64, preview.changed as u64];
-    outcome(preview.map(|preview| (numbers(preview), None)))
+    outcome(preview.map(|preview| (numbers(preview), vec![])))
 }
 
 /// The outcome of packing.
 fn packed(out: Result<Vec<u8>, Refusal>) -> Outcome {
-    outcome(out.map(|out| (vec![], Some(Given::Bytes(out)))))
+    outcome(out.map(|out| (vec![], vec![Given::Bytes(out)])))
 }
 
 /// The outcome of unpacking a sequence.
 fn unpacked(numbers: Result<Vec<u64>, Refusal>) -> Outcome {
-    outcome(numbers.map(|numbers| (vec![], Some(Given::Words(numbers)))))
+    outcome(numbers.map(|numbers| (vec![], vec![Given::Words(numbers)])))
 }
 
 /// The outcome of same route.
 fn same_route(grammar: &[u32], first: &[u8], second: &[u8]) -> Outcome {
     match model::same_route(grammar, first, second) {
-        Ok(same) => (vec![0, same.into()], None),
+        Ok(same) => (vec![0, same.into()], vec![]),
         Err(SameRouteRefusal::Grammar(refusal)) => refused(refusal, 0),
         Err(SameRouteRefusal::First(refusal)) => refused(refusal, 1),
         Err(SameRouteRefusal::Second(refusal)) => refused(refusal, 2),
@@ -103,7 +104,7 @@ fn same_route(grammar: &[u32], first: &[u8], second: &[u8]) -> Outcome {
 /// The outcome of the chooser.
 fn chosen(chosen: Result<Chosen, Refusal>) -> Outcome {
     let numbers = |chosen: Chosen| vec![chosen.number as u64, chosen.begun as u64];
-    outcome(chosen.map(|chosen| (numbers(chosen), None)))
+    outcome(chosen.map(|chosen| (numbers(chosen), vec![])))
 }
 
 /// What comes of a call by the model.
@@ -112,7 +113,7 @@ pub fn of_model(call: &Call) -> Outcome {
     match (call.call.as_str(), &call.given[..]) {
         ("unpack_u32" | "unpack_u64", [from, index]) => {
             let number = model::unpack(width, bytes(from), size(index));
-            outcome(number.map(|number| (vec![number], None)))
+            outcome(number.map(|number| (vec![number], vec![])))
         }
         ("pack_u32" | "pack_u64", [n, out, index]) => {
             packed(model::pack(width, number(n), bytes(out), size(index)))
@@ -127,20 +128,20 @@ pub fn of_model(call: &Call) -> Outcome {
         }
         ("check_grammar", [grammar]) => {
             let checked = model::check_grammar(&short_words(grammar));
-            outcome(checked.map(|()| (vec![], None)))
+            outcome(checked.map(|()| (vec![], vec![])))
         }
         ("compute_size_of", [rows, n, store]) => {
             let size = model::compute_size_of(words(rows), size(n), bytes(store));
-            outcome(size.map(|size| (vec![size], None)))
+            outcome(size.map(|size| (vec![size], vec![])))
         }
         ("locate_array", [rows, n, store, row]) => {
             let located = model::locate_array(words(rows), size(n), bytes(store), size(row));
             let numbers = |(start, length)| vec![start as u64, length as u64];
-            outcome(located.map(|located| (numbers(located), None)))
+            outcome(located.map(|located| (numbers(located), vec![])))
         }
         ("signed_number", [rows, n, store, row]) => {
             let number = model::signed_number(words(rows), size(n), bytes(store), size(row));
-            outcome(number.map(|number| (vec![number as u64], None)))
+            outcome(number.map(|number| (vec![number as u64], vec![])))
         }
         ("parse_val", [grammar, record, index, lent]) => {
             let (grammar, capacity) = (short_words(grammar), model::capacity(words(lent).len()));
@@ -192,7 +193,7 @@ pub fn of_model(call: &Call) -> Outcome {
         ("choose_grammar", [list, record]) => {
             chosen(model::choose_grammar(&short_words(list), bytes(record)))
         }
-        ("show", [input]) => (vec![0], Some(Given::Bytes(model::show(bytes(input))))),
+        ("show", [input]) => (vec![0], vec![Given::Bytes(model::show(bytes(input)))]),
         (other, given) => panic!("{other} of {} fields", given.len()),
     }
 }

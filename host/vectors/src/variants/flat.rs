@@ -24,10 +24,10 @@ pub struct Call {
     pub outcome: Outcome,
 }
 
-/// What comes of a call: its answer, and what a lent buffer holds or what is printed. The answer is
-/// 0 and the numbers given, or a refusal's number, kind of place (1 word, 2 byte, 3 row), place and
-/// record.
-pub type Outcome = (Vec<u64>, Option<Given>);
+/// What comes of a call: its answer, and what the lent buffers of an accepted one hold or what is
+/// printed. The answer is 0 and the numbers given, or a refusal's number, kind of place (1 word, 2
+/// byte, 3 row), place and record.
+pub type Outcome = (Vec<u64>, Vec<Given>);
 
 fn put_number(to: &mut impl Write, number: u64) -> io::Result<()> {
     to.write_all(&number.to_le_bytes())
@@ -92,27 +92,28 @@ pub fn put(to: &mut impl Write, calls: &[Call]) -> io::Result<()> {
         call.given.iter().try_for_each(|given| given.put(to))?;
         let (answer, after) = &call.outcome;
         put_words(to, answer)?;
-        put_number(to, after.is_some().into())?;
+        put_number(to, after.len() as u64)?;
         after.iter().try_for_each(|given| given.put(to))?;
     }
     Ok(())
 }
 
+/// Reads how many there are, and these.
+fn take_all(from: &mut impl Read) -> io::Result<Vec<Given>> {
+    let count = take_number(from)?;
+    (0..count).map(|_| Given::take(from)).collect()
+}
+
 /// Reads a call.
 fn take_call(from: &mut impl Read) -> io::Result<Call> {
     let (name, call) = (take_text(from)?, take_text(from)?);
-    let given = take_number(from)?;
-    let given: io::Result<_> = (0..given).map(|_| Given::take(from)).collect();
-    let (given, answer) = (given?, take_words(from)?);
-    let after = match take_number(from)? {
-        0 => None,
-        _ => Some(Given::take(from)?),
-    };
+    let given = take_all(from)?;
+    let outcome = (take_words(from)?, take_all(from)?);
     Ok(Call {
         name,
         call,
         given,
-        outcome: (answer, after),
+        outcome,
     })
 }
 

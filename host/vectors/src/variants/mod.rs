@@ -95,14 +95,16 @@ fn call_of(vector: &Vector) -> Call {
             given: vec![Given::Bytes(show.input.clone())],
             outcome: (
                 vec![0],
-                Some(Given::Bytes(show.printed.clone().into_bytes())),
+                vec![Given::Bytes(show.printed.clone().into_bytes())],
             ),
         },
         Vector::Call(line) => {
             let mut case = line.case.clone();
             let outcome = match &line.outcome.answer {
                 Answer::Accepted(numbers) => {
-                    let after = line.outcome.after().lent().map(|field| given(&field));
+                    let mut after = line.outcome.after();
+                    let lent = after.lent().into_iter();
+                    let after = lent.map(|(_, field)| given(&field)).collect();
                     ([&[0], &numbers[..]].concat(), after)
                 }
                 Answer::Refused { refusal, record } => {
@@ -111,7 +113,7 @@ fn call_of(vector: &Vector) -> Call {
                         route_record::Place::Byte(byte) => (2, byte),
                         route_record::Place::Row(row) => (3, row),
                     };
-                    (vec![refusal.number, kind, place, *record], None)
+                    (vec![refusal.number, kind, place, *record], vec![])
                 }
             };
             Call {
