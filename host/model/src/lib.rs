@@ -1,7 +1,7 @@
 //! A model of the route-record library, written from the definitions of its Dafny source, from the
-//! definition of two's complement and from the table of refusals. It shares nothing with the proved
-//! code. A function here only reads the buffers it is given, and gives back what they hold after the
-//! call.
+//! definition of two's complement, from RFC 4506 and from the table of refusals. It shares nothing
+//! with the proved code. A function here only reads the buffers it is given, and gives back what they
+//! hold after the call.
 
 #![forbid(unsafe_code)]
 #![deny(missing_docs)]
@@ -17,6 +17,7 @@ mod same_route;
 mod show;
 mod signed;
 mod writing;
+mod xdr;
 
 pub use choosing::{choose_grammar, Chosen};
 pub use grammar::check_grammar;
@@ -30,3 +31,4 @@ pub use same_route::{same_route, SameRouteRefusal};
 pub use show::show;
 pub use signed::signed_number;
 pub use writing::{marshall, marshall_val, Writing};
+pub use xdr::{export_xdr, import_xdr, Importing};

@@ -18,7 +18,12 @@ pub struct Writing {
 /// `ValInGrammar`, for a value whose row has this number and for a node of a checked table. What
 /// is refused is the first row, in preorder, whose kind, tuple count or tag is not the node's;
 /// given is the number of the first row behind the value.
-fn check_in_grammar(value: &V, row: usize, grammar: &[u32], number: u32) -> Result<usize, Refusal> {
+pub(crate) fn check_in_grammar(
+    value: &V,
+    row: usize,
+    grammar: &[u32],
+    number: u32,
+) -> Result<usize, Refusal> {
     let (kind, children) = node(grammar, number);
     let check = |row, value, number| check_in_grammar(value, row, grammar, number);
     match (value, kind) {
