@@ -2,9 +2,9 @@
 
 The check of grammars, the readings and their checks, the check of row tables, the size, the signed
 number, the writers, preview, same route and the chooser answer as each line says. Preview also
-answers as each line of `marshall_val` says that writing does, and the checks, preview, same route
-and the chooser as each row of the page's own tables says. Prints a line for each failure, the number
-of lines of each call and, last, 'N passed, M failed'.
+answers as each line of `marshall_val` says that writing does, and the checks, preview, same route,
+the chooser, export and import as each row of the page's own tables says. Prints a line for each
+failure, the number of lines of each call and, last, 'N passed, M failed'.
 """
 
 import collections
@@ -116,6 +116,22 @@ def choose_grammar(line):
     return line.get("accepted") == {"number": str(number), "begun": str(begun)}
 
 
+def export_xdr(line):
+    out, index = bytearray(data(line, "out")), int(line["index"])
+    size = page["export_xdr"](words(line, "grammar"), *table(line), out, index)
+    return line.get("accepted") == {"size": str(size)} and out == data(line, "out_after")
+
+
+def import_xdr(line):
+    rows, store = words(line, "rows"), bytearray(data(line, "store"))
+    n, used = page["import_xdr"](words(line, "grammar"), data(line, "record"), rows, store)
+    if "rows_after" in line and rows != words(line, "rows_after"):
+        return False
+    if "store_after" in line and store != data(line, "store_after"):
+        return False
+    return line.get("accepted") == {"row_count": str(n), "used": str(used)}
+
+
 CALLS = {
     "check_grammar": check_grammar,
     "parse_val": read,
@@ -137,6 +153,8 @@ CALLS = {
     "same_route on the page": same_route,
     "choose_grammar": choose_grammar,
     "choose_grammar on the page": choose_grammar,
+    "export_xdr on the page": export_xdr,
+    "import_xdr on the page": import_xdr,
 }
 
 
@@ -202,6 +220,41 @@ def choices_on_page():
         named, record, answer, _ = cells
         line |= {"list": list_in(named), "record": parts(record)}
         yield line | numbers_or_refusal(r"grammar (?P<number>\d+), begun (?P<begun>\d+)", answer)
+
+
+def exports_on_page():
+    for line, cells in page_table("Export", "export_xdr on the page"):
+        named, rows, n, store, index_and_length, answer, shown = cells
+        index, length = map(int, index_and_length.split(", "))
+        shared = re.fullmatch(r"`\((\d+)\)`", rows)
+        row = f"5 1 {shared[1]} 0" if shared else ""
+        rows = ["3 4096 4095 0", {"repeat": row, "times": 4095}] if shared else listed(rows)
+        line |= {"grammar": of_name(named), "rows": rows, "n": n, "store": parts(store), "index": index}
+        line |= {"out": filling(length)} | numbers_or_refusal(r"size (?P<size>\d+)", answer)
+        if "accepted" in line:
+            behind = length - index - int(line["accepted"]["size"])
+            line["out_after"] = filling(index) + parts(shown) + filling(behind)
+        yield line
+
+
+def filling(length):
+    """So many bytes EE, as a line has them."""
+    return [{"repeat": "EE", "times": length}] if length else []
+
+
+def imports_on_page():
+    for line, cells in page_table("Import", "import_xdr on the page"):
+        named, record, lent, store, answer, shown = cells
+        line |= {"grammar": of_name(named), "record": parts(record), "store": parts(store)}
+        line |= {"rows": [{"repeat": "99", "times": int(lent)}]}
+        line |= numbers_or_refusal(r"n (?P<row_count>\d+), used (?P<used>\d+)", answer)
+        after = re.fullmatch(r"(`[^`]*`), (`[^`]*`)", shown)
+        if after:
+            rows = listed(after[1])
+            left = int(lent) - 4 * len(rows)
+            line["rows_after"] = rows + [{"repeat": "99", "times": left}]
+            line["store_after"] = parts(after[2])
+        yield line
 
 
 def numbers_or_refusal(form, cell):
@@ -270,6 +323,8 @@ SOURCES = [
     same_routes_on_page(),
     vectors("choosing"),
     choices_on_page(),
+    exports_on_page(),
+    imports_on_page(),
 ]
 
 LOCATOR = 18  # the refusal that the text does not give
