@@ -40,7 +40,7 @@ enum {
     ROUTE_MAX_GRAMMAR_WORDS = 1794, /* the words of the largest grammar table */
     ROUTE_MAX_GRAMMARS = 16,        /* the grammars of the longest grammar list */
     ROUTE_MAX_LIST_WORDS = 28721,   /* the words of that list, with the largest grammars */
-    ROUTE_MAX_BYTES = 1048576,      /* the bytes of the longest record or store */
+    ROUTE_MAX_BYTES = 1048576,      /* the bytes of the longest record, XDR or store */
     ROUTE_MAX_ROWS = 4096,          /* the rows of the largest value */
     ROUTE_CHECK_ROWS = 1024,        /* the rows of a check that is not told how many */
     ROUTE_ROW_WORDS = 4             /* the words of a row */
@@ -88,7 +88,8 @@ enum {
     ROUTE_REFUSED_INPUT_LAYOUT = 19,
     ROUTE_REFUSED_NOT_SIGNED = 20,
     ROUTE_REFUSED_LIST_LAYOUT = 21,
-    ROUTE_REFUSED_NO_GRAMMAR_ACCEPTS = 22
+    ROUTE_REFUSED_NO_GRAMMAR_ACCEPTS = 22,
+    ROUTE_REFUSED_PADDING_NOT_ZERO = 23
 };
 
 typedef struct route_answer {
@@ -147,9 +148,9 @@ static inline const char *route_refusal_meaning(uint64_t number)
     case ROUTE_REFUSED_NOT_IN_GRAMMAR:
         return "the row's kind, field count or tag does not fit its node of the grammar";
     case ROUTE_REFUSED_SIZE_TOO_LARGE:
-        return "the value's record is longer than 1,048,576 bytes";
+        return "the value's record or XDR is longer than 1,048,576 bytes";
     case ROUTE_REFUSED_OUTPUT_TOO_SHORT:
-        return "the output ends there, before what is to be written does";
+        return "the output or store ends there, before what is to be written does";
     case ROUTE_REFUSED_NOT_AN_ARRAY:
         return "there is no such row, or its kind is not 5, 6 or 7";
     case ROUTE_REFUSED_INPUT_LAYOUT:
@@ -161,6 +162,8 @@ static inline const char *route_refusal_meaning(uint64_t number)
                "fit its word counts";
     case ROUTE_REFUSED_NO_GRAMMAR_ACCEPTS:
         return "no grammar of the list accepts the record whole";
+    case ROUTE_REFUSED_PADDING_NOT_ZERO:
+        return "the padding of the byte array that starts there is not zero";
     default:
         return "no refusal has this number";
     }
@@ -430,6 +433,57 @@ route_answer route_same_route(const uint32_t *grammar, size_t grammar_len, const
 ROUTE_NODISCARD
 route_answer route_choose_grammar(const uint32_t *list, size_t list_len, const uint8_t *record,
                                   size_t record_len);
+
+/* XDR: the bytes of a value by RFC 4506, other ones than those of its record. They are, for kind 0
+ * (void), none; kinds 1 and 9 (unsigned int, int), 4; kinds 2 and 10 (unsigned hyper, hyper), 8;
+ * kind 3 (variable-length array), a 4-byte count of elements and the elements; kind 4 (structure),
+ * its fields in order; kind 5 (variable-length opaque data), a 4-byte count, the elements and the
+ * padding, 0 to 3 zero bytes up to a multiple of four; kinds 6 and 7 (variable-length arrays of
+ * unsigned int and of unsigned hyper), a 4-byte count and the elements, 4 or 8 bytes each; kind 8
+ * (discriminated union), a 4-byte tag and the value of that case. Each number is most byte first, a
+ * signed one in two's complement. In a store the elements are least byte first, as for every call.
+ *
+ * It is proved (docs/PROMISES.md, request 08), under one grammar: XDR that was exported is imported
+ * as an equal value, where the rows lent are enough and so is the store, of at most 1048576 bytes;
+ * and what was imported is exported as the same bytes, where the output is long enough. 4096 rows
+ * and a store as long as the XDR are always enough. XDR is never longer than the value's record, so
+ * what route_marshall_val does not refuse with 16 route_export_xdr does not either; but a value
+ * that was exported or imported may be too long to be written as a record. */
+
+/* Writes the XDR of the value that rows 0 to n - 1 stand for at byte index, and gives its size in
+ * `first`. Changes only bytes index to index + size - 1 of out, which may be longer. It uses less
+ * than 1 MiB of stack, on values as deep as 4096 rows can be.
+ * Refused: 1 to 6 and 12 to 15 as route_marshall_val;
+ * 16 at row 0, when the size, that of the XDR, is above 1048576;
+ * 17 at byte out_len, when index + size is above out_len, size 0 too. */
+ROUTE_NODISCARD
+route_answer route_export_xdr(const uint32_t *grammar, size_t grammar_len, const uint64_t *rows,
+                              size_t rows_len, size_t n, const uint8_t *store, size_t store_len,
+                              uint8_t *out, size_t out_len, size_t index);
+
+/* Reads a whole record of XDR, a value of node 0 of the grammar. Gives in `first` its row count n,
+ * in `second` how many bytes of the store its arrays of kinds 5, 6 and 7 take. The rows lent are
+ * counted as for route_parse_val. Changes only rows 0 to n - 1, which stand for the value, and
+ * bytes 0 to `second` - 1 of the store: the elements of the arrays, one array behind the other in
+ * the order of their rows, without padding. The offset of an array is where those before it end,
+ * count 0 too. It uses less than 128 KiB of stack, on grammars as deep as 256 nodes can be.
+ * Refused: 1 to 5 as route_check_grammar;
+ * 6 at byte 0, when record_len or store_len is above 1048576;
+ * then, value after value, from the root on, at the byte where the value starts, but for 17:
+ * 8, when no row is left for it;
+ * 9, when fewer bytes are left than its 4 or 8, or when its kind is 5, 6 or 7 and its elements with
+ * their padding are more than the bytes left behind the count;
+ * 8, when its kind is 3 and its count above the rows left after its own;
+ * 10, when its kind is 8 and its tag not below the count of cases;
+ * 17 at byte store_len, when its kind is 5, 6 or 7 and its elements, behind those of the arrays
+ * before it, reach past store_len;
+ * 23, when its kind is 5 and a byte of its padding is not zero;
+ * then its children, in order;
+ * last 11 at the first byte behind the value, when it is not record_len. */
+ROUTE_NODISCARD
+route_answer route_import_xdr(const uint32_t *grammar, size_t grammar_len, const uint8_t *record,
+                              size_t record_len, uint64_t *rows, size_t rows_len, uint8_t *store,
+                              size_t store_len);
 
 #ifdef __cplusplus
 }

@@ -507,9 +507,9 @@ static void test_casts(void)
 static void test_meanings(void)
 {
     subject = "meanings";
-    for (uint64_t number = 1; number <= ROUTE_REFUSED_NO_GRAMMAR_ACCEPTS; number++)
+    for (uint64_t number = 1; number <= ROUTE_REFUSED_PADDING_NOT_ZERO; number++)
         CHECK(strcmp(route_refusal_meaning(number), route_refusal_meaning(0)) != 0);
-    CHECK(strcmp(route_refusal_meaning(ROUTE_REFUSED_NO_GRAMMAR_ACCEPTS + 1),
+    CHECK(strcmp(route_refusal_meaning(ROUTE_REFUSED_PADDING_NOT_ZERO + 1),
                  route_refusal_meaning(0)) == 0);
 }
 

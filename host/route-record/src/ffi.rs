@@ -76,3 +76,7 @@ call!(route_preview = preview(grammar: &[u32], rows: &[u64], n: usize, store: &[
     index: usize));
 call!(route_same_route = same_route(grammar: &[u32], first: &[u8], second: &[u8]));
 call!(route_choose_grammar = choose_grammar(list: &[u32], record: &[u8]));
+call!(route_export_xdr = export_xdr(grammar: &[u32], rows: &[u64], n: usize, store: &[u8],
+    out: &mut [u8], index: usize));
+call!(route_import_xdr = import_xdr(grammar: &[u32], record: &[u8], rows: &mut [u64],
+    store: &mut [u8]));

@@ -1,5 +1,5 @@
 //! Grammars that passed their check, and what is done under one: reading, writing, previewing a
-//! write, comparing.
+//! write, comparing, exporting to XDR and importing it.
 
 use crate::value::Value;
 use crate::{calls, Parsed, Preview, Refusal, SameRouteRefusal, MAX_BYTES, MAX_ROWS, ROW_WORDS};
@@ -290,7 +290,8 @@ impl Grammar {
     /// assert_eq!(out, [0xff, 7, 0, 0, 0, 0xff]);
     ///
     /// let refusal = uint32.marshall_val(&value, &mut out, 3).unwrap_err();
-    /// let words = "refused 17 at byte 6: the output ends there, before what is to be written does";
+    /// let words =
+    ///     "refused 17 at byte 6: the output or store ends there, before what is to be written does";
     /// assert_eq!(refusal.to_string(), words);
     /// # Ok::<(), route_record::Refusal>(())
     /// ```
@@ -394,5 +395,111 @@ impl Grammar {
     /// ```
     pub fn same_route(&self, first: &[u8], second: &[u8]) -> Result<bool, SameRouteRefusal> {
         calls::same_route(&self.words, first, second)
+    }
+
+    /// Writes the XDR of a value, its bytes by RFC 4506, at byte `index` of the output and gives
+    /// its size. Refused by 15 to 17 as [`calls::export_xdr`] refuses; the output is then as it was.
+    ///
+    /// ```
+    /// use route_record::{Grammar, Value};
+    ///
+    /// let bytes = Grammar::check(&[1, 5, 0, 0, 0])?;
+    /// let value = Value::build(|value| value.byte_array(b"AB"))?;
+    ///
+    /// let mut out = [0xee; 10];
+    /// assert_eq!(bytes.export_xdr(&value, &mut out, 1)?, 8);
+    /// assert_eq!(out, [0xee, 0, 0, 0, 2, 0x41, 0x42, 0, 0, 0xee]);
+    ///
+    /// assert_eq!(bytes.export_xdr(&value, &mut out, 3).unwrap_err().number, 17);
+    /// # Ok::<(), route_record::Refusal>(())
+    /// ```
+    pub fn export_xdr(
+        &self,
+        value: &Value,
+        out: &mut [u8],
+        index: usize,
+    ) -> Result<usize, Refusal> {
+        let (rows, n, store) = value.parts();
+        calls::export_xdr(&self.words, rows, n, store, out, index)
+    }
+
+    /// The XDR of a value. Refused by 15 and 16 as [`export_xdr`](Grammar::export_xdr) is.
+    ///
+    /// ```
+    /// use route_record::{Grammar, Value};
+    ///
+    /// let int32 = Grammar::check(&[1, 9, 0, 0, 0])?;
+    /// let xdr = int32.export_xdr_vec(&Value::build(|value| value.int32(-3))?)?;
+    /// assert_eq!(xdr, [0xff, 0xff, 0xff, 0xfd]);
+    /// # Ok::<(), route_record::Refusal>(())
+    /// ```
+    pub fn export_xdr_vec(&self, value: &Value) -> Result<Vec<u8>, Refusal> {
+        // XDR is never longer than the record, and longer XDR is refused, whatever output is lent.
+        let most = value.size().min(MAX_BYTES as u64) as usize;
+        let mut out = vec![0; most];
+        let size = self.export_xdr(value, &mut out, 0)?;
+        out.truncate(size);
+        Ok(out)
+    }
+
+    /// Reads a whole record of XDR into the rows and the store lent. The store of the value is the
+    /// part of it that its arrays take. Refused as [`calls::import_xdr`] refuses; rows and store are
+    /// then as they were.
+    ///
+    /// ```
+    /// use route_record::Grammar;
+    ///
+    /// let bytes = Grammar::check(&[1, 5, 0, 0, 0])?;
+    /// let xdr = [0, 0, 0, 2, 0x41, 0x42, 0, 0];
+    /// let (mut rows, mut store) = ([0; 4], [0; 8]);
+    /// let value = bytes.import_xdr(&xdr, &mut rows, &mut store)?;
+    /// assert_eq!((value.row_words(), value.store()), (&[5, 1, 2, 0][..], &b"AB"[..]));
+    ///
+    /// let refusal = bytes.import_xdr(&xdr, &mut rows, &mut store[..1]).unwrap_err();
+    /// assert_eq!(refusal.number, 17);
+    /// # Ok::<(), route_record::Refusal>(())
+    /// ```
+    pub fn import_xdr<'a>(
+        &self,
+        record: &[u8],
+        rows: &'a mut [u64],
+        store: &'a mut [u8],
+    ) -> Result<Value<'a>, Refusal> {
+        let imported = calls::import_xdr(&self.words, record, rows, store)?;
+        let (rows, store) = (&rows[..ROW_WORDS * imported.rows], &store[..imported.used]);
+        Ok(Value::read(rows, store))
+    }
+
+    /// Reads as [`import_xdr`](Grammar::import_xdr) does with 4,096 rows and a store as long as the
+    /// record, which are always enough, into as many rows and bytes as the value has.
+    ///
+    /// ```
+    /// use route_record::{Grammar, Place, Refusal};
+    ///
+    /// let grammar = "tuple(i32, bytes)".parse::<Grammar>()?;
+    /// let mut xdr = [0xff, 0xff, 0xff, 0xfd, 0, 0, 0, 2, 0x41, 0x42, 0, 0];
+    /// let value = grammar.import_xdr_vec(&xdr)?;
+    /// assert_eq!(value.row_words(), [4, 3, 2, 0, 9, 1, 4_294_967_293, 0, 5, 1, 2, 0]);
+    /// assert_eq!(grammar.export_xdr_vec(&value)?, xdr);
+    ///
+    /// // The value's record has other bytes.
+    /// let record = [0xfd, 0xff, 0xff, 0xff, 2, 0, 0, 0, 0, 0, 0, 0, 0x41, 0x42];
+    /// assert_eq!(grammar.marshall_vec(&value)?, record);
+    ///
+    /// xdr[11] = 1;
+    /// let refusal = Refusal { number: Refusal::PADDING_NOT_ZERO, place: Place::Byte(4) };
+    /// assert_eq!(grammar.import_xdr_vec(&xdr).unwrap_err(), refusal);
+    /// # Ok::<(), Box<dyn std::error::Error>>(())
+    /// ```
+    pub fn import_xdr_vec(&self, record: &[u8]) -> Result<Value<'static>, Refusal> {
+        let mut rows = vec![0; ROW_WORDS * MAX_ROWS];
+        // A longer record is refused, whatever store is lent.
+        let mut store = vec![0; record.len().min(MAX_BYTES)];
+        let imported = calls::import_xdr(&self.words, record, &mut rows, &mut store)?;
+        rows.truncate(ROW_WORDS * imported.rows);
+        store.truncate(imported.used);
+        rows.shrink_to_fit();
+        store.shrink_to_fit();
+        Ok(Value::read(rows, store))
     }
 }

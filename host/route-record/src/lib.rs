@@ -4,9 +4,10 @@
 //!
 //! A [`Grammar`] is a table of words that passed its check. It reads a record into a [`Value`],
 //! whose [`Row`]s are a tree, writes a value as its record, and says by a [`Preview`] what writing
-//! would change. [`Value::build`] makes a value that was not read. A [`GrammarList`] says by a
-//! [`Chosen`] which of its grammars accepts a record. What is refused is refused by a [`Refusal`]
-//! with number, place and meaning.
+//! would change. It writes a value as XDR, the bytes of RFC 4506, and reads it from XDR.
+//! [`Value::build`] makes a value that was not read. A [`GrammarList`] says by a [`Chosen`] which of
+//! its grammars accepts a record. What is refused is refused by a [`Refusal`] with number, place and
+//! meaning.
 //!
 //! ```
 #![doc = include_str!("../examples/first_use.rs")]
@@ -70,8 +71,9 @@
 //!
 //! On x86-64 Linux, which the archive is built for; a build for another target stops and says so.
 //! Firmware is kept out by that, and by the stack: reading, comparing and choosing a grammar take
-//! less than 64 KiB, but what walks rows, so writing and its preview, up to 1 MiB. The library
-//! itself needs no allocator and no operating system; these bindings use `std`.
+//! less than 64 KiB, importing XDR less than 128 KiB, but what walks rows, so writing, its preview
+//! and exporting XDR, up to 1 MiB. The library itself needs no allocator and no operating system;
+//! these bindings use `std`.
 
 #![deny(missing_docs, unsafe_code)]
 
@@ -82,6 +84,7 @@ mod chosen;
 mod ffi;
 mod grammar;
 mod grammar_list;
+mod imported;
 mod kind;
 mod limits;
 mod parsed;
@@ -94,6 +97,7 @@ pub use builder::Builder;
 pub use chosen::Chosen;
 pub use grammar::Grammar;
 pub use grammar_list::GrammarList;
+pub use imported::Imported;
 pub use kind::{Class, Kind, KINDS};
 pub use limits::{
     CHECK_ROWS, MAX_BYTES, MAX_GRAMMARS, MAX_GRAMMAR_WORDS, MAX_LIST_WORDS, MAX_ROWS, ROW_WORDS,

@@ -11,7 +11,7 @@ pub const MAX_ROWS: usize = 4_096;
 /// [`calls::check_whole`](crate::calls::check_whole) accept.
 pub const CHECK_ROWS: usize = 1_024;
 
-/// The most bytes of a record, and of a store.
+/// The most bytes of a record, of XDR, and of a store.
 pub const MAX_BYTES: usize = 1_048_576;
 
 /// The most words of a grammar table: of 256 nodes and 1,024 child words.

@@ -69,13 +69,14 @@ refusals! {
     13 ROW_MALFORMED "the row breaks the layout of a value"
     14 ARRAY_OUTSIDE_STORE "the row's array lies or reaches past the end of the store"
     15 NOT_IN_GRAMMAR "the row's kind, field count or tag does not fit its node of the grammar"
-    16 SIZE_TOO_LARGE "the value's record is longer than 1,048,576 bytes"
-    17 OUTPUT_TOO_SHORT "the output ends there, before what is to be written does"
+    16 SIZE_TOO_LARGE "the value's record or XDR is longer than 1,048,576 bytes"
+    17 OUTPUT_TOO_SHORT "the output or store ends there, before what is to be written does"
     18 NOT_AN_ARRAY "there is no such row, or its kind is not 5, 6 or 7"
     19 INPUT_LAYOUT "the input is not a grammar and a record as the program wants them"
     20 NOT_SIGNED "there is no such row, or its kind is not 9 or 10"
     21 LIST_LAYOUT "the list is empty, its count of grammars is not 1 to 16, or its length does not fit its word counts"
     22 NO_GRAMMAR_ACCEPTS "no grammar of the list accepts the record whole"
+    23 PADDING_NOT_ZERO "the padding of the byte array that starts there is not zero"
 }
 
 impl fmt::Display for Place {

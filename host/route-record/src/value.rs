@@ -72,7 +72,8 @@ impl<'a> Value<'a> {
         self.rows.len() / ROW_WORDS
     }
 
-    /// The bytes that the arrays lie in. Of a value just read it is the record.
+    /// The bytes that the arrays lie in. Of a value just read it is the record, of one just imported
+    /// from XDR its arrays one behind the other.
     pub fn store(&self) -> &[u8] {
         &self.store
     }

@@ -274,7 +274,7 @@ fn each_refusal_has_a_number_a_name_and_a_meaning_of_its_own() {
         let same = |other: &&(u64, &str, &str)| other.1 == name || other.2 == of_number;
         assert_eq!(REFUSALS.iter().filter(same).count(), 1, "{name}");
     }
-    assert_eq!(REFUSALS.len() as u64, Refusal::NO_GRAMMAR_ACCEPTS);
+    assert_eq!(REFUSALS.len() as u64, Refusal::PADDING_NOT_ZERO);
     for number in [0, REFUSALS.len() as u64 + 1, u64::MAX] {
         assert_eq!(meaning(number), "no refusal has this number");
     }

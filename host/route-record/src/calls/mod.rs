@@ -21,6 +21,7 @@ mod reading;
 mod rows;
 mod same_route;
 mod writing;
+mod xdr;
 
 pub use choosing::choose_grammar;
 pub use grammar::check_grammar;
@@ -34,3 +35,4 @@ pub use reading::{
 pub use rows::{compute_size_of, locate_array, signed_number};
 pub use same_route::same_route;
 pub use writing::{marshall, marshall_val, preview};
+pub use xdr::{export_xdr, import_xdr};

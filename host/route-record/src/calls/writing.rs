@@ -17,7 +17,7 @@ fn within_output(word: u64) -> usize {
 }
 
 /// The number of bytes written.
-fn size(answer: Answer) -> Result<usize, Refusal> {
+pub(super) fn size(answer: Answer) -> Result<usize, Refusal> {
     Ok(within_output(answer.into_result()?.first))
 }
 
