@@ -1,10 +1,10 @@
-//! The cases of the writing calls and of preview.
+//! The cases of the writing calls, of preview and of export.
 
 use route_record::{Refusal, MAX_ROWS, ROW_WORDS};
 
 use crate::Case;
 
-/// What the writing calls and preview are given, but for the output and the index.
+/// What the writing calls, preview and export are given, but for the output and the index.
 #[derive(Clone, Debug, PartialEq)]
 pub struct Value {
     /// The words of the grammar.
@@ -32,7 +32,7 @@ impl Value {
         }
     }
 
-    /// The value, the output and the index of a case of a writing call or of preview.
+    /// The value, the output and the index of a case of a writing call, of preview or of export.
     pub fn of(case: &Case) -> Option<(Value, Vec<u8>, usize)> {
         let (grammar, rows, n, store, out, index) = match case {
             Case::MarshallVal {
@@ -44,6 +44,14 @@ impl Value {
                 index,
             }
             | Case::Preview {
+                grammar,
+                rows,
+                n,
+                store,
+                out,
+                index,
+            }
+            | Case::ExportXdr {
                 grammar,
                 rows,
                 n,
@@ -84,6 +92,18 @@ impl Value {
     /// The preview of the writing at `index` to this output.
     pub fn preview_case(self, out: Vec<u8>, index: usize) -> Case {
         Case::Preview {
+            grammar: self.grammar,
+            rows: self.rows,
+            n: self.n,
+            store: self.store,
+            out,
+            index,
+        }
+    }
+
+    /// The export at `index` to this output.
+    pub fn export_case(self, out: Vec<u8>, index: usize) -> Case {
+        Case::ExportXdr {
             grammar: self.grammar,
             rows: self.rows,
             n: self.n,

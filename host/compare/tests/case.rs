@@ -25,7 +25,7 @@ fn output(case: &mut Case) -> &mut Vec<u8> {
 #[test]
 fn each_call_has_one() {
     let calls: BTreeSet<&str> = Case::blanks().iter().map(Case::call).collect();
-    assert_eq!(calls.len(), 23);
+    assert_eq!(calls.len(), 25);
     for mut blank in Case::blanks() {
         let answer = blank.compare().answer;
         if let Answer::Accepted(given) = answer {
@@ -61,6 +61,52 @@ fn bytes_outside_the_lent_part_are_compared() {
         });
         assert_ne!(touched, sound);
         assert_eq!(touched.after(), sound.after());
+    }
+}
+
+/// The import of a byte array of one element, with a row and three bytes of store lent.
+fn importing() -> Case {
+    Case::ImportXdr {
+        grammar: leaf(5),
+        record: vec![0, 0, 0, 1, 7, 0, 0, 0],
+        rows: vec![99; 4],
+        store: vec![0xee; 3],
+    }
+}
+
+/// Both lent buffers are compared, and what is around each of them, after an import that is accepted
+/// and after one that is refused.
+#[test]
+fn both_lent_buffers_are_compared() {
+    let sound = importing().compare();
+    assert_eq!(sound.answer, Answer::Accepted(vec![1, 1]));
+    let mut after = importing();
+    if let Case::ImportXdr { rows, store, .. } = &mut after {
+        *rows = vec![5, 1, 1, 0];
+        *store = vec![7, 0xee, 0xee];
+    }
+    assert_eq!(sound.after(), after);
+    let mut refused = importing();
+    if let Case::ImportXdr { record, .. } = &mut refused {
+        record[7] = 1;
+    }
+    for sound in [sound, refused.compare()] {
+        for buffer in [0, 1] {
+            // 9 elements of margin stand on each side.
+            for place in [0, 8, 9, 11, 12, 20] {
+                let touched = Outcome::of(&sound.after(), |after| {
+                    match after.lent().swap_remove(buffer) {
+                        (_, Field::Uint64s(rows)) => rows[place] ^= 1,
+                        (_, Field::Bytes(store)) => store[place] ^= 1,
+                        (name, _) => panic!("{name} is lent"),
+                    }
+                    sound.answer.clone()
+                });
+                assert_ne!(touched, sound, "{buffer} {place}");
+                let is_margin = place < 9 || place >= 9 + [4, 3][buffer];
+                assert_eq!(touched.after() == sound.after(), is_margin);
+            }
+        }
     }
 }
 

@@ -3,8 +3,8 @@
 use std::process::{Command, Output};
 
 use compare::{grammar_list, grammars_of, run};
-use compare::{Answer, Answers, Case, Difference, Outcome, Random, Value};
-use route_record::{Place, Refusal, CHECK_ROWS, MAX_ROWS, ROW_WORDS};
+use compare::{Answer, Answers, Case, Difference, Field, Outcome, Random, Value};
+use route_record::{Place, Refusal, CHECK_ROWS, MAX_BYTES, MAX_ROWS, ROW_WORDS};
 
 /// The answers of a run of so many cases.
 fn run_cases(seed: u64, cases: u64) -> Answers {
@@ -332,14 +332,116 @@ fn a_false_capacity_is_found_out() {
     }
 }
 
+/// An import's answer, given the sound one, its record and the length of its store.
+type Import = fn(Answer, &Case) -> Answer;
+
+/// The model's answer to an import with another record or another store.
+fn import_with(case: &Case, edit: impl FnOnce(&mut Vec<u8>, &mut Vec<u8>)) -> Answer {
+    let mut other = case.clone();
+    if let Case::ImportXdr { record, store, .. } = &mut other {
+        edit(record, store);
+    }
+    other.of_model().answer
+}
+
+/// The number and the byte of a refusal.
+fn refused_at(answer: &Answer) -> Option<(u64, u64)> {
+    match answer {
+        Answer::Refused { refusal, .. } => match refusal.place {
+            Place::Byte(byte) => Some((refusal.number, byte)),
+            _ => None,
+        },
+        Answer::Accepted(_) => None,
+    }
+}
+
+/// The refusal of a number at a byte.
+fn refused(number: u64, byte: u64) -> Answer {
+    let place = Place::Byte(byte);
+    let refusal = Refusal { number, place };
+    Answer::Refused { refusal, record: 0 }
+}
+
+/// Imports that are not sound: 23 before 17, 17 at byte 0 or behind the store's length, and padding that
+/// is not looked at or may lack its last byte at the end.
+const FALSE_IMPORTS: [Import; 5] = [
+    |sound, case| match refused_at(&sound) {
+        Some((17, _)) => match import_with(case, |_, store| store.resize(MAX_BYTES, 0)) {
+            other if other.number() == 23 => other,
+            _ => sound,
+        },
+        _ => sound,
+    },
+    |sound, _| match refused_at(&sound) {
+        Some((17, _)) => refused(17, 0),
+        _ => sound,
+    },
+    |sound, _| match refused_at(&sound) {
+        Some((17, byte)) => refused(17, byte + 1),
+        _ => sound,
+    },
+    |sound, _| match refused_at(&sound) {
+        Some((23, _)) => Answer::Accepted(vec![1, 1]),
+        _ => sound,
+    },
+    |sound, case| match refused_at(&sound) {
+        Some((9, _)) => match import_with(case, |record, _| record.push(0)) {
+            accepted @ Answer::Accepted(_) => accepted,
+            _ => sound,
+        },
+        _ => sound,
+    },
+];
+
+#[test]
+fn a_false_import_is_found_out() {
+    for import in FALSE_IMPORTS {
+        let library = |case: &Case| {
+            let outcome = case.of_library();
+            match case {
+                Case::ImportXdr { .. } => {
+                    let answer = import(outcome.answer.clone(), case);
+                    match answer == outcome.answer {
+                        true => outcome,
+                        false => Outcome::with(answer, case),
+                    }
+                }
+                _ => outcome,
+            }
+        };
+        let difference = difference(14, library, 20_000);
+        assert_eq!(difference.case.call(), "import_xdr");
+    }
+}
+
+/// A library that changes a byte of the store or a row where it refuses an import is found out.
+#[test]
+fn a_refused_import_that_changes_something_is_found_out() {
+    for name in ["rows", "store"] {
+        let library = |case: &Case| {
+            let outcome = case.of_library();
+            let mut after = outcome.after();
+            let is_refused = outcome.answer.number() > 0;
+            if !is_refused || !matches!(case, Case::ImportXdr { .. }) {
+                return outcome;
+            }
+            for (lent, field) in after.lent() {
+                match field {
+                    Field::Bytes(bytes) if lent == name => bytes.iter_mut().for_each(|b| *b ^= 1),
+                    Field::Uint64s(rows) if lent == name => rows.iter_mut().for_each(|w| *w ^= 1),
+                    _ => (),
+                }
+            }
+            Outcome::with(outcome.answer, &after)
+        };
+        let difference = difference(15, library, 2_000);
+        assert_eq!(difference.case.call(), "import_xdr");
+    }
+}
+
 /// Answers that are wrong of every proper front part of an accepted record: accepted, refused with
 /// another number, and with 9 at a byte that no record has.
 fn false_answers() -> [Answer; 5] {
-    let refused = |number, byte| {
-        let place = Place::Byte(byte);
-        let refusal = Refusal { number, place };
-        Answer::Refused { refusal, record: 0 }
-    };
     [
         Answer::Accepted(vec![1, 0]),
         refused(8, 0),
@@ -369,7 +471,7 @@ fn assert_false_front_part_is_found_out(call: &str, answer: &Answer) {
         }),
         None => case.of_library(),
     };
-    let difference = difference(10, library, 1_000);
+    let difference = difference(16, library, 1_000);
     let record = checked_record(&difference.case, call).expect("a check of a whole record");
     assert!((1..=8).contains(&record.len()), "{record:?}");
     assert_eq!(difference.model.answer, difference.library.answer);

@@ -229,6 +229,42 @@ fn values_and_outputs() {
     }
 }
 
+/// The error of not looking at the padding of XDR.
+fn skips_the_padding(case: &Case) -> Outcome {
+    match case.of_model() {
+        outcome if outcome.answer.number() == 23 => {
+            Outcome::with(Answer::Accepted(vec![1, 0]), case)
+        }
+        outcome => outcome,
+    }
+}
+
+#[test]
+fn imports() {
+    let array = [0, 0, 0, 5, 1, 2, 3, 4, 5, 0, 0, 0];
+    let mut record = [&[0, 0, 0, 200][..], &array.repeat(200)].concat();
+    *record.last_mut().expect("padding") = 9;
+    let large = Case::ImportXdr {
+        grammar: table(&[[3, 0, 1], [5, 0, 0]], &[1]),
+        record,
+        rows: vec![99; ROW_WORDS * MAX_ROWS],
+        store: vec![0xee; 1_100],
+    };
+    let Case::ImportXdr {
+        record,
+        rows,
+        store,
+        ..
+    } = smallest(skips_the_padding, &large)
+    else {
+        panic!("an import");
+    };
+    // A few arrays, the last of a byte, into a store of a byte.
+    assert!(record.len() <= 24 && record.ends_with(&[0, 0, 0, 1, 0, 0, 0, 1]));
+    assert!(rows.len() <= 20 && rows.iter().all(|&word| word == 0));
+    assert_eq!(store, [0]);
+}
+
 /// The error of counting each byte that would be written.
 fn counts_equal_bytes(case: &Case) -> Outcome {
     let outcome = case.of_model();

@@ -1,27 +1,24 @@
-//! Export to XDR and import from it: worked numbers, the file of RFC 4506, the limits, and both round
-//! trips of random values.
+//! Export to XDR and import from it: worked numbers, the file of RFC 4506, the limits, both round trips
+//! of random values, and the random cases.
 
 use std::collections::BTreeSet;
 
-use compare::{leaf, on_large_stack, table, Random, Record, RowTable, Table, Value};
-use model::Place;
-use route_record::{MAX_BYTES, MAX_ROWS, ROW_WORDS};
+use compare::{leaf, on_large_stack, table, Case, Random, Record, RowTable, Table, Value};
+use route_record::{Place, Refusal, MAX_BYTES, MAX_ROWS, ROW_WORDS};
 
 /// A refusal: its number and its place.
 type Refused = (u64, Place);
 
+fn refused_of(refusal: Refusal) -> Refused {
+    (refusal.number, refusal.place)
+}
+
 /// The size that an export gives, and the output after it.
 fn export(value: &Value, out: &[u8], index: usize) -> Result<(usize, Vec<u8>), Refused> {
-    let Value {
-        grammar,
-        rows,
-        n,
-        store,
-    } = value;
-    match model::export_xdr(grammar, rows, *n, store, out, index) {
-        Ok(writing) => Ok((writing.size, writing.out)),
-        Err(refusal) => Err((refusal.number, refusal.place)),
-    }
+    let outcome = value.clone().export_case(out.to_vec(), index).compare();
+    let [size] = outcome.answer.clone().result().map_err(refused_of)?;
+    let (_, out, _) = Value::of(&outcome.after()).expect("an export");
+    Ok((size as usize, out))
 }
 
 /// What an import gives, and its lent rows and store after it.
@@ -35,16 +32,23 @@ struct Imported {
 
 /// The import into lent rows and a lent store.
 fn import(grammar: &[u32], record: &[u8], rows: &[u64], store: &[u8]) -> Result<Imported, Refused> {
-    let capacity = model::capacity(rows.len());
-    match model::import_xdr(grammar, record, capacity, store) {
-        Ok(importing) => Ok(Imported {
-            row_count: importing.rows.len() / ROW_WORDS,
-            used: importing.used,
-            rows: [&importing.rows, &rows[importing.rows.len()..]].concat(),
-            store: importing.store,
-        }),
-        Err(refusal) => Err((refusal.number, refusal.place)),
-    }
+    let case = Case::ImportXdr {
+        grammar: grammar.to_vec(),
+        record: record.to_vec(),
+        rows: rows.to_vec(),
+        store: store.to_vec(),
+    };
+    let outcome = case.compare();
+    let [row_count, used] = outcome.answer.clone().result().map_err(refused_of)?;
+    let Case::ImportXdr { rows, store, .. } = outcome.after() else {
+        panic!("an import");
+    };
+    Ok(Imported {
+        row_count: row_count as usize,
+        used: used as usize,
+        rows,
+        store,
+    })
 }
 
 /// Numbers with blanks and commas between them.
@@ -466,5 +470,111 @@ fn numbers_most_byte_first() {
             let imported = import(&leaf(kind), expected, &[99; 4], &[]).expect("accepted");
             assert_eq!(imported.rows, value.rows);
         }
+    }
+}
+
+/// What the random cases met of: kinds of rows that were exported and imported, numbers of padding
+/// bytes that were, the greatest size and the most rows, stores and rows just enough and one too few,
+/// and values that are too long to be written.
+#[derive(Default)]
+struct MetCases {
+    exported: BTreeSet<u64>,
+    imported: BTreeSet<u64>,
+    padding: BTreeSet<u64>,
+    greatest: u64,
+    most_rows: u64,
+    just_enough: usize,
+    one_too_few: usize,
+    too_long_to_write: usize,
+}
+
+impl MetCases {
+    fn add_rows(kinds: &mut BTreeSet<u64>, padding: &mut BTreeSet<u64>, rows: &[u64]) {
+        for row in rows.chunks(ROW_WORDS) {
+            kinds.insert(row[0]);
+            padding.extend((row[0] == 5).then_some(row[2] % 4));
+        }
+    }
+
+    /// Adds an export.
+    fn export(&mut self, value: &Value, size: u64) {
+        let rows = &value.rows[..ROW_WORDS * value.n];
+        MetCases::add_rows(&mut self.exported, &mut self.padding, rows);
+        self.greatest = self.greatest.max(size);
+        let written = model::compute_size_of(&value.rows, value.n, &value.store);
+        let is_long = written.expect("a value") > MAX_BYTES as u64;
+        self.too_long_to_write += usize::from(is_long);
+    }
+
+    /// Adds an accepted import.
+    fn import(&mut self, rows: &[u64], row_count: u64, used: u64, store: &[u8]) {
+        let rows = &rows[..ROW_WORDS * row_count as usize];
+        MetCases::add_rows(&mut self.imported, &mut self.padding, rows);
+        self.most_rows = self.most_rows.max(row_count);
+        self.just_enough += usize::from(used > 0 && used == store.len() as u64);
+    }
+}
+
+/// The random cases of export and import, among those of all calls. An import that is accepted exports
+/// to its record again; one that is refused with 17 is accepted, or refused otherwise, with a longer
+/// store.
+#[test]
+fn random_cases() {
+    let mut random = Random::new(93);
+    let mut met = MetCases::default();
+    on_large_stack(|| {
+        for _ in 0..25_000 {
+            let case = Case::random(&mut random);
+            match &case {
+                Case::ExportXdr { .. } => {
+                    if let Ok([size]) = case.compare().answer.result() {
+                        let (value, ..) = Value::of(&case).expect("an export");
+                        met.export(&value, size);
+                    }
+                }
+                Case::ImportXdr {
+                    grammar,
+                    record,
+                    rows,
+                    store,
+                } => import_case(&mut met, grammar, record, rows, store),
+                _ => (),
+            }
+        }
+    });
+    assert_eq!(met.exported, (0..=10).collect());
+    assert_eq!(met.imported, (0..=10).collect());
+    assert_eq!(met.padding, (0..=3).collect());
+    assert_eq!((met.greatest, met.most_rows), (MAX_BYTES as u64, 4_096));
+    assert!(met.just_enough > 0 && met.one_too_few > 0 && met.too_long_to_write > 0);
+}
+
+/// A random case of import.
+fn import_case(met: &mut MetCases, grammar: &[u32], record: &[u8], rows: &[u64], store: &[u8]) {
+    match import(grammar, record, rows, store) {
+        Ok(imported) => {
+            met.import(
+                &imported.rows,
+                imported.row_count as u64,
+                imported.used as u64,
+                store,
+            );
+            let value = Value {
+                grammar: grammar.to_vec(),
+                rows: imported.rows,
+                n: imported.row_count,
+                store: imported.store,
+            };
+            assert_eq!(xdr_of(&value), record);
+        }
+        Err((17, place)) => {
+            assert_eq!(place, Place::Byte(store.len() as u64));
+            let longer = [store, &[0]].concat();
+            let answer = import(grammar, record, rows, &longer);
+            met.one_too_few += usize::from(answer.is_ok());
+            let longest = import(grammar, record, rows, &vec![0; MAX_BYTES]);
+            assert_ne!(longest.err().map(|refused| refused.0), Some(17));
+        }
+        Err(_) => (),
     }
 }

@@ -136,3 +136,22 @@ pub fn choose_grammar(list: &[u32], record: &[u8]) -> Answer {
     let chosen = calls::choose_grammar(list, record);
     Answer::of(chosen.map(|chosen| [chosen.number as u64, chosen.begun as u64]))
 }
+
+pub fn export_xdr(
+    grammar: &[u32],
+    rows: &[u64],
+    n: usize,
+    store: &[u8],
+    out: &mut [u8],
+    index: usize,
+) -> Answer {
+    let lent = between_margins(out);
+    let size = calls::export_xdr(grammar, rows, n, store, lent, index);
+    Answer::of(size.map(|size| [size as u64]))
+}
+
+pub fn import_xdr(grammar: &[u32], record: &[u8], rows: &mut [u64], store: &mut [u8]) -> Answer {
+    let (rows, store) = (between_margins(rows), between_margins(store));
+    let imported = calls::import_xdr(grammar, record, rows, store);
+    Answer::of(imported.map(|imported| [imported.rows as u64, imported.used as u64]))
+}

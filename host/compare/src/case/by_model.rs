@@ -180,3 +180,30 @@ pub fn choose_grammar(list: &[u32], record: &[u8]) -> Answer {
     let chosen = model::choose_grammar(list, record);
     answer(chosen.map(|chosen| [chosen.number as u64, chosen.begun as u64]))
 }
+
+pub fn export_xdr(
+    grammar: &[u32],
+    rows: &[u64],
+    n: usize,
+    store: &[u8],
+    out: &mut [u8],
+    index: usize,
+) -> Answer {
+    let writing = model::export_xdr(grammar, rows, n, store, between_margins(out), index);
+    write(out, writing)
+}
+
+/// The answer of an import, whose rows and store are put into the lent ones.
+pub fn import_xdr(grammar: &[u32], record: &[u8], rows: &mut [u64], store: &mut [u8]) -> Answer {
+    let (rows, store) = (between_margins(rows), between_margins(store));
+    let capacity = model::capacity(rows.len());
+    let importing = model::import_xdr(grammar, record, capacity, store);
+    answer(importing.map(|importing| {
+        rows[..importing.rows.len()].copy_from_slice(&importing.rows);
+        store.copy_from_slice(&importing.store);
+        [
+            (importing.rows.len() / ROW_WORDS) as u64,
+            importing.used as u64,
+        ]
+    }))
+}

@@ -133,6 +133,11 @@ cases! {
         lends [] gives [same];
     ChooseGrammar choose_grammar { list: Vec<u32>, record: Vec<u8> }
         lends [] gives [number, begun];
+    ExportXdr export_xdr {
+        grammar: Vec<u32>, rows: Vec<u64>, n: usize, store: Vec<u8>, out: Vec<u8>, index: usize
+    } lends [out] gives [size];
+    ImportXdr import_xdr { grammar: Vec<u32>, record: Vec<u8>, rows: Vec<u64>, store: Vec<u8> }
+        lends [rows, store] gives [row_count, used];
 }
 
 impl Case {
@@ -162,10 +167,12 @@ impl Case {
             | Case::CheckWhole { .. }
             | Case::CheckWholeWith { .. }
             | Case::SameRoute { .. } => &[0, 1, 2, 3, 4, 5, 6, 8, 9, 10, 11],
-            Case::MarshallVal { .. } | Case::Marshall { .. } | Case::Preview { .. } => {
-                &[0, 1, 2, 3, 4, 5, 6, 12, 13, 14, 15, 16, 17]
-            }
+            Case::MarshallVal { .. }
+            | Case::Marshall { .. }
+            | Case::Preview { .. }
+            | Case::ExportXdr { .. } => &[0, 1, 2, 3, 4, 5, 6, 12, 13, 14, 15, 16, 17],
             Case::ChooseGrammar { .. } => &[0, 1, 2, 3, 4, 5, 6, 21, 22],
+            Case::ImportXdr { .. } => &[0, 1, 2, 3, 4, 5, 6, 8, 9, 10, 11, 17, 23],
         }
     }
 

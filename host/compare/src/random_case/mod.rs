@@ -5,6 +5,7 @@ mod preview;
 mod reading;
 mod same_route;
 mod writing;
+mod xdr;
 
 use route_record::{MAX_BYTES, MAX_ROWS};
 
@@ -14,7 +15,7 @@ impl Case {
     /// A random case of any call. The calls on grammars, rows and records come more often than the
     /// packers and unpackers, which have fewer answers.
     pub fn random(random: &mut Random) -> Case {
-        match random.below(51) {
+        match random.below(58) {
             0..4 => packed(random, &U32),
             4..8 => packed(random, &U64),
             8..11 => check_grammar(random),
@@ -23,7 +24,9 @@ impl Case {
             33..39 => writing::case(random),
             39..43 => preview::case(random),
             43..47 => same_route::case(random),
-            _ => choosing::case(random),
+            47..51 => choosing::case(random),
+            51..54 => xdr::export(random),
+            _ => xdr::import(random),
         }
     }
 }

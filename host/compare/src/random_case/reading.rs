@@ -68,7 +68,7 @@ fn input(random: &mut Random, table: &Table) -> Input {
 }
 
 /// How many words are lent to a reading that needs so many rows: near the need, or not.
-fn words(random: &mut Random, rows: usize) -> usize {
+pub(super) fn words(random: &mut Random, rows: usize) -> usize {
     let need = ROW_WORDS * rows;
     match random.below(8) {
         0 => random.pick(&[0, 3, 4, 9, 100]),
