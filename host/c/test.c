@@ -129,7 +129,9 @@ typedef struct argument {
     CALL(marshall, "wrnbB", ARRAY(0), ARRAY(1), NUMBER(2), ARRAY(3), ARRAY(4))                 \
     CALL(preview, "wrnbbn", ARRAY(0), ARRAY(1), NUMBER(2), ARRAY(3), ARRAY(4), NUMBER(5))      \
     CALL(same_route, "wbb", ARRAY(0), ARRAY(1), ARRAY(2))                                      \
-    CALL(choose_grammar, "wb", ARRAY(0), ARRAY(1))
+    CALL(choose_grammar, "wb", ARRAY(0), ARRAY(1))                                             \
+    CALL(export_xdr, "wrnbBn", ARRAY(0), ARRAY(1), NUMBER(2), ARRAY(3), ARRAY(4), NUMBER(5))   \
+    CALL(import_xdr, "wbRB", ARRAY(0), ARRAY(1), ARRAY(2), ARRAY(3))
 
 #define NUMBER(i) a[i].number
 #define ARRAY(i) a[i].array, a[i].length

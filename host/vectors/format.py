@@ -1,10 +1,10 @@
 """Runs the Python text of docs/FORMAT.md over the test vectors: `python3 host/vectors/format.py`.
 
 The check of grammars, the readings and their checks, the check of row tables, the size, the signed
-number, the writers, preview, same route and the chooser answer as each line says. Preview also
-answers as each line of `marshall_val` says that writing does, and the checks, preview, same route,
-the chooser, export and import as each row of the page's own tables says. Prints a line for each
-failure, the number of lines of each call and, last, 'N passed, M failed'.
+number, the writers, preview, same route, the chooser, export and import answer as each line says.
+Preview also answers as each line of `marshall_val` says that writing does, and the checks, preview,
+same route, the chooser, export and import as each row of the page's own tables says. Prints a line for
+each failure, the number of lines of each call and, last, 'N passed, M failed'.
 """
 
 import collections
@@ -153,7 +153,9 @@ CALLS = {
     "same_route on the page": same_route,
     "choose_grammar": choose_grammar,
     "choose_grammar on the page": choose_grammar,
+    "export_xdr": export_xdr,
     "export_xdr on the page": export_xdr,
+    "import_xdr": import_xdr,
     "import_xdr on the page": import_xdr,
 }
 
@@ -323,6 +325,7 @@ SOURCES = [
     same_routes_on_page(),
     vectors("choosing"),
     choices_on_page(),
+    vectors("xdr"),
     exports_on_page(),
     imports_on_page(),
 ]

@@ -30,7 +30,7 @@ pub struct File {
 }
 
 /// All files.
-pub const FILES: [File; 10] = [
+pub const FILES: [File; 11] = [
     File {
         name: "packed.jsonl",
         vectors: || of_cases(cases::packed(), vec![]),
@@ -66,6 +66,10 @@ pub const FILES: [File; 10] = [
     File {
         name: "choosing.jsonl",
         vectors: || of_cases(cases::choosing(), vec![]),
+    },
+    File {
+        name: "xdr.jsonl",
+        vectors: || of_cases(cases::xdr_calls(), vec![]),
     },
     File {
         name: "show.jsonl",

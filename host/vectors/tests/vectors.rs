@@ -6,8 +6,8 @@ use std::fs;
 use std::process::Command;
 
 use compare::{grammar_list, grammars_of, on_large_stack, own_bytes, root_kinds};
-use compare::{Answer, Case, Line};
-use route_record::{Place, CHECK_ROWS, MAX_ROWS, ROW_WORDS};
+use compare::{Answer, Case, Line, Value};
+use route_record::{Place, CHECK_ROWS, MAX_BYTES, MAX_ROWS, ROW_WORDS};
 use vectors::{check, Counts, Show, Vector, FILES};
 
 /// The lines of a committed file.
@@ -556,10 +556,151 @@ fn preview_of_each_length() {
     assert_eq!(indices, (0..8).collect());
 }
 
+/// What an accepted import gives.
+struct Imported {
+    grammar: Vec<u32>,
+    record: Vec<u8>,
+    rows: Vec<u64>,
+    n: usize,
+    store: Vec<u8>,
+    used: usize,
+}
+
+/// What comes of a line that is an accepted import.
+fn imported(line: &Line) -> Option<Imported> {
+    let Answer::Accepted(given) = &line.outcome.answer else {
+        return None;
+    };
+    match line.outcome.after() {
+        Case::ImportXdr {
+            grammar,
+            record,
+            rows,
+            store,
+        } => Some(Imported {
+            grammar,
+            record,
+            n: given[0] as usize,
+            rows,
+            store,
+            used: given[1] as usize,
+        }),
+        _ => None,
+    }
+}
+
+/// The bytes of the elements of an array's row, and none of another row.
+fn bytes_of_elements(row: &[u64]) -> u64 {
+    match row[0] {
+        5 => row[2],
+        6 => 4 * row[2],
+        7 => 8 * row[2],
+        _ => 0,
+    }
+}
+
+/// Each accepted import exports to its record, its arrays lie one behind the other from byte 0 on, and
+/// what is behind them and behind the rows is as it was. There are imports with roots of each kind, with
+/// fields of each kind, and with each number of padding bytes, and with rows and stores that are just
+/// enough.
+#[test]
+fn imports_export_to_their_record() {
+    let (mut roots, mut kinds, mut padding) = (BTreeSet::new(), BTreeSet::new(), BTreeSet::new());
+    let mut just_enough = 0;
+    for line in calls() {
+        let Some(imported) = imported(&line) else {
+            continue;
+        };
+        let Imported {
+            grammar, record, ..
+        } = &imported;
+        let (rows, n, store) = (&imported.rows, imported.n, &imported.store);
+        let out = vec![0xee; record.len()];
+        let exported = model::export_xdr(grammar, rows, n, store, &out, 0);
+        assert_eq!(&exported.expect("a value").out, record, "{}", line.name);
+        let mut end = 0;
+        roots.insert(rows[0]);
+        for row in rows[..ROW_WORDS * n].chunks(ROW_WORDS) {
+            kinds.insert(row[0]);
+            padding.extend((row[0] == 5).then_some(row[2] % 4));
+            assert!(!matches!(row[0], 5..=7) || row[3] == end, "{}", line.name);
+            end += bytes_of_elements(row);
+        }
+        assert_eq!(end, imported.used as u64);
+        assert!(rows[ROW_WORDS * n..].iter().all(|&word| word == 99));
+        assert!(store[imported.used..].iter().all(|&byte| byte == 0xee));
+        let is_exact = rows.len() == ROW_WORDS * n && store.len() == imported.used;
+        just_enough += usize::from(is_exact && imported.used > 0);
+    }
+    assert_eq!(roots, (0..=10).collect());
+    assert_eq!(kinds, (0..=10).collect());
+    assert_eq!(padding, (0..=3).collect());
+    assert!(just_enough >= 10, "{just_enough}");
+}
+
+/// What each accepted export writes is imported with rows and a store that are just enough, and is an
+/// equal value then: it exports to the same bytes and, where it may be written, its record is the same.
+/// There are exports of roots of each kind, and of values that are too long to be written.
+#[test]
+fn exports_are_imported() {
+    let (mut roots, mut too_long) = (BTreeSet::new(), 0);
+    on_large_stack(|| {
+        for line in calls() {
+            let (Case::ExportXdr { .. }, Answer::Accepted(given)) =
+                (&line.case, &line.outcome.answer)
+            else {
+                continue;
+            };
+            let (value, out, index) = Value::of(&line.outcome.after()).expect("an export");
+            let (xdr, n) = (&out[index..index + given[0] as usize], value.n);
+            let rows = &value.rows[..ROW_WORDS * n];
+            let used: u64 = rows.chunks(ROW_WORDS).map(bytes_of_elements).sum();
+            let store = vec![0xee; used as usize];
+            let imported = model::import_xdr(&value.grammar, xdr, n, &store);
+            let imported = imported.expect("enough rows and store");
+            let written = |rows: &[u64], store: &[u8]| {
+                let out = vec![0; MAX_BYTES];
+                model::marshall(&value.grammar, rows, n, store, &out)
+            };
+            let record = written(rows, &value.store);
+            assert_eq!(written(&imported.rows, &imported.store), record);
+            roots.insert(rows[0]);
+            too_long += usize::from(record.is_err());
+        }
+    });
+    assert_eq!(roots, (0..=10).collect());
+    assert!(too_long > 0);
+}
+
+/// Every proper front part of the XDR of a value with fields of each kind, and of example T, is refused
+/// with 9.
+#[test]
+fn front_parts_of_imports() {
+    let calls = calls();
+    for name in ["import_xdr: fields of each kind", "import_xdr: example T"] {
+        let whole = calls.iter().find(|line| line.name == name).expect(name);
+        let whole = imported(whole).expect("accepted");
+        let mut lengths = BTreeSet::new();
+        for line in &calls {
+            let Case::ImportXdr {
+                grammar, record, ..
+            } = &line.case
+            else {
+                continue;
+            };
+            let is_part = whole.record.starts_with(record) && *grammar == whole.grammar;
+            if is_part && line.outcome.answer.number() == 9 {
+                lengths.insert(record.len());
+            }
+        }
+        assert_eq!(lengths, (0..whole.record.len()).collect(), "{name}");
+    }
+}
+
 /// Refusals with their borders: the number, the call, what the line shows that just passes its test,
 /// and what the one that just does not.
 #[rustfmt::skip]
-const BORDERS: [(u64, &str, &str, &str); 132] = [
+const BORDERS: [(u64, &str, &str, &str); 162] = [
     (1, "check_grammar", "example F, N 256", "example F, N 257"),
     (1, "check_grammar", "example B, constant", "N 0"),
     (1, "preview", "N 256", "N 257"),
@@ -609,6 +750,9 @@ const BORDERS: [(u64, &str, &str, &str); 132] = [
     (6, "preview", "a store of 1,048,576 bytes", "a store of 1,048,577 bytes"),
     (6, "same_route", "records of 1,048,576 bytes", "6 of both records"),
     (6, "choose_grammar", "a record of 1,048,576 bytes", "a record of 1,048,577 bytes"),
+    (6, "export_xdr", "a store of 1,048,576 bytes", "a store of 1,048,577 bytes"),
+    (6, "import_xdr", "a store of 1,048,576 bytes", "a store of 1,048,577 bytes"),
+    (6, "import_xdr", "1048572 bytes into a store of 1048572", "a record of 1,048,577 bytes"),
     (7, "unpack_u32", "index at the length", "index above the length, 7 before 9"),
     (7, "unpack_u64_seq", "no numbers at the length", "no numbers above the length"),
     (7, "parse_val", "index at the length of a constant", "index above the length"),
@@ -640,6 +784,10 @@ const BORDERS: [(u64, &str, &str, &str); 132] = [
     (8, "check_val_with", "capacity 3, example A", "capacity 2, example A"),
     (8, "same_route", "4,096 rows, equal", "the first record's 8"),
     (8, "same_route", "4,096 rows, most in the first field", "4,097 rows, most in the first field"),
+    (8, "import_xdr", "constant", "constant, a word less"),
+    (8, "import_xdr", "array of constants", "array of constants, a row less"),
+    (8, "import_xdr", "example T", "example T, a row less"),
+    (8, "import_xdr", "4095 constants, 16384 words", "4096 constants, 16384 words"),
     (9, "demarshall", "uint32", "uint32, 3 bytes"),
     (9, "demarshall", "uint64", "uint64, 7 bytes"),
     (9, "demarshall", "example I, int32 -1", "example I, int32, 3 bytes"),
@@ -650,12 +798,24 @@ const BORDERS: [(u64, &str, &str, &str); 132] = [
     (9, "unpack_u32", "the last 4 bytes", "3 bytes left"),
     (9, "unpack_u64", "the last 8 bytes", "7 bytes left"),
     (9, "unpack_u32_seq", "two numbers up to the end", "a byte of the second is missing"),
+    (9, "import_xdr", "uint32", "uint32, cut by a byte"),
+    (9, "import_xdr", "uint64", "uint64, cut by a byte"),
+    (9, "import_xdr", "int32 -3", "int32 -3, cut by a byte"),
+    (9, "import_xdr", "int64 -3", "int64 -3, cut by a byte"),
+    (9, "import_xdr", "array without elements", "array without elements, cut by a byte"),
+    (9, "import_xdr", "3 bytes", "3 bytes, cut by a byte"),
+    (9, "import_xdr", "4 bytes", "4 bytes, cut by a byte"),
+    (9, "import_xdr", "uint32 elements", "uint32 elements, cut by a byte"),
+    (9, "import_xdr", "uint64 elements", "uint64 elements, cut by a byte"),
     (10, "demarshall", "tag below the case count", "tag at the case count"),
+    (10, "import_xdr", "tag 1023 of 1,024", "tag 1024 of 1,024"),
     (11, "demarshall", "uint32", "uint32, a byte left over"),
     (11, "demarshall", "int32", "int32, a byte left over"),
     (11, "demarshall", "int64", "int64, a byte left over"),
     (11, "demarshall", "example B, constant", "example B, one byte"),
+    (11, "import_xdr", "example T", "example T, a byte behind"),
     (12, "compute_size_of", "n 4,096", "n 4,097"),
+    (12, "export_xdr", "n 4,096", "n 4,097"),
     (12, "compute_size_of", "constant", "n 0"),
     (12, "compute_size_of", "constant", "a word missing for n"),
     (12, "signed_number", "row 4,095 of 4,096", "n 4,097"),
@@ -665,18 +825,27 @@ const BORDERS: [(u64, &str, &str, &str); 132] = [
     (13, "compute_size_of", "int32 pattern 4,294,967,295", "example I, int32 pattern 4,294,967,296"),
     (13, "signed_number", "example I, -1 of an int32", "example I, 2^32 is no pattern of an int32"),
     (13, "preview", "example H, number 4,294,967,295", "example H, number 4,294,967,296"),
+    (13, "export_xdr", "example H, number 4,294,967,295", "example H, number 4,294,967,296"),
     (14, "compute_size_of", "byte array up to the store's end", "byte array a byte beyond the store"),
     (14, "compute_size_of", "uint32 array up to the store's end", "uint32 array a byte beyond the store"),
     (14, "compute_size_of", "uint64 array up to the store's end", "uint64 array a byte beyond the store"),
     (14, "signed_number", "the int32 -3 in a tuple", "14 of another row"),
     (14, "preview", "example A over its record", "the store of example A without its last byte"),
+    (14, "export_xdr", "example A", "the store of example A without its last byte"),
     (15, "marshall", "case 1, a uint32", "tag at the case count"),
+    (15, "export_xdr", "case 1, a uint32", "tag at the case count"),
     (15, "marshall", "int32", "a uint32 where an int32 is wanted"),
     (15, "marshall", "int64", "a uint64 where an int64 is wanted"),
     (15, "preview", "case of a uint32 over its record", "tag at the case count"),
     (16, "marshall", "size 1,048,576", "size 1,048,577"),
     (16, "preview", "1,048,568 bytes over bytes 00", "1,048,569 bytes"),
+    (16, "export_xdr", "1,048,571 bytes", "1048573 bytes, no output"),
     (17, "marshall", "example G, 14 bytes", "example G, 13 bytes"),
+    (17, "export_xdr", "example T at 4 of 24", "example T at 4 of 23"),
+    (17, "export_xdr", "no bytes at the length", "no bytes above the length"),
+    (17, "import_xdr", "3 bytes", "3 bytes, a byte of store less"),
+    (17, "import_xdr", "uint32 elements", "uint32 elements, a byte of store less"),
+    (17, "import_xdr", "uint64 elements", "uint64 elements, a byte of store less"),
     (17, "preview", "room up to the end", "a byte of room is missing"),
     (17, "preview", "no bytes at the end of 2", "no bytes behind the end of 2"),
     (17, "pack_u32", "the last 4 bytes", "3 bytes of room"),
@@ -693,6 +862,8 @@ const BORDERS: [(u64, &str, &str, &str); 132] = [
     (22, "choose_grammar", "an int32 as the last of 16", "16 of int64, an int32"),
     (22, "choose_grammar", "the only grammar, 4096 rows", "the only grammar, 4097 rows"),
     (22, "choose_grammar", "uint64, uint32 and constant, no bytes", "uint64, uint32 and constant, 1 byte"),
+    (23, "import_xdr", "two byte arrays with padding", "two arrays of 1 bytes, byte 7 set to 1"),
+    (23, "import_xdr", "the file of RFC 4506", "the file of RFC 4506, byte 46 of padding set"),
 ];
 
 /// The line that passes a border and is refused by what is behind it: no byte is left at the length.
@@ -717,7 +888,7 @@ fn both_sides_of_each_border() {
         assert_eq!(number_of(&is_refused), number, "{is_refused}");
     }
     let numbers: BTreeSet<u64> = BORDERS.iter().map(|border| border.0).collect();
-    assert!(numbers.into_iter().eq((1..=18).chain(20..=22)));
+    assert!(numbers.into_iter().eq((1..=18).chain(20..=23)));
 }
 
 /// The borders of refusal 19, which the show program alone gives.

@@ -15,6 +15,7 @@ mod same_route;
 mod show;
 mod signed;
 mod writing;
+mod xdr;
 
 pub use choosing::choosing;
 pub use grammar::grammar;
@@ -26,6 +27,7 @@ pub use same_route::same_route;
 pub use show::show;
 pub use signed::signed;
 pub use writing::writing;
+pub use xdr::xdr_calls;
 
 use std::str::FromStr;
 

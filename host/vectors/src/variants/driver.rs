@@ -1,6 +1,6 @@
 //! The calls of the vectors, made of the model.
 
-use model::{Chosen, Place, Preview, Reading, Refusal, SameRouteRefusal, Writing};
+use model::{Chosen, Importing, Place, Preview, Reading, Refusal, SameRouteRefusal, Writing};
 
 use super::flat::{Call, Given, Outcome};
 
@@ -73,6 +73,15 @@ fn read(reading: Result<Reading, Refusal>, lent: Option<&[u64]>) -> Outcome {
 /// The outcome of a writing.
 fn written(writing: Result<Writing, Refusal>) -> Outcome {
     outcome(writing.map(|writing| (vec![writing.size as u64], vec![Given::Bytes(writing.out)])))
+}
+
+/// The outcome of an import, whose rows are put into the lent ones.
+fn imported(importing: Result<Importing, Refusal>, lent: &[u64]) -> Outcome {
+    outcome(importing.map(|importing| {
+        let numbers = vec![importing.rows.len() as u64 / 4, importing.used as u64];
+        let rows = filled(lent, &importing.rows);
+        (numbers, vec![rows, Given::Bytes(importing.store)])
+    }))
 }
 
 /// The outcome of a preview.
@@ -192,6 +201,19 @@ pub fn of_model(call: &Call) -> Outcome {
         }
         ("choose_grammar", [list, record]) => {
             chosen(model::choose_grammar(&short_words(list), bytes(record)))
+        }
+        ("export_xdr", [grammar, rows, n, store, out, index]) => {
+            let (grammar, rows, n) = (short_words(grammar), words(rows), size(n));
+            let (store, out, index) = (bytes(store), bytes(out), size(index));
+            written(model::export_xdr(&grammar, rows, n, store, out, index))
+        }
+        ("import_xdr", [grammar, record, rows, store]) => {
+            let (grammar, rows, store) = (short_words(grammar), words(rows), bytes(store));
+            let capacity = model::capacity(rows.len());
+            imported(
+                model::import_xdr(&grammar, bytes(record), capacity, store),
+                rows,
+            )
         }
         ("show", [input]) => (vec![0], vec![Given::Bytes(model::show(bytes(input)))]),
         (other, given) => panic!("{other} of {} fields", given.len()),

@@ -34,7 +34,7 @@ const LIST_WORDS: u64 = 28_722;
 pub const LONG: &str = "only a slice of 2^31 or more elements can tell";
 
 /// The bounds. A number that is written down is below the next one; those are not listed.
-const BOUNDS: [Bound; 66] = [
+const BOUNDS: [Bound; 84] = [
     Bound {
         file: "choosing.rs",
         functions: &["grammars"],
@@ -314,7 +314,7 @@ const BOUNDS: [Bound; 66] = [
         file: "refusal.rs",
         functions: &["~"],
         texts: &["number"],
-        below: 23,
+        below: 24,
         why: "a refusal's number",
     },
     Bound {
@@ -539,10 +539,161 @@ const BOUNDS: [Bound; 66] = [
         below: ROWS,
         why: "there are at most 4,096 rows",
     },
+    Bound {
+        file: "xdr.rs",
+        functions: &["~"],
+        texts: &["width"],
+        below: 9,
+        why: "a width is 1, 4 or 8",
+    },
+    Bound {
+        file: "xdr.rs",
+        functions: &["~"],
+        texts: &["zeros"],
+        below: 4,
+        why: "at most three bytes fill up",
+    },
+    Bound {
+        file: "xdr.rs",
+        functions: &["~"],
+        texts: &["kind"],
+        below: 11,
+        why: "a kind of a checked table",
+    },
+    Bound {
+        file: "xdr.rs",
+        functions: &["value", "values", "array", "case"],
+        texts: &["number", "element", "children[0]", "cases[tag as usize]"],
+        below: 256,
+        why: "a node's number",
+    },
+    Bound {
+        file: "xdr.rs",
+        functions: &["~"],
+        texts: &["children.len()", "cases.len()"],
+        below: 1_025,
+        why: "a node has at most 1,024 children",
+    },
+    Bound {
+        file: "xdr.rs",
+        functions: &["xdr_bytes"],
+        texts: &["*tag"],
+        below: 1_025,
+        why: "the tag of a value of the grammar",
+    },
+    Bound {
+        file: "xdr.rs",
+        functions: &["case"],
+        texts: &["tag#1", "tag#2"],
+        below: 1_025,
+        why: "compared with the number of cases before",
+    },
+    Bound {
+        file: "xdr.rs",
+        functions: &["~"],
+        texts: &["self.rows_left", "span", "values.len()", "capacity"],
+        below: ROWS,
+        why: "a capacity in force is at most 4,096",
+    },
+    Bound {
+        file: "xdr.rs",
+        functions: &["array"],
+        texts: &["count#1", "count#2"],
+        below: ROWS,
+        why: "compared with the rows left before",
+    },
+    Bound {
+        file: "xdr.rs",
+        functions: &["value"],
+        texts: &["below.len()"],
+        below: 16_381,
+        why: "the words of at most 4,095 rows",
+    },
+    Bound {
+        file: "xdr.rs",
+        functions: &["xdr_bytes"],
+        texts: &["*number#0"],
+        below: 1 << 32,
+        why: "the number of a uint32 or the pattern of an int32",
+    },
+    Bound {
+        file: "xdr.rs",
+        functions: &["array", "elements", "case"],
+        texts: &["count", "tag"],
+        below: 1 << 32,
+        why: "a number of 4 bytes",
+    },
+    Bound {
+        file: "xdr.rs",
+        functions: &["elements"],
+        texts: &["length", "length + zeros"],
+        below: 1 << 36,
+        why: "a number of 4 bytes times a width",
+    },
+    Bound {
+        file: "xdr.rs",
+        functions: &["elements"],
+        texts: &[
+            "length#2",
+            "length#3",
+            "length#4",
+            "count#1",
+            "place + length",
+        ],
+        below: 2 * BYTES,
+        why: "compared with the bytes left before",
+    },
+    Bound {
+        file: "xdr.rs",
+        functions: &["~"],
+        texts: &[
+            "self.position",
+            "start",
+            "place",
+            "word3",
+            "self.packed.len()",
+            "self.room",
+            "rest.len()",
+            "importer.position",
+            "record.len()",
+            "used",
+            "store.len()",
+            "importer.packed.len()",
+        ],
+        below: BYTES,
+        why: "a record and a store are at most 1,048,576 bytes long",
+    },
+    Bound {
+        file: "xdr.rs",
+        functions: &["xdr_size", "array_bytes", "export_xdr"],
+        texts: &[
+            "length",
+            "array.packed.len()",
+            "elements.packed.len()",
+            "count",
+            "bytes.len()",
+        ],
+        below: BYTES,
+        why: "a store, and what is exported, is at most 1,048,576 bytes long",
+    },
+    Bound {
+        file: "xdr.rs",
+        functions: &["export_xdr"],
+        texts: &["xdr_size(&value)"],
+        below: 1 << 32,
+        why: "the greatest size is below 2^32",
+    },
+    Bound {
+        file: "xdr.rs",
+        functions: &["export_xdr"],
+        texts: &["MOST_BYTES"],
+        below: BYTES,
+        why: "a constant",
+    },
 ];
 
 /// The exceptions.
-const EXCEPTIONS: [Exception; 66] = [
+const EXCEPTIONS: [Exception; 89] = [
     Exception {
         file: "choosing.rs",
         functions: &["grammars"],
@@ -1038,10 +1189,171 @@ const EXCEPTIONS: [Exception; 66] = [
         ways: &["left16", "left32", "signed", "cut16", "cut32", "extend16", "extend32"],
         why: "an input with so many words is too long, and one without them too short",
     },
+    Exception {
+        file: "xdr.rs",
+        functions: &["padding"],
+        texts: &["4#0", "4#1"],
+        ways: &["=8"],
+        why: "four more before the remainder by four is taken",
+    },
+    Exception {
+        file: "xdr.rs",
+        functions: &["padding"],
+        texts: &["length"],
+        ways: &["cut", "extend"],
+        why: "the remainder by four is in the lowest 8 bits",
+    },
+    Exception {
+        file: "xdr.rs",
+        functions: &["xdr_size"],
+        texts: &["length#1"],
+        ways: &["cut", "extend"],
+        why: "its remainder by four is asked, which is in the lowest 8 bits",
+    },
+    Exception {
+        file: "xdr.rs",
+        functions: &["array_bytes"],
+        texts: &["elements.packed.len()#1"],
+        ways: &["cut", "extend"],
+        why: "its remainder by four is asked, which is in the lowest 8 bits",
+    },
+    Exception {
+        file: "xdr.rs",
+        functions: &["elements"],
+        texts: &["length#0"],
+        ways: &["cut", "extend"],
+        why: "its remainder by four is asked, which is in the lowest 8 bits",
+    },
+    Exception {
+        file: "xdr.rs",
+        functions: &["number_bytes"],
+        texts: &["number"],
+        ways: &["cut32 for width 4"],
+        why: "a number of 4 bytes has 32 bits",
+    },
+    Exception {
+        file: "xdr.rs",
+        functions: &["array_bytes"],
+        texts: &["elements.packed.len()#0"],
+        ways: &["+1 for width 4", "+1 for width 8"],
+        why: "a multiple of the width, which is divided by it",
+    },
+    Exception {
+        file: "xdr.rs",
+        functions: &["array_bytes"],
+        texts: &["0"],
+        ways: &["+1 for width 4", "+1 for width 8", "-1 for width 4", "-1 for width 8"],
+        why: "elements of 4 and 8 bytes have no padding",
+    },
+    Exception {
+        file: "xdr.rs",
+        functions: &["elements"],
+        texts: &["behind[..zeros].iter().any(|&byte| byte != 0)"],
+        ways: &["false for width 4", "false for width 8"],
+        why: "elements of 4 and 8 bytes have no padding",
+    },
+    Exception {
+        file: "xdr.rs",
+        functions: &["export_xdr"],
+        texts: &["MOST_BYTES"],
+        ways: &["+1"],
+        why: "XDR has a multiple of four bytes, and so has the limit",
+    },
+    Exception {
+        file: "xdr.rs",
+        functions: &["elements"],
+        texts: &["length#1"],
+        ways: &["cut32 for width 1"],
+        why: "a number of 4 bytes has 32 bits",
+    },
+    Exception {
+        file: "xdr.rs",
+        functions: &["elements"],
+        texts: &["count#0"],
+        ways: &["extend32 for width 4", "extend32 for width 8"],
+        why: "a count of 2^31 or more is above all bytes left either way",
+    },
+    Exception {
+        file: "xdr.rs",
+        functions: &["array"],
+        texts: &["count#0"],
+        ways: &["extend32"],
+        why: "a count of 2^31 or more is above all rows left either way",
+    },
+    Exception {
+        file: "xdr.rs",
+        functions: &["case"],
+        texts: &["tag#0"],
+        ways: &["extend32"],
+        why: "a tag of 2^31 or more is above all cases either way",
+    },
+    Exception {
+        file: "xdr.rs",
+        functions: &["elements"],
+        texts: &["byte != 0"],
+        ways: &[">"],
+        why: "no number is below 0",
+    },
+    Exception {
+        file: "xdr.rs",
+        functions: &["value"],
+        texts: &["self.rows_left == 0"],
+        ways: &["<="],
+        why: "no number is below 0",
+    },
+    Exception {
+        file: "xdr.rs",
+        functions: &["value"],
+        texts: &["below.len()"],
+        ways: &["+1"],
+        why: "a multiple of 4, which is divided by 4",
+    },
+    Exception {
+        file: "xdr.rs",
+        functions: &["import_xdr"],
+        texts: &["importer.position < record.len()"],
+        ways: &["!="],
+        why: "a reading stops at the record's end at the latest",
+    },
+    Exception {
+        file: "xdr.rs",
+        functions: &["elements"],
+        texts: &["~if length + zeros > rest.len()", "~if place + length > self.room", "~if behind[..zeros]"],
+        ways: &["two statements"],
+        why: "the statement behind it refuses nothing",
+    },
+    Exception {
+        file: "xdr.rs",
+        functions: &["elements"],
+        texts: &["~if behind[..zeros]"],
+        ways: &["a refusal after"],
+        why: "what follows accepts, and a refused import gives no store",
+    },
+    Exception {
+        file: "xdr.rs",
+        functions: &["import_xdr"],
+        texts: &["check_length(record)?;"],
+        ways: &["two statements"],
+        why: "6 of the record and 6 of the store are the same refusal",
+    },
+    Exception {
+        file: "xdr.rs",
+        functions: &["import_xdr"],
+        texts: &["check_length(store)?;", "~if importer.position < record.len()"],
+        ways: &["two statements"],
+        why: "the statement behind it refuses nothing",
+    },
+    Exception {
+        file: "xdr.rs",
+        functions: &["import_xdr"],
+        texts: &["~if importer.position < record.len()"],
+        ways: &["a refusal after"],
+        why: "what follows accepts",
+    },
 ];
 
 /// Variants by hand: file, pieces of its text with what stands for each, what is broken.
-pub(super) const BY_HAND: [(&str, &[(&str, &str)], &str); 50] = [
+pub(super) const BY_HAND: [(&str, &[(&str, &str)], &str); 91] = [
     (
         "rows.rs",
         &[
@@ -1530,6 +1842,537 @@ pub(super) const BY_HAND: [(&str, &[(&str, &str)], &str); 50] = [
     }",
         )],
         "capacity 0 is refused with 8 at byte 0",
+    ),
+    (
+        "xdr.rs",
+        &[
+            (
+                "        let place = self.packed.len();
+        if place + length > self.room {
+            return Err(at_byte(17, self.room));
+        }
+        let (elements, behind) = rest.split_at(length);
+        if behind[..zeros].iter().any(|&byte| byte != 0) {
+            return Err(at_byte(23, start));
+        }",
+                "        let (elements, behind) = rest.split_at(length);
+        if behind[..zeros].iter().any(|&byte| byte != 0) {
+            return Err(at_byte(23, start));
+        }
+        let place = self.packed.len();
+        if place + length > self.room {
+            return Err(at_byte(17, self.room));
+        }",
+            ),
+        ],
+        "23 before 17",
+    ),
+    (
+        "xdr.rs",
+        &[
+            (
+                "        if length + zeros > rest.len() {
+            return Err(at_byte(9, start));
+        }
+        let place = self.packed.len();
+        if place + length > self.room {
+            return Err(at_byte(17, self.room));
+        }",
+                "        let place = self.packed.len();
+        if place + length > self.room {
+            return Err(at_byte(17, self.room));
+        }
+        if length + zeros > rest.len() {
+            return Err(at_byte(9, start));
+        }",
+            ),
+        ],
+        "17 before 9",
+    ),
+    (
+        "xdr.rs",
+        &[
+            (
+                "        if length + zeros > rest.len() {
+            return Err(at_byte(9, start));
+        }
+        let place = self.packed.len();
+        if place + length > self.room {
+            return Err(at_byte(17, self.room));
+        }
+        let (elements, behind) = rest.split_at(length);
+        if behind[..zeros].iter().any(|&byte| byte != 0) {
+            return Err(at_byte(23, start));
+        }",
+                "        let held = rest.get(length..).unwrap_or_default();
+        if held.iter().take(zeros).any(|&byte| byte != 0) {
+            return Err(at_byte(23, start));
+        }
+        if length + zeros > rest.len() {
+            return Err(at_byte(9, start));
+        }
+        let place = self.packed.len();
+        if place + length > self.room {
+            return Err(at_byte(17, self.room));
+        }
+        let elements = &rest[..length];",
+            ),
+        ],
+        "23 before 9, where some of the padding is there",
+    ),
+    (
+        "xdr.rs",
+        &[
+            (
+                "at_byte(17, self.room)",
+                "at_byte(17, place)",
+            ),
+        ],
+        "17 at the bytes used",
+    ),
+    (
+        "xdr.rs",
+        &[
+            (
+                "at_byte(17, self.room)",
+                "at_byte(17, place + length)",
+            ),
+        ],
+        "17 at the end wanted",
+    ),
+    (
+        "xdr.rs",
+        &[
+            (
+                "at_byte(17, self.room)",
+                "at_byte(17, start)",
+            ),
+        ],
+        "17 at the array's start",
+    ),
+    (
+        "xdr.rs",
+        &[
+            (
+                "if place + length > self.room",
+                "if length > self.room",
+            ),
+        ],
+        "each array alone is compared with the store",
+    ),
+    (
+        "xdr.rs",
+        &[
+            (
+                "        if behind[..zeros].iter().any(|&byte| byte != 0) {
+            return Err(at_byte(23, start));
+        }",
+                "        let _ = behind;",
+            ),
+        ],
+        "padding is not looked at",
+    ),
+    (
+        "xdr.rs",
+        &[
+            (
+                "at_byte(23, start)",
+                "at_byte(9, start)",
+            ),
+        ],
+        "padding that is not zero is refused with 9",
+    ),
+    (
+        "xdr.rs",
+        &[
+            (
+                "at_byte(23, start)",
+                "at_byte(23, start + 4 + length)",
+            ),
+        ],
+        "23 at the padding",
+    ),
+    (
+        "xdr.rs",
+        &[
+            (
+                "behind[..zeros].iter().any(",
+                "behind[..zeros].iter().take(1).any(",
+            ),
+        ],
+        "the first byte of the padding is looked at alone",
+    ),
+    (
+        "xdr.rs",
+        &[
+            (
+                "behind[..zeros].iter().any(",
+                "behind[..zeros].iter().rev().take(1).any(",
+            ),
+        ],
+        "the last byte of the padding is looked at alone",
+    ),
+    (
+        "xdr.rs",
+        &[
+            (
+                "    (4 - length % 4) % 4",
+                "    4 - length % 4",
+            ),
+        ],
+        "padding of four behind a multiple of four",
+    ),
+    (
+        "xdr.rs",
+        &[
+            (
+                "    (4 - length % 4) % 4",
+                "    length % 4",
+            ),
+        ],
+        "as many bytes of padding as are behind a multiple of four",
+    ),
+    (
+        "xdr.rs",
+        &[
+            (
+                "        let zeros = padding(length);",
+                "        let zeros = padding(length).min(rest.len().saturating_sub(length));",
+            ),
+        ],
+        "the padding may be missing at the end",
+    ),
+    (
+        "xdr.rs",
+        &[
+            (
+                "        let zeros = padding(length);",
+                "        let zeros = if width == 4 { length % 8 } else { padding(length) };",
+            ),
+            (
+                "    let zeros = vec![0; padding(elements.packed.len())];",
+                "    let length = elements.packed.len();
+    let zeros = vec![0; if width == 4 { length % 8 } else { padding(length) }];",
+            ),
+        ],
+        "an odd number of uint32 elements has padding",
+    ),
+    (
+        "xdr.rs",
+        &[
+            (
+                "    let zeros = vec![0; padding",
+                "    let zeros = vec![0xee; padding",
+            ),
+        ],
+        "the padding is as the output was",
+    ),
+    (
+        "xdr.rs",
+        &[
+            (
+                "[number_bytes(count as u64, 4), numbers, zeros].concat()",
+                "[number_bytes((count + zeros.len()) as u64, 4), numbers, zeros].concat()",
+            ),
+        ],
+        "the count of bytes counts the padding",
+    ),
+    (
+        "xdr.rs",
+        &[
+            (
+                "Ok((count, place as u64, vec![]))",
+                "Ok((count, (start + 4) as u64, vec![]))",
+            ),
+        ],
+        "the offset is the place in the record",
+    ),
+    (
+        "xdr.rs",
+        &[
+            (
+                "Ok((count, place as u64, vec![]))",
+                "Ok((count, if count == 0 { 0 } else { place as u64 }, vec![]))",
+            ),
+        ],
+        "the offset of an array without elements is 0",
+    ),
+    (
+        "xdr.rs",
+        &[
+            (
+                "Ok((count, place as u64, vec![]))",
+                "Ok((count, 0, vec![]))",
+            ),
+        ],
+        "every offset is 0",
+    ),
+    (
+        "xdr.rs",
+        &[
+            (
+                "        self.packed.extend(turned(elements, width));",
+                "        self.packed.extend(turned(elements, width));
+        self.packed.extend(vec![0; zeros.min(self.room - self.packed.len())]);",
+            ),
+        ],
+        "the padding is put into the store",
+    ),
+    (
+        "xdr.rs",
+        &[
+            (
+                "        self.packed.extend(turned(elements, width));",
+                "        self.packed.truncate(0);
+        self.packed.extend(turned(elements, width));",
+            ),
+        ],
+        "each array is put at byte 0 of the store",
+    ),
+    (
+        "xdr.rs",
+        &[
+            (
+                "number.iter().rev()",
+                "number.iter()",
+            ),
+        ],
+        "elements are least byte first",
+    ),
+    (
+        "xdr.rs",
+        &[
+            (
+                "    let numbers = bytes.chunks(width);",
+                "    let numbers = bytes.chunks(bytes.len().max(1));
+    let _ = width;",
+            ),
+        ],
+        "the bytes of an array are turned round as a whole",
+    ),
+    (
+        "xdr.rs",
+        &[
+            (
+                "    let numbers = bytes.chunks(width);",
+                "    let numbers = bytes.chunks(width.min(4));",
+            ),
+        ],
+        "the halves of uint64 elements are exchanged",
+    ),
+    (
+        "xdr.rs",
+        &[
+            (
+                "        self.position += width;
+        Ok(number(&rest[..width]))",
+                "        self.position += width;
+        let number = number(&rest[..width]);
+        Ok(if width == 8 { number.rotate_left(32) } else { number })",
+            ),
+            (
+                "    let mut bytes = digits(number, width);",
+                "    let number = if width == 8 { number.rotate_left(32) } else { number };
+    let mut bytes = digits(number, width);",
+            ),
+        ],
+        "the halves of a number of 8 bytes are exchanged",
+    ),
+    (
+        "xdr.rs",
+        &[
+            (
+                "    bytes.iter().fold(0, more)",
+                "    bytes.iter().rev().fold(0, more)",
+            ),
+            (
+                "    bytes.reverse();
+",
+                "",
+            ),
+        ],
+        "numbers, counts and tags are least byte first",
+    ),
+    (
+        "xdr.rs",
+        &[
+            (
+                "number_bytes(*tag, 4)",
+                "number_bytes(*tag, 8)",
+            ),
+            (
+                "        let tag = self.number(4)?;",
+                "        let tag = self.number(8)?;",
+            ),
+            (
+                "V::Case(_, value) => 4 + xdr_size(value)",
+                "V::Case(_, value) => 8 + xdr_size(value)",
+            ),
+        ],
+        "a tag of 8 bytes",
+    ),
+    (
+        "xdr.rs",
+        &[
+            (
+                "number_bytes(values.len() as u64, 4)",
+                "number_bytes(values.len() as u64, 8)",
+            ),
+            (
+                "        let count = self.number(4)?;
+        if count",
+                "        let count = self.number(8)?;
+        if count",
+            ),
+            (
+                "V::Array(values) => 4 + all_sizes(values)",
+                "V::Array(values) => 8 + all_sizes(values)",
+            ),
+        ],
+        "a count of values of 8 bytes",
+    ),
+    (
+        "xdr.rs",
+        &[
+            (
+                "number_bytes(count as u64, 4)",
+                "number_bytes(count as u64, 8)",
+            ),
+            (
+                "        let count = self.number(4)?;
+        let rest",
+                "        let count = self.number(8)?;
+        let rest",
+            ),
+        ],
+        "a count of elements of 8 bytes",
+    ),
+    (
+        "xdr.rs",
+        &[
+            (
+                "        V::Tuple(values) => all_bytes(values),",
+                "        V::Tuple(values) => [number_bytes(values.len() as u64, 4), all_bytes(values)].concat(),",
+            ),
+            (
+                "(children.len() as u64, 0, self.values(children)?)",
+                "{
+                self.number(4)?;
+                (children.len() as u64, 0, self.values(children)?)
+            }",
+            ),
+        ],
+        "a tuple has a count",
+    ),
+    (
+        "xdr.rs",
+        &[
+            (
+                "        V::Constant => vec![],",
+                "        V::Constant => vec![0; 4],",
+            ),
+            (
+                "            0 => (0, 0, vec![]),",
+                "            0 => {
+                self.number(4)?;
+                (0, 0, vec![])
+            }",
+            ),
+        ],
+        "a constant has four bytes",
+    ),
+    (
+        "xdr.rs",
+        &[
+            (
+                "    if xdr_size(&value) > MOST_BYTES as u64 {",
+                "    if crate::rows::size_of_v(&value) > MOST_BYTES as u64 {",
+            ),
+        ],
+        "16 by the size of the record",
+    ),
+    (
+        "xdr.rs",
+        &[
+            (
+                "    let bytes = xdr_bytes(&value);",
+                "    let size = crate::rows::size_of_v(&value);
+    if index as u128 + u128::from(size) > out.len() as u128 {
+        return Err(at_byte(17, out.len()));
+    }
+    let bytes = xdr_bytes(&value);",
+            ),
+        ],
+        "17 by the size of the record",
+    ),
+    (
+        "xdr.rs",
+        &[
+            (
+                "        rows_left: capacity,",
+                "        rows_left: 4096,",
+            ),
+        ],
+        "the capacity is not asked",
+    ),
+    (
+        "xdr.rs",
+        &[
+            (
+                "    check_length(store)?;",
+                "    check_length(&store[..store.len().min(record.len())])?;",
+            ),
+        ],
+        "of a store that is too long, the bytes needed are measured alone",
+    ),
+    (
+        "xdr.rs",
+        &[
+            (
+                "    check_length(record)?;",
+                "    check_length(record)?;
+    if store.len() < record.len() {
+        return Err(at_byte(17, store.len()));
+    }",
+            ),
+        ],
+        "a store as long as the record is wanted",
+    ),
+    (
+        "xdr.rs",
+        &[
+            (
+                "[&importer.packed, &store[used..]].concat()",
+                "[importer.packed, vec![0; store.len() - used]].concat()",
+            ),
+        ],
+        "the store behind the arrays is cleared",
+    ),
+    (
+        "xdr.rs",
+        &[
+            (
+                "    let rows = importer.value(0)?;",
+                "    let rows = importer.value(0)?;
+    if record.len() + rows.len() > MOST_BYTES {
+        return Err(at_row(16, 0));
+    }",
+            ),
+        ],
+        "an import that may be too long to write is refused",
+    ),
+    (
+        "xdr.rs",
+        &[
+            (
+                "        if tag >= cases.len() as u64 {",
+                "        if tag >= cases.len() as u64 && self.rows_left == 0 {
+            return Err(at_byte(8, self.position));
+        }
+        if tag >= cases.len() as u64 {",
+            ),
+        ],
+        "8 of the case value before 10",
     ),
 ];
 
