@@ -37,8 +37,8 @@ impl Program for Bincode {
     }
 }
 
-/// The call of bincode on a record of a type. It has no check, no preview, no same route and no
-/// choice of a grammar.
+/// The call of bincode on a record of a type. It has no check, no preview, no same route, no choice
+/// of a grammar and no XDR.
 fn contender<'a, T>(call: Call, record: &'a [u8]) -> Option<Contender<'a>>
 where
     T: Deserialize<'a> + Serialize + 'a,

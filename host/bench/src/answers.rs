@@ -107,6 +107,26 @@ pub fn of_rust(case: &Case) -> Outcome {
             out,
             index,
         } => answer(peer::pack_u32_seq(numbers, out, *index).map(|()| [])),
+        Case::ExportXdr {
+            grammar,
+            rows,
+            n,
+            store,
+            out,
+            index,
+        } => {
+            let size = peer::export_xdr(grammar, rows, *n, store, out, *index);
+            answer(size.map(|size| [size as u64]))
+        }
+        Case::ImportXdr {
+            grammar,
+            record,
+            rows,
+            store,
+        } => {
+            let imported = peer::import_xdr(grammar, record, rows, store);
+            answer(imported.map(|imported| [imported.rows as u64, imported.used as u64]))
+        }
         _ => return case.of_model(),
     };
     Outcome::with(answer, &after)
@@ -173,5 +193,25 @@ pub fn case_of(call: Call, input: &Input) -> Case {
             out: vec![0xa5; input.packed().len()],
             index: 0,
         },
+        Call::Export => {
+            let (rows, n) = input.rows();
+            Case::ExportXdr {
+                grammar,
+                rows,
+                n,
+                store: record,
+                out: vec![0xa5; input.xdr().len()],
+                index: 0,
+            }
+        }
+        Call::Import => {
+            let xdr = input.xdr();
+            Case::ImportXdr {
+                grammar,
+                rows: vec![0xa5; WORDS],
+                store: vec![0xa5; xdr.len()],
+                record: xdr,
+            }
+        }
     }
 }

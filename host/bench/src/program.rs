@@ -33,6 +33,10 @@ pub enum Call {
     Unpack,
     /// Packing those numbers.
     Pack,
+    /// Writing the record's value from its rows as XDR.
+    Export,
+    /// Reading that XDR into rows and a store.
+    Import,
 }
 
 impl Call {
@@ -49,6 +53,8 @@ impl Call {
             Call::Choose => "choose",
             Call::Unpack => "unpack",
             Call::Pack => "pack",
+            Call::Export => "export",
+            Call::Import => "import",
         }
     }
 }
@@ -142,6 +148,22 @@ macro_rules! contender {
                     calls::pack_u32_seq(black_box(&numbers), black_box(out), 0)
                 })
             }
+            Call::Export => {
+                let (rows, n) = input.rows();
+                let mut out = vec![0; input.xdr().len()];
+                Contender::new(move || {
+                    let (rows, out) = (black_box(&rows), black_box(&mut out));
+                    calls::export_xdr(black_box(grammar), rows, n, black_box(record), out, 0)
+                })
+            }
+            Call::Import => {
+                let xdr = input.xdr();
+                let (mut rows, mut store) = (vec![0; WORDS], vec![0; xdr.len()]);
+                Contender::new(move || {
+                    let (rows, store) = (black_box(&mut rows), black_box(&mut store));
+                    calls::import_xdr(black_box(grammar), black_box(&xdr), rows, store)
+                })
+            }
         }
     }};
 }
@@ -175,11 +197,20 @@ impl Program for Rust {
 /// The model's calls with the library's parameters.
 mod of_model {
     pub use model::{check_grammar, check_whole, check_whole_with, choose_grammar};
-    pub use model::{compute_size_of, marshall, preview, same_route};
-    use model::{Reading, Refusal};
+    pub use model::{compute_size_of, export_xdr, marshall, preview, same_route};
+    use model::{Importing, Reading, Refusal};
 
     pub fn demarshall(grammar: &[u32], record: &[u8], rows: &[u64]) -> Result<Reading, Refusal> {
         model::demarshall(grammar, record, model::capacity(rows.len()))
+    }
+
+    pub fn import_xdr(
+        grammar: &[u32],
+        record: &[u8],
+        rows: &[u64],
+        store: &[u8],
+    ) -> Result<Importing, Refusal> {
+        model::import_xdr(grammar, record, model::capacity(rows.len()), store)
     }
 
     pub fn unpack_u32_seq(
@@ -209,7 +240,8 @@ impl Program for Model {
     }
 }
 
-/// The copying of a record that is one array, beside which its writing is held.
+/// The copying of a record that is one array, beside which its writing is held, and of as many of its
+/// bytes as its XDR has, beside which its export is held.
 pub struct Copy;
 
 impl Program for Copy {
@@ -218,12 +250,17 @@ impl Program for Copy {
     }
 
     fn contender<'a>(&self, call: Call, input: &'a Input) -> Option<Contender<'a>> {
-        if call != Call::Write || input.rows().1 != 1 {
+        let size = match call {
+            Call::Write => input.record.len(),
+            Call::Export => input.xdr().len(),
+            _ => return None,
+        };
+        if input.rows().1 != 1 {
             return None;
         }
-        let mut out = vec![0; input.record.len()];
+        let mut out = vec![0; size];
         Some(Contender::new(move || {
-            black_box(&mut out).copy_from_slice(black_box(&input.record));
+            black_box(&mut out).copy_from_slice(black_box(&input.record[..size]));
         }))
     }
 }

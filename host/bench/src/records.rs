@@ -52,6 +52,16 @@ impl Input {
         out
     }
 
+    /// The XDR of the value of a record that is accepted.
+    pub fn xdr(&self) -> Vec<u8> {
+        let (rows, n) = self.rows();
+        let mut out = vec![0; self.record.len()];
+        let (grammar, store) = (&self.grammar, &self.record);
+        let exported = route_record::calls::export_xdr(grammar, &rows, n, store, &mut out, 0);
+        out.truncate(exported.expect("XDR is no longer than the record"));
+        out
+    }
+
     /// The packed numbers of a record that is a uint32 array: the bytes behind the count.
     pub fn packed(&self) -> &[u8] {
         &self.record[8..]

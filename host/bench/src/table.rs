@@ -23,12 +23,14 @@ const ROW_COUNTS: [usize; 5] = [16, 64, 256, 1_024, 4_096];
 const SPREAD: f64 = 1.3;
 
 /// The calls in the table for records of all sizes, behind the check.
-const CALLS: [Call; 5] = [
+const CALLS: [Call; 7] = [
     Call::Read,
     Call::Write,
     Call::Preview,
     Call::Size,
     Call::SameRoute,
+    Call::Export,
+    Call::Import,
 ];
 
 /// Measures and prints the table of calls.
@@ -49,9 +51,9 @@ pub fn calls(report: &mut Report, programs: &[&dyn Program]) {
         };
         for call in [check].into_iter().chain(CALLS) {
             let limit = match (call, size) {
-                (Call::Check | Call::Read | Call::Write | Call::Preview, "300 rows")
-                | (Call::Preview, "1 MiB") => beside_rust,
-                (Call::Write, "1 MiB") => Some(Limit::Beside("copy", RATIO)),
+                (Call::Size | Call::SameRoute, _) => None,
+                (_, "300 rows") | (Call::Preview | Call::Import, "1 MiB") => beside_rust,
+                (Call::Write | Call::Export, "1 MiB") => Some(Limit::Beside("copy", RATIO)),
                 _ => None,
             };
             line(report, programs, call, (size, input()), limit);

@@ -5,7 +5,7 @@ use bench::answers::{case_of, of_rust};
 use bench::program::Call;
 use bench::records::{self, Input};
 use compare::{on_large_stack, run, Answer, Answers};
-use route_record::{Refusal, CHECK_ROWS, MAX_BYTES};
+use route_record::{Refusal, CHECK_ROWS, MAX_BYTES, ROW_WORDS};
 use vectors::{Vector, FILES};
 
 #[test]
@@ -63,6 +63,32 @@ fn assert_accepted(input: &Input, rows: usize) {
     assert_eq!(answer(Call::SameRoute, input), Answer::Accepted(vec![1]));
     let given = vec![0, rows as u64];
     assert_eq!(answer(Call::Choose, input), Answer::Accepted(given));
+    let given = vec![xdr_size(input)];
+    assert_eq!(answer(Call::Export, input), Answer::Accepted(given));
+    let given = vec![rows as u64, array_bytes(input)];
+    assert_eq!(answer(Call::Import, input), Answer::Accepted(given));
+}
+
+/// The bytes of the elements of the record's byte arrays and arrays of numbers.
+fn array_bytes(input: &Input) -> u64 {
+    let (rows, _) = input.rows();
+    let bytes = rows.chunks(ROW_WORDS).map(|row| match row[0] {
+        5 => row[2],
+        6 => 4 * row[2],
+        _ => 0,
+    });
+    bytes.sum()
+}
+
+/// The size of the record less 4 bytes for each count and tag, and the padding of byte arrays.
+fn xdr_size(input: &Input) -> u64 {
+    let (rows, _) = input.rows();
+    let size = input.record.len() as u64;
+    rows.chunks(ROW_WORDS).fold(size, |size, row| match row[0] {
+        3 | 6 | 8 => size - 4,
+        5 => size - 4 + row[2].wrapping_neg() % 4,
+        _ => size,
+    })
 }
 
 #[test]
@@ -79,6 +105,7 @@ fn what_the_bench_accepts() {
     assert_accepted(&records::wide_tuple(), 1_025);
     assert_accepted(&records::long_array(), 1);
     assert_eq!(records::long_array().record.len(), MAX_BYTES);
+    assert_eq!(records::long_array().xdr().len(), MAX_BYTES - 4);
 }
 
 /// The values begun are the uint64 array; the array of uint32 and as many elements as the mix has

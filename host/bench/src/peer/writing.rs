@@ -71,10 +71,26 @@ fn admit<'a>(
     length: usize,
     index: usize,
 ) -> Result<(&'a [Row], usize), Refusal> {
+    let rows = value_in_grammar(words, rows, n, store)?;
+    let size = check_room(size_of(rows), length, index)?;
+    Ok((rows, size))
+}
+
+/// The rows of a value of the grammar: all refusals before 16.
+pub(super) fn value_in_grammar<'a>(
+    words: &[u32],
+    rows: &'a [u64],
+    n: usize,
+    store: &[u8],
+) -> Result<&'a [Row], Refusal> {
     let grammar = Grammar::of(words)?;
     let rows = check_rows(rows, n, store)?;
     check_value(grammar, rows, 0, 0)?;
-    let size = size_of(rows);
+    Ok(rows)
+}
+
+/// The size, where it is not too large and has room at `index` of an output of this length.
+pub(super) fn check_room(size: u64, length: usize, index: usize) -> Result<usize, Refusal> {
     if size > MAX_BYTES as u64 {
         return Err(Refusal::at_row(16, 0));
     }
@@ -83,7 +99,7 @@ fn admit<'a>(
     if !fits {
         return Err(Refusal::at_byte(17, length));
     }
-    Ok((rows, size))
+    Ok(size)
 }
 
 /// The size in bytes of the value that `n` rows stand for.
@@ -130,7 +146,7 @@ fn check_value(grammar: Grammar, rows: &[Row], row: usize, k: usize) -> Result<(
 }
 
 /// The bytes of an element of the arrays of a kind, 0 for a kind without elements.
-fn element_width(kind: u64) -> u64 {
+pub(super) fn element_width(kind: u64) -> u64 {
     match kind {
         5 => 1,
         6 => 4,
