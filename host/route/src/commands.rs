@@ -6,6 +6,7 @@ use route_record::MAX_ROWS;
 
 use crate::answer::Stop;
 use crate::arguments::Arguments;
+use crate::hex::hex_lines;
 use crate::tree::{tree, SHOWN};
 
 /// A command: what it takes, what the help says of it, and what it does.
@@ -41,7 +42,7 @@ impl Command {
 }
 
 /// All commands, in the order of the help.
-pub static COMMANDS: [Command; 7] = [
+pub static COMMANDS: [Command; 9] = [
     Command {
         name: "check",
         takes_list: false,
@@ -128,6 +129,34 @@ pub static COMMANDS: [Command; 7] = [
         run: preview,
     },
     Command {
+        name: "export",
+        takes_list: false,
+        count: 1..=1,
+        takes_output: false,
+        options: &[],
+        records: "RECORD",
+        summary: "Reads the whole record and prints the XDR of its value, the bytes of\n\
+                  RFC 4506, in hexadecimal digits.",
+        example: "echo 07000000 0200000000000000 4142 | \
+                  route export -g 'tuple(u32, bytes)' --hex -",
+        printed: "00000007 00000002 41420000\n",
+        run: export,
+    },
+    Command {
+        name: "import",
+        takes_list: false,
+        count: 1..=1,
+        takes_output: false,
+        options: &[],
+        records: "XDR",
+        summary: "Reads the whole XDR and prints the record of its value, in hexadecimal\n\
+                  digits. A value of 1 MiB of XDR may be too long for a record: refusal 16.",
+        example: "echo 00000007 00000002 41420000 | \
+                  route import -g 'tuple(u32, bytes)' --hex -",
+        printed: "07000000 02000000 00000000 4142\n",
+        run: import,
+    },
+    Command {
         name: "words",
         takes_list: false,
         count: 0..=0,
@@ -206,6 +235,19 @@ fn preview(arguments: &Arguments) -> Result<String, Stop> {
         "bytes {}, different {}\n",
         preview.size, preview.changed
     ))
+}
+
+fn export(arguments: &Arguments) -> Result<String, Stop> {
+    let grammar = arguments.grammar()?;
+    let record = arguments.record(0)?;
+    let value = grammar.demarshall_vec(&record)?;
+    Ok(hex_lines(&grammar.export_xdr_vec(&value)?))
+}
+
+fn import(arguments: &Arguments) -> Result<String, Stop> {
+    let grammar = arguments.grammar()?;
+    let value = grammar.import_xdr_vec(&arguments.record(0)?)?;
+    Ok(hex_lines(&grammar.marshall_vec(&value)?))
 }
 
 fn words(arguments: &Arguments) -> Result<String, Stop> {

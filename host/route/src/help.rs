@@ -17,8 +17,8 @@ Options:
     -g, --grammar TEXT    the grammar itself; there is no argument GRAMMAR then.
                           Also -gTEXT and --grammar=TEXT. For choose once for
                           each grammar
-    --hex                 records and outputs are hexadecimal digits; white
-                          space is ignored
+    --hex                 records, XDR and outputs that are read are hexadecimal
+                          digits; white space is ignored
     --index I             the byte where the value starts, for preview in the
                           output; bytes may follow it. Without it size and
                           preview start at 0 and tree reads it whole
@@ -49,12 +49,12 @@ pub fn text(command: Option<&Command>) -> String {
     let forms = format!("{},\n    {}", without.join(", "), with_children.join(", "));
     format!(
         "\
-Checks, shows and compares route records, chooses their grammars and previews
-writing them.
+Checks, shows and compares route records, chooses their grammars, previews
+writing them and turns them into XDR and back.
 
 {commands}\
-Arguments are files; one may be -, standard input. Records and outputs are raw
-bytes.
+Arguments are files; one may be -, standard input. Records, XDR and outputs are
+raw bytes.
 A grammar is a type, where T is again a type:
     {forms}
 {NOTES}"

@@ -1,4 +1,4 @@
-//! Texts that are no grammar: bytes as UTF-8, and a record in hexadecimal digits.
+//! Texts that are no grammar: bytes as UTF-8, and bytes in hexadecimal digits.
 
 use std::str;
 
@@ -44,6 +44,16 @@ pub fn parse_hex(text: &str) -> Result<Vec<u8>, TextError> {
     high.map_or(Ok(bytes), |_| Err(end()))
 }
 
+/// Bytes in hexadecimal digits, four bytes together and 32 to a line.
+pub fn hex_lines(bytes: &[u8]) -> String {
+    let digits = |bytes: &[u8]| -> String { bytes.iter().map(|b| format!("{b:02x}")).collect() };
+    let line = |bytes: &[u8]| {
+        let groups: Vec<String> = bytes.chunks(4).map(digits).collect();
+        groups.join(" ") + "\n"
+    };
+    bytes.chunks(32).map(line).collect()
+}
+
 #[cfg(test)]
 mod tests {
     use super::*;
@@ -52,6 +62,19 @@ mod tests {
     fn white_space_is_passed_over() {
         assert_eq!(parse_hex(" \n").unwrap(), []);
         assert_eq!(parse_hex("00fF\t0 7\r\n41").unwrap(), [0, 255, 7, 0x41]);
+    }
+
+    #[test]
+    fn bytes_are_printed_by_lines_that_are_read_again() {
+        assert_eq!(hex_lines(&[]), "");
+        assert_eq!(hex_lines(&[0, 255, 7, 16, 0x4a]), "00ff0710 4a\n");
+        let line = ["07070707"; 8].join(" ");
+        assert_eq!(hex_lines(&[7; 32]), format!("{line}\n"));
+        assert_eq!(hex_lines(&[7; 33]), format!("{line}\n07\n"));
+        for length in 0..100 {
+            let bytes: Vec<u8> = (0..length).map(|i| 2 * i + 1).collect();
+            assert_eq!(parse_hex(&hex_lines(&bytes)).unwrap(), bytes);
+        }
     }
 
     #[test]

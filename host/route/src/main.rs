@@ -1,5 +1,5 @@
-//! The command line tool: checks, shows and compares route records, chooses their grammars and
-//! previews writing them.
+//! The command line tool: checks, shows and compares route records, chooses their grammars, previews
+//! writing them and turns them into XDR and back.
 
 #![forbid(unsafe_code)]
 

@@ -112,14 +112,24 @@ fn every_command_takes_values_of_up_to_4096_rows() {
         assert_eq!(of_record("choose"), chosen(0, begun));
         let preview = route(&["preview", CONSTANTS, record, record], b"");
         assert_eq!(preview, previewed(8, 0));
+        let xdr = format!("{count:08x}\n");
+        assert_eq!(of_record("export"), printed(0, &xdr));
+        let imported = route(&["import", CONSTANTS, "--hex", "-"], xdr.as_bytes());
+        let [least, most] = [count % 256, count / 256];
+        assert_eq!(
+            imported,
+            printed(0, &format!("{least:02x}{most:02x}0000 00000000\n"))
+        );
     }
 
     let record = &file(&folder, "record", constants(4_096));
     let refusal = refused(8, Place::Byte(0));
-    for command in ["check", "tree", "size"] {
+    for command in ["check", "tree", "size", "export"] {
         let got = route(&[command, CONSTANTS, record], b"");
         assert_eq!(got, refusal, "{command}");
     }
+    let got = route(&["import", CONSTANTS, "-"], &4_096_u32.to_be_bytes());
+    assert_eq!(got, refusal);
     let of_first = printed(1, &format!("the first record: {}", refusal.stdout));
     let got = route(&["same", CONSTANTS, record, small], b"");
     assert_eq!(got, of_first);
@@ -443,6 +453,73 @@ fn preview_of_the_longest_record_and_in_longer_outputs() {
         preview(2 * MAX_BYTES + 1),
         refused(17, Place::Byte(end as u64))
     );
+}
+
+/// A tuple of an int32, bytes and an array of uint32, its record, and its XDR.
+const TRIMS: &str = "-gtuple(i32, bytes, u32s)";
+const TRIMS_RECORD: &str = "ffffffff 02000000 00000000 41420100 00000000 00007856 3412\n";
+const TRIMS_XDR: &str = "ffffffff 00000002 41420000 00000001 12345678\n";
+
+#[test]
+fn export_and_import_turn_bytes_into_each_other() {
+    let folder = folder("xdr");
+    let record = &file(&folder, "record.hex", TRIMS_RECORD);
+    let xdr = &file(&folder, "xdr.hex", TRIMS_XDR);
+    for (command, given, expected) in [("export", record, TRIMS_XDR), ("import", xdr, TRIMS_RECORD)]
+    {
+        let got = route(&[command, TRIMS, "--hex", given], b"");
+        assert_eq!(got, printed(0, expected));
+    }
+    let raw = [0, 0, 0, 7, 0, 0, 0, 2, 0x41, 0x42, 0, 0];
+    let digits = "00000007 00000002 41420000\n";
+    assert_eq!(
+        route(&["export", "-g", WORDS, "-"], &RECORD),
+        printed(0, digits)
+    );
+    let digits = "07000000 02000000 00000000 4142\n";
+    assert_eq!(
+        route(&["import", "-g", TYPES, "-"], &raw),
+        printed(0, digits)
+    );
+    for command in ["export", "import"] {
+        assert_eq!(route(&[command, "-gconstant", "-"], b""), printed(0, ""));
+    }
+}
+
+/// The file of RFC 4506, section 7: its name, its type, its owner and its data.
+#[test]
+fn import_of_the_file_of_the_rfc() {
+    let grammar = "-gs = bytes; tuple(s, union(constant, s, s), s, s)";
+    let xdr = "00000009 73696c6c 7970726f 67000000 00000002 00000004 6c697370 00000004\n\
+               6a6f686e 00000006 28717569 74290000\n";
+    let record = "09000000 00000000 73696c6c 7970726f 67020000 00000000 00040000 00000000\n\
+                  006c6973 70040000 00000000 006a6f68 6e060000 00000000 00287175 697429\n";
+    let got = route(&["import", grammar, "--hex", "-"], xdr.as_bytes());
+    assert_eq!(got, printed(0, record));
+    let got = route(&["export", grammar, "--hex", "-"], record.as_bytes());
+    assert_eq!(got, printed(0, xdr));
+}
+
+#[test]
+fn export_and_import_refuse_as_reading_does() {
+    let hex = |command, digits: &str| route(&[command, TRIMS, "--hex", "-"], digits.as_bytes());
+    let byte = |number, byte| refused(number, Place::Byte(byte));
+    let record = TRIMS_RECORD.trim_end();
+    assert_eq!(hex("export", &record[..record.len() - 2]), byte(9, 14));
+    assert_eq!(hex("export", &format!("{record}00")), byte(11, 26));
+    let xdr = TRIMS_XDR.trim_end();
+    assert_eq!(hex("import", &xdr[..xdr.len() - 2]), byte(9, 12));
+    assert_eq!(hex("import", &format!("{xdr}00")), byte(11, 20));
+    let padded = hex("import", &xdr.replace("41420000", "41420001"));
+    let line =
+        "refused 23 at byte 4: the padding of the byte array that starts there is not zero\n";
+    assert_eq!(padded, printed(1, line));
+
+    // A value whose XDR is short enough and whose record is not.
+    let array = [&[0, 0, 0, 252][..], &[7; 252]].concat();
+    let long = [&4_095_u32.to_be_bytes(), &array.repeat(4_095)[..]].concat();
+    let got = route(&["import", "-garray(bytes)", "-"], &long);
+    assert_eq!(got, refused(16, Place::Row(0)));
 }
 
 #[test]

@@ -1,4 +1,4 @@
-//! The tree of random records.
+//! The tree of random records, and their XDR.
 
 use compare::{Random, Record, Table};
 use route_record::{Class, KINDS};
@@ -44,5 +44,30 @@ fn the_tree_of_a_record_says_where_its_values_start() {
         let check = route(&["check", "-g", &words, "-"], &record.bytes);
         assert_eq!(check, printed(0, &accepted));
         rows += record.rows;
+    }
+}
+
+/// What is exported is imported as the record.
+#[test]
+fn the_xdr_of_a_record_gives_the_record() {
+    let (mut rows, mut bytes) = (0, 0);
+    let mut random = Random::new(43);
+    while rows < 3_000 || bytes < 10_000 {
+        let table = Table::any(&mut random);
+        let Some(record) = Record::of(&table, &mut random, 100) else {
+            continue;
+        };
+        let words: Vec<String> = table.words().iter().map(u32::to_string).collect();
+        let words = words.join(" ");
+        let exported = route(&["export", "-g", &words, "-"], &record.bytes);
+        assert_eq!(exported, printed(0, &exported.stdout));
+        let xdr = exported.stdout.as_bytes();
+        let imported = route(&["import", "-g", &words, "--hex", "-"], xdr);
+        assert_eq!(imported, printed(0, &imported.stdout));
+        let digits: String = imported.stdout.split_whitespace().collect();
+        let expected: String = record.bytes.iter().map(|b| format!("{b:02x}")).collect();
+        assert_eq!(digits, expected);
+        rows += record.rows;
+        bytes += record.bytes.len();
     }
 }

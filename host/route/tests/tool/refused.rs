@@ -26,6 +26,8 @@ fn every_command_refuses_a_refused_grammar() {
         ("same", &[record, record]),
         ("size", &[record]),
         ("preview", &[record, record]),
+        ("export", &[record]),
+        ("import", &[record]),
         ("words", &[]),
     ] {
         let arguments = ["-g", grammar]
@@ -62,4 +64,8 @@ fn a_record_longer_than_the_library_reads() {
     let longer = [&most[..], &[0]].concat();
     let got = route(&["choose", "-gu32", "-gbytes", "-"], &longer);
     assert_eq!(got, refused(6, Place::Byte(0)));
+    for command in ["export", "import"] {
+        let got = route(&[command, "-gbytes", "-"], &longer);
+        assert_eq!(got, refused(6, Place::Byte(0)), "{command}");
+    }
 }

@@ -73,6 +73,8 @@ fn arguments_that_a_command_does_not_take() {
     let same = "route same GRAMMAR FIRST SECOND";
     let choose = "route choose GRAMMAR.. RECORD";
     let preview = "route preview GRAMMAR RECORD OUTPUT [--index I]";
+    let export = "route export GRAMMAR RECORD";
+    let import = "route import GRAMMAR XDR";
     let words = "route words GRAMMAR [--c NAME]";
     for (line, fault, usage) in [
         ("check", "the grammar is missing", check),
@@ -103,6 +105,20 @@ fn arguments_that_a_command_does_not_take() {
         ("preview g r", "the output is missing", preview),
         ("preview --hex -g u32 r", "the output is missing", preview),
         ("preview g r o o", "there are too many arguments", preview),
+        ("export g", "a record is missing", export),
+        ("export g r o", "there are too many arguments", export),
+        (
+            "export g r --index 0",
+            "--index is for another command",
+            export,
+        ),
+        ("import -g u32", "a record is missing", import),
+        ("import g r r", "there are too many arguments", import),
+        (
+            "import g r --rows 1",
+            "--rows is for another command",
+            import,
+        ),
         ("tree g r r", "there are too many arguments", tree),
         ("words -g u32 g", "there are too many arguments", words),
         ("words g --hex", "--hex is for records", words),
