@@ -1,7 +1,7 @@
 /* example.c: previews and writes a route as a record, reads it back with a trim below zero,
  * compares it with another box's records, previews a save over one of them, reads the record from a
- * link that drops its tail, sending for it again on refusal 9 alone, and chooses the grammar of
- * records of two kinds.
+ * link that drops its tail, sending for it again on refusal 9 alone, chooses the grammar of records
+ * of two kinds, and exports the route as XDR and imports it.
  *
  *     cc -std=c11 -Wall -Wextra -Werror -Ihost/c host/c/example.c target/staticlib/libroute_c.a */
 
@@ -195,6 +195,36 @@ static int print_kind(const uint8_t *record, size_t length)
     return 1;
 }
 
+/* Writes the route as XDR, as the rack controller reads it, and reads that into rows and a store of
+ * its own. Prints the first four numbers, which are the serial number, the count of channels, the
+ * first channel's number and its trim, and what the import gives. Gives whether the route came back
+ * as it was. */
+static int print_xdr(void)
+{
+    uint8_t xdr[128], arrays[sizeof store];
+    uint64_t read[WORDS];
+    route_answer answer = route_export_xdr(grammar, GRAMMAR_WORDS, rows, WORDS, ROWS, store,
+                                           sizeof store, xdr, sizeof xdr, 0);
+    if (answer.number != 0) {
+        print_refusal("export", answer);
+        return 0;
+    }
+    size_t length = (size_t)answer.first;
+    printf("XDR of %zu bytes:", length);
+    for (size_t i = 0; i < 16; i++)
+        printf(i % 4 == 0 ? " %02x" : "%02x", xdr[i]);
+    printf(" ..\n");
+    answer =
+        route_import_xdr(grammar, GRAMMAR_WORDS, xdr, length, read, WORDS, arrays, sizeof arrays);
+    if (answer.number != 0) {
+        print_refusal("import", answer);
+        return 0;
+    }
+    printf("import: rows %" PRIu64 ", bytes of the store %" PRIu64 "\n", answer.first,
+           answer.second);
+    return memcmp(read, rows, sizeof rows) == 0 && memcmp(arrays, store, sizeof store) == 0;
+}
+
 int main(void)
 {
     uint8_t record[128] = {0};
@@ -223,5 +253,8 @@ int main(void)
 
     /* The record's first four bytes, the serial number, and the whole record, as two records that
      * come over one port. */
-    return print_kind(record, 4) && print_kind(record, length) ? 0 : 1;
+    if (!print_kind(record, 4) || !print_kind(record, length))
+        return 1;
+
+    return print_xdr() ? 0 : 1;
 }

@@ -349,6 +349,10 @@ static void test_lengths(void)
         CHECK(refused(route_check_whole_with(constant, of_u32[i], bytes, 8, 0), 2, 1, 4));
         CHECK(refused(route_choose_grammar(no_grammars, of_u32[i], bytes, 8), 21, 1, 0));
         CHECK(refused(route_choose_grammar(list, of_u32[i], bytes, 8), 21, 1, 0));
+        CHECK(refused(route_import_xdr(constant, of_u32[i], bytes, 8, u64, 4, forbidden, 8), 2, 1,
+                      4));
+        CHECK(refused(route_import_xdr(constant, 5, bytes, 8, u64, of_u64[i], forbidden, 8), 11, 2,
+                      0));
     }
     for (int i = 0; i < 2; i++) {
         CHECK(refused(route_unpack_u32(forbidden, of_u8[i], of_u8[i]), 9, 2, of_u8[i]));
@@ -363,22 +367,25 @@ static void test_lengths(void)
         CHECK(equal(route_same_route(constant, 5, bytes, 0, forbidden, of_u8[i]),
                     (route_answer){6, 2, 0, 0, 2}));
         CHECK(refused(route_choose_grammar(list, 7, forbidden, of_u8[i]), 6, 2, 0));
+        CHECK(refused(route_import_xdr(constant, 5, forbidden, of_u8[i], u64, 4, out, 8), 6, 2, 0));
+        CHECK(
+            refused(route_import_xdr(constant, 5, bytes, 0, u64, 4, forbidden, of_u8[i]), 6, 2, 0));
         CHECK(gives(route_marshall(constant, 5, (const uint64_t[]){0, 1, 0, 0}, of_u64[i], 1, NULL,
                                    0, forbidden, of_u8[i]),
                     0));
     }
 }
 
-/* Lengths of outputs that no memory holds: a preview that is refused, or of no bytes, does not
- * touch the output. */
-static void test_preview_lengths(void)
+/* Lengths of outputs that no memory holds: a preview or an export that is refused, or of no bytes,
+ * does not touch the output. */
+static void test_output_lengths(void)
 {
     static const uint32_t constant[] = {1, 0, 0, 0, 0}, number[] = {1, 1, 0, 0, 0};
     static const uint64_t constant_row[] = {0, 1, 0, 0}, number_row[] = {1, 1, 7, 0};
-    const uint8_t *forbidden = pages[0] + PAGES_SIZE;
+    uint8_t *forbidden = pages[0] + PAGES_SIZE;
     const size_t lengths[] = {SIZE_MAX / 2, SIZE_MAX};
 
-    subject = "lengths of a previewed output";
+    subject = "lengths of an output";
     for (int i = 0; i < 2; i++) {
         size_t length = lengths[i];
         CHECK(gives_two(
@@ -387,6 +394,12 @@ static void test_preview_lengths(void)
         CHECK(refused(
             route_preview(number, 5, number_row, 4, 1, NULL, 0, forbidden, length, length - 3), 17,
             2, length));
+        CHECK(gives(
+            route_export_xdr(constant, 5, constant_row, 4, 1, NULL, 0, forbidden, length, length),
+            0));
+        CHECK(refused(
+            route_export_xdr(number, 5, number_row, 4, 1, NULL, 0, forbidden, length, length - 3),
+            17, 2, length));
     }
 }
 
@@ -429,6 +442,47 @@ static void test_longest(void)
     CHECK(refused(route_choose_grammar(list, 13, record, ROUTE_MAX_BYTES - 1), 22, 2, 0));
 }
 
+/* The longest XDR, of bytes that are not all the same, and a byte more. Its record is too long to
+ * be written, since its count has 4 bytes more. */
+static void test_longest_xdr(void)
+{
+    enum { COUNT = ROUTE_MAX_BYTES - 4, OUT = ROUTE_MAX_BYTES + 14 };
+    static const uint32_t grammar[] = {1, ROUTE_KIND_BYTE_ARRAY, 0, 0, 0};
+    static const uint64_t row[] = {ROUTE_KIND_BYTE_ARRAY, 1, COUNT, 0};
+    static const uint64_t longer[] = {ROUTE_KIND_BYTE_ARRAY, 1, COUNT + 1, 0};
+    static uint8_t elements[ROUTE_MAX_BYTES], store[ROUTE_MAX_BYTES], out[OUT];
+    uint64_t rows[ROUTE_ROW_WORDS];
+
+    subject = "the longest XDR";
+    for (size_t i = 0; i < ROUTE_MAX_BYTES; i++)
+        elements[i] = (uint8_t)(i % 251);
+    memset(out, FILL, OUT);
+    memset(store, FILL, ROUTE_MAX_BYTES);
+    CHECK(
+        refused(route_export_xdr(grammar, 5, longer, 4, 1, elements, ROUTE_MAX_BYTES, out, OUT, 5),
+                16, 3, 0));
+    CHECK(refused(route_marshall_val(grammar, 5, row, 4, 1, elements, ROUTE_MAX_BYTES, out, OUT, 5),
+                  16, 3, 0));
+    CHECK(gives(route_export_xdr(grammar, 5, row, 4, 1, elements, ROUTE_MAX_BYTES, out, OUT, 5),
+                ROUTE_MAX_BYTES));
+    CHECK(out[5] == 0 && out[6] == 0x0f && out[7] == 0xff && out[8] == 0xfc);
+    CHECK(memcmp(out + 9, elements, COUNT) == 0);
+    for (size_t i = 0; i < 5; i++)
+        CHECK(out[i] == FILL && out[OUT - 1 - i] == FILL);
+    CHECK(refused(route_import_xdr(grammar, 5, out + 5, ROUTE_MAX_BYTES, rows, ROUTE_ROW_WORDS,
+                                   store, COUNT - 1),
+                  17, 2, COUNT - 1));
+    CHECK(refused(route_import_xdr(grammar, 5, out + 5, ROUTE_MAX_BYTES + 1, rows, ROUTE_ROW_WORDS,
+                                   store, ROUTE_MAX_BYTES),
+                  6, 2, 0));
+    CHECK(gives_two(route_import_xdr(grammar, 5, out + 5, ROUTE_MAX_BYTES, rows, ROUTE_ROW_WORDS,
+                                     store, ROUTE_MAX_BYTES),
+                    1, COUNT));
+    CHECK(memcmp(rows, row, sizeof row) == 0 && memcmp(store, elements, COUNT) == 0);
+    for (size_t i = COUNT; i < ROUTE_MAX_BYTES; i++)
+        CHECK(store[i] == FILL);
+}
+
 /* The numbers of rows that the header names are those of the calls: an array of constants that has
  * so many rows, its own among them, is accepted, and one that has a row more is not. */
 static void test_rows(void)
@@ -461,6 +515,15 @@ static void test_rows(void)
     CHECK(equal(route_same_route(grammar, 9, most, 8, more, 8), (route_answer){8, 2, 0, 0, 2}));
     CHECK(gives_two(route_choose_grammar(list, 11, most, 8), 0, ROUTE_MAX_ROWS));
     CHECK(refused(route_choose_grammar(list, 11, more, 8), 22, 2, 0));
+
+    static const uint8_t most_xdr[] = {0, 0, 0x0f, 0xff}, more_xdr[] = {0, 0, 0x10, 0};
+    static uint64_t rows[ROUTE_ROW_WORDS * (ROUTE_MAX_ROWS + 1)];
+    for (int i = 0; i < 2; i++) {
+        size_t words = ROUTE_ROW_WORDS * capacities[i];
+        CHECK(gives_two(route_import_xdr(grammar, 9, most_xdr, 4, rows, words, NULL, 0),
+                        ROUTE_MAX_ROWS, 0));
+        CHECK(refused(route_import_xdr(grammar, 9, more_xdr, 4, rows, words, NULL, 0), 8, 2, 0));
+    }
 }
 
 /* Arrays that are only read may be the same one, or overlap. */
@@ -486,6 +549,13 @@ static void test_overlapping(void)
     CHECK(gives_two(route_preview(bytes, 5, row, 4, 1, record, 10, record, 10, 0), 10, 0));
     CHECK(gives_two(route_preview(bytes, 5, row, 4, 1, record, 10, record + 1, 10, 0), 10, 1));
     CHECK(gives_two(route_preview(bytes, 5, row, 4, 1, record + 1, 10, record, 16, 6), 10, 1));
+
+    static const uint8_t of_the_row[] = {0, 0, 0, 2, 1, 0, 0, 0};
+    uint8_t out[8];
+    subject = "rows that are the store";
+    CHECK(gives(route_export_xdr(bytes, 5, row, 4, 1, (const uint8_t *)row, sizeof row, out, 8, 0),
+                8));
+    CHECK(memcmp(out, of_the_row, 8) == 0);
 }
 
 /* A signed number by the casts of the header: its pattern in the row, and `first` of the answer. */
@@ -522,8 +592,9 @@ int main(void)
     map_pages();
     run_vectors();
     test_lengths();
-    test_preview_lengths();
+    test_output_lengths();
     test_longest();
+    test_longest_xdr();
     test_rows();
     test_overlapping();
     test_casts();

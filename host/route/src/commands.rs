@@ -150,7 +150,7 @@ pub static COMMANDS: [Command; 9] = [
         options: &[],
         records: "XDR",
         summary: "Reads the whole XDR and prints the record of its value, in hexadecimal\n\
-                  digits. A value of 1 MiB of XDR may be too long for a record: refusal 16.",
+                  digits. A value that XDR can hold may be too long for a record: refusal 16.",
         example: "echo 00000007 00000002 41420000 | \
                   route import -g 'tuple(u32, bytes)' --hex -",
         printed: "07000000 02000000 00000000 4142\n",
