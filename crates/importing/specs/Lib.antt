@@ -1,3 +1,4 @@
 pub mod Meaning
 pub mod Brings
 pub mod Calls
+pub mod Examples
