@@ -229,8 +229,8 @@ fn sizes_exported(list: &mut List) {
         let empty = xdr(&behind_bytes(kind, 0)).len() as u64;
         for more in [0, 4] {
             let name = format!(
-                "1,048,57{} bytes of XDR with 40 values of kind {kind}",
-                6 + more
+                "1,048,5{} bytes of XDR with 40 values of kind {kind}",
+                76 + more
             );
             let length = most - empty + more;
             export(list, &name, &behind_bytes(kind, length), 0, 0);
