@@ -19,6 +19,7 @@ use Rattle.big_endian.proofs.Calls.{elements-inside}
 use Rattle.value.specs.Kinds.{Elements, bytes, uint32s, uint64s, elementWidth}
 use Rattle.value.specs.Tree.{Val, SizeOfV}
 use Rattle.value.proofs.KindLaws.{elementWidth-positive}
+use Rattle.rows.specs.Walk.{walk}
 use Rattle.rows.specs.Rule.{TableOf}
 use Rattle.rows.specs.Size.{sumFrom}
 use Rattle.rows.specs.declared.SizeOf.the-variants as SizeOf
@@ -84,40 +85,37 @@ module _ (w count place : ℕ) (s out : List ℕ) (index : ℕ) (known : (k : El
 
 -- ---- the whole
 
--- the value that was found, and its table
-pub record Valued (g t : List ℕ) (n : ℕ) (s : List ℕ) : Type 0 where
+-- the value of an outcome, and its table
+pub record Tabled (o : Outcome Reason Val) (t : List ℕ) (n : ℕ) (s : List ℕ) : Type 0 where
   pub value : Val
-  pub found : valueInGrammar g t n s ≡ accepted value
+  pub found : o ≡ accepted value
   pub table : TableOf t n s value
+
+-- where its size is known
+tabled : (size : Val → ℕ) (o : Outcome Reason Val) (t : List ℕ) (n : ℕ) (s : List ℕ) → Below (2 ^ 64) t → Bytes s → ((v : Val) → o ≡ accepted v → walk t n s ≡ accepted v) → {m : ℕ} → accepted m ≡ map size o → Tabled o t n s
+tabled size o t n s words stored rows h =
+    let x = map-accepted size o (sym h) in
+    record { value = x .0; found = x .1; table = rows-exactly t n s (x .0) words stored .0 (rows (x .0) (x .1)) }
 
 module _ (g t : List ℕ) (n : ℕ) (s : List ℕ) where
-  pub valued : Below (2 ^ 64) t → Bytes s → {size : ℕ} → accepted size ≡ map SizeOfV (valueInGrammar g t n s) → Valued g t n s
-  valued words stored h =
-      let x = map-accepted SizeOfV (valueInGrammar g t n s) (sym h) in
-      record { value = x .0; found = x .1; table = rows-exactly t n s (x .0) words stored .0 (accepted-in-grammar g t n s (x .0) (x .1) .rows) }
+  pub valued : Below (2 ^ 64) t → Bytes s → {size : ℕ} → accepted size ≡ map SizeOfV (valueInGrammar g t n s) → Tabled (valueInGrammar g t n s) t n s
+  valued words stored = tabled SizeOfV (valueInGrammar g t n s) t n s words stored (λ v e. accepted-in-grammar g t n s v e .rows)
 
   -- its XDR size
-  pub valued-size : (h : Valued g t n s) {size : ℕ} → size ≡ sumFrom ownXdrSize t 0 n → accepted size ≡ map xdrSize (valueInGrammar g t n s)
+  pub valued-size : (h : Tabled (valueInGrammar g t n s) t n s) {size : ℕ} → size ≡ sumFrom ownXdrSize t 0 n → accepted size ≡ map xdrSize (valueInGrammar g t n s)
   valued-size h e = ap accepted (e ∙ xdr-size t n s (h .value) (h .table)) ∙ ap (map xdrSize) (sym (h .found))
 
--- the value to be put, and its table
-pub record Decided (g t : List ℕ) (n : ℕ) (s : List ℕ) (len index : ℕ) : Type 0 where
-  pub value : Val
-  pub decided : exportOf g t n s len index ≡ accepted value
-  pub table : TableOf t n s value
+  -- and where it is to be put
+  module _ (len index : ℕ) where
+    pub decided : Below (2 ^ 64) t → Bytes s → {size : ℕ} → accepted size ≡ map xdrSize (exportOf g t n s len index) → Tabled (exportOf g t n s len index) t n s
+    decided words stored = tabled xdrSize (exportOf g t n s len index) t n s words stored (λ v e. accepted-exports g t n s len index v e .rows)
 
-module _ (g t : List ℕ) (n : ℕ) (s : List ℕ) (len index : ℕ) where
-  pub decided : Below (2 ^ 64) t → Bytes s → {size : ℕ} → accepted size ≡ map xdrSize (exportOf g t n s len index) → Decided g t n s len index
-  decided words stored h =
-      let x = map-accepted xdrSize (exportOf g t n s len index) (sym h) in
-      record { value = x .0; decided = x .1; table = rows-exactly t n s (x .0) words stored .0 (accepted-exports g t n s len index (x .0) (x .1) .rows) }
-
-  pub put-ready : Below (2 ^ 32) g → Decided g t n s len index → ((j : ℕ) → j < n → RowFits t s j) × (index + sumFrom ownXdrSize t 0 n ≤ len)
-  put-ready b w =
-      let v = w .value in
-      let h = w .table in
-      let x = accepted-exports g t n s len index v (w .decided) in
-      (table-fits t n s v h (table-narrow g t n s v b h (x .inGrammar)), omega (arith, xdr-size t n s v h, x .room))
+    pub put-ready : Below (2 ^ 32) g → Tabled (exportOf g t n s len index) t n s → ((j : ℕ) → j < n → RowFits t s j) × (index + sumFrom ownXdrSize t 0 n ≤ len)
+    put-ready b w =
+        let v = w .value in
+        let h = w .table in
+        let x = accepted-exports g t n s len index v (w .found) in
+        (table-fits t n s v h (table-narrow g t n s v b h (x .inGrammar)), omega (arith, xdr-size t n s v h, x .room))
 
 module _ (o : Outcome Reason Val) (index : ℕ) (out : List ℕ) where
   output : {x : Outcome Reason Val} → o ≡ x → contents (map (λ v. put out index (xdrOf v)) o) out ≡ contents (map (λ v. put out index (xdrOf v)) x) out

@@ -5,13 +5,13 @@ use Rattle.packed.specs.Packed.{put}
 use Rattle.sizing.proofs.Writes.{sized, size-refused}
 use Rattle.exporting.specs.Export.{exportOf}
 use Rattle.exporting.proofs.Own.{xdr-bytes}
-use Rattle.exporting.proofs.Exporting.{Decided, decided, put-ready, exports-refused, exports-put}
+use Rattle.exporting.proofs.Exporting.{Tabled, decided, put-ready, exports-refused, exports-put}
 use borrow.Author.Needs.{needs}
 use Rattle.exporting.proofs.export_xdr.Statement.{statement}
 use Rattle.exporting.proofs.export_xdr.Tie as tie
 
 -- behind the match on the size
-ready : (c : tie.After-known-told2) → let a = c .before .before .before .before .before .before .before .before .args in Decided (a .grammar .now) (a .rows .now) (a .n) (a .store .now) (length (a .out .now)) (a .index)
+ready : (c : tie.After-known-told2) → let a = c .before .before .before .before .before .before .before .before .args in Tabled (exportOf (a .grammar .now) (a .rows .now) (a .n) (a .store .now) (length (a .out .now)) (a .index)) (a .rows .now) (a .n) (a .store .now)
 ready c =
     let a = c .before .before .before .before .before .before .before .before .args in
     decided (a .grammar .now) (a .rows .now) (a .n) (a .store .now) (length (a .out .now)) (a .index) (λ j _. c .before .before .before .before .before .before .shared-slice-known2 .given j .fits) (λ j. c .before .before .before .before .before .shared-slice-known3 .given j .fits) (sized (c .before .size .given .1) (c .before .before .before .size-to-export .ensures))
@@ -44,7 +44,7 @@ returns-2 c =
     let w = ready (c .before .before .before .before) in
     exports-put (exportOf (a .grammar .now) (a .rows .now) (a .n) (a .store .now) (length (a .out .now)) (a .index)) (a .index) (a .out .now)
     (sized (c .before .before .before .before .before .size .given .1) (c .before .before .before .before .before .before .before .size-to-export .ensures))
-    (w .decided)
+    (w .found)
     (c .before .before .export-rows .ensures ∙ ap (put (a .out .now) (a .index)) (xdr-bytes (a .rows .now) (a .n) (a .store .now) (w .value) (w .table)))
 
 pub export-xdr-spec : {M : Type 1} → statement M

@@ -5,13 +5,13 @@ use Rattle.sizing.proofs.Writes.{sized, size-refused, size-stops, size-checked}
 use Rattle.xdr.specs.Xdr.{xdrSize}
 use Rattle.exporting.specs.Export.{valueToExport}
 use Rattle.exporting.proofs.Own.{xdr-small}
-use Rattle.exporting.proofs.Exporting.{Valued, valued, valued-size}
+use Rattle.exporting.proofs.Exporting.{Tabled, valued, valued-size}
 use borrow.Author.Needs.{needs}
 use Rattle.exporting.proofs.size_of_value.Statement.{statement}
 use Rattle.exporting.proofs.size_of_value.Tie as tie
 
 -- behind the match on the record's size
-found : (c : tie.After-enum-told) → let a = c .before .before .before .before .before .before .args in Valued (a .grammar .now) (a .rows .now) (a .n) (a .store .now)
+found : (c : tie.After-enum-told) → let a = c .before .before .before .before .before .before .args in Tabled (valueInGrammar (a .grammar .now) (a .rows .now) (a .n) (a .store .now)) (a .rows .now) (a .n) (a .store .now)
 found c =
     let a = c .before .before .before .before .before .before .args in
     valued (a .grammar .now) (a .rows .now) (a .n) (a .store .now) (λ j _. c .before .before .before .before .shared-slice-known2 .given j .fits) (λ j. c .before .before .before .shared-slice-known3 .given j .fits) (sized (c .enum-told .given .1) (c .before .before .size-in-grammar .ensures .0))
