@@ -195,7 +195,7 @@ pub fn of_imported(answer: Imported) -> RouteAnswer
     ensures { λ r. ⌜ r ≡ answerOf (map importValues (importedOf answer)) ⌝ }
 {
     match answer {
-        Imported::Value(rows, used) => accept(rows as u64, used as u64),
+        Imported::Value { rows, used } => accept(rows as u64, used as u64),
         Imported::Refused(r) => refuse(r),
     }
 }

@@ -26,7 +26,7 @@ use refusal::Refusal;
 
 // The answer of an import: the row count and the bytes of the store used.
 pub enum Imported {
-    Value(usize, usize),
+    Value { rows: usize, used: usize },
     Refused(Refusal),
 }
 
@@ -554,7 +554,10 @@ pub fn import_xdr(grammar: &[u32], record: &[u8], rows: &mut [u64], store: &mut 
             Step::Refused(r) => Imported::Refused(r),
             Step::Next(_) => match import_root(grammar, record, rows, store, lent) {
                 Step::Refused(r) => Imported::Refused(r),
-                Step::Next(u) => Imported::Value(u.begun, u.used),
+                Step::Next(u) => Imported::Value {
+                    rows: u.begun,
+                    used: u.used,
+                },
             },
         },
     }
