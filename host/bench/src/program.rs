@@ -149,19 +149,24 @@ macro_rules! contender {
                 })
             }
             Call::Export => {
-                let (rows, n) = input.rows();
-                let mut out = vec![0; input.xdr().len()];
+                let ((rows, n), size) = (input.rows(), input.xdr().len());
+                let (mut buffer, start) = apart(record, size);
                 Contender::new(move || {
-                    let (rows, out) = (black_box(&rows), black_box(&mut out));
+                    let (rows, out) = (black_box(&rows), black_box(&mut buffer[start..][..size]));
                     calls::export_xdr(black_box(grammar), rows, n, black_box(record), out, 0)
                 })
             }
             Call::Import => {
-                let xdr = input.xdr();
-                let (mut rows, mut store) = (vec![0; WORDS], vec![0; xdr.len()]);
+                let (xdr, mut rows) = (input.xdr(), vec![0; WORDS]);
+                let (mut buffer, start) = apart(&xdr, xdr.len());
                 Contender::new(move || {
-                    let (rows, store) = (black_box(&mut rows), black_box(&mut store));
-                    calls::import_xdr(black_box(grammar), black_box(&xdr), rows, store)
+                    let store = black_box(&mut buffer[start..][..xdr.len()]);
+                    calls::import_xdr(
+                        black_box(grammar),
+                        black_box(&xdr),
+                        black_box(&mut rows),
+                        store,
+                    )
                 })
             }
         }
@@ -258,9 +263,13 @@ impl Program for Copy {
         if input.rows().1 != 1 {
             return None;
         }
-        let mut out = vec![0; size];
+        let (mut buffer, start) = match call {
+            Call::Export => apart(&input.record, size),
+            _ => (vec![0; size], 0),
+        };
         Some(Contender::new(move || {
-            black_box(&mut out).copy_from_slice(black_box(&input.record[..size]));
+            let out = black_box(&mut buffer[start..][..size]);
+            out.copy_from_slice(black_box(&input.record[..size]));
         }))
     }
 }
