@@ -59,6 +59,8 @@ examples =
     ∷ record { grammar = 2 ∷ 3 ∷ 0 ∷ 1 ∷ 5 ∷ 0 ∷ 0 ∷ 1 ∷ 1 ∷ []; rows = 3 ∷ 3 ∷ 2 ∷ 0 ∷ 5 ∷ 1 ∷ 3 ∷ 0 ∷ 5 ∷ 1 ∷ 0 ∷ 3 ∷ []; n = 3; store = 7 ∷ 8 ∷ 9 ∷ []; out = replicate 16 0xee; index = 0; expected = accepted (0 ∷ 0 ∷ 0 ∷ 2 ∷ 0 ∷ 0 ∷ 0 ∷ 3 ∷ 7 ∷ 8 ∷ 9 ∷ 0 ∷ 0 ∷ 0 ∷ 0 ∷ 0 ∷ []) }
     -- a case: its tag, then an array of one uint64
     ∷ record { grammar = 3 ∷ 8 ∷ 0 ∷ 2 ∷ 0 ∷ 0 ∷ 0 ∷ 7 ∷ 0 ∷ 0 ∷ 2 ∷ 1 ∷ 2 ∷ []; rows = 8 ∷ 2 ∷ 1 ∷ 0 ∷ 7 ∷ 1 ∷ 1 ∷ 0 ∷ []; n = 2; store = 1 ∷ 2 ∷ 3 ∷ 4 ∷ 5 ∷ 6 ∷ 7 ∷ 8 ∷ []; out = replicate 16 0xee; index = 0; expected = accepted (0 ∷ 0 ∷ 0 ∷ 1 ∷ 0 ∷ 0 ∷ 0 ∷ 1 ∷ 8 ∷ 7 ∷ 6 ∷ 5 ∷ 4 ∷ 3 ∷ 2 ∷ 1 ∷ []) }
+    -- two uint32, in their order
+    ∷ record { grammar = 1 ∷ 6 ∷ 0 ∷ 0 ∷ 0 ∷ []; rows = 6 ∷ 1 ∷ 2 ∷ 0 ∷ []; n = 1; store = 4 ∷ 3 ∷ 2 ∷ 1 ∷ 8 ∷ 7 ∷ 6 ∷ 5 ∷ []; out = replicate 12 0xee; index = 0; expected = accepted (0 ∷ 0 ∷ 0 ∷ 2 ∷ 1 ∷ 2 ∷ 3 ∷ 4 ∷ 5 ∷ 6 ∷ 7 ∷ 8 ∷ []) }
     -- 15 before 17
     ∷ record { grammar = grammarB; rows = rowsT; n = 4; store = recordT; out = []; index = 0; expected = refuses 15 (row 0) }
     -- 12 before 15

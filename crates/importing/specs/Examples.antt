@@ -114,6 +114,8 @@ examples =
     ∷ over (leaf 5) (0 ∷ 0 ∷ 0 ∷ 1 ∷ 7 ∷ 0 ∷ 0 ∷ []) 4 1 (refuses 9 0)
     ∷ over (leaf 5) (0 ∷ 0 ∷ 0 ∷ 1 ∷ 7 ∷ 0 ∷ 0 ∷ 0 ∷ []) 4 1 (gives 1 1 (5 ∷ 1 ∷ 1 ∷ 0 ∷ []) (7 ∷ []))
     ∷ over (leaf 5) (0 ∷ 0 ∷ 0 ∷ 1 ∷ 7 ∷ 1 ∷ 0 ∷ 0 ∷ []) 4 1 (refuses 23 0)
+    -- 9 before 23: the second of three padding bytes is missing, and the first is not zero
+    ∷ over (leaf 5) (0 ∷ 0 ∷ 0 ∷ 1 ∷ 7 ∷ 1 ∷ []) 4 1 (refuses 9 0)
     -- 9 before 17, which has no place for the byte
     ∷ over (leaf 5) (0 ∷ 0 ∷ 0 ∷ 1 ∷ 7 ∷ 0 ∷ 0 ∷ []) 4 0 (refuses 9 0)
     -- three constants: four rows and no byte of the store; with three rows, with the greatest count, and cut in the count
@@ -121,9 +123,10 @@ examples =
     ∷ over grammarC (0 ∷ 0 ∷ 0 ∷ 3 ∷ []) 15 0 (refuses 8 0)
     ∷ over grammarC (0xff ∷ 0xff ∷ 0xff ∷ 0xff ∷ []) 16 0 (refuses 8 0)
     ∷ over grammarC (0 ∷ 0 ∷ 0 ∷ []) 16 0 (refuses 9 0)
-    -- a count of uint64 whose bytes would be 2^35 − 8; one uint64, least byte first in the store; −2 of kind 10 as its pattern
+    -- a count of uint64 whose bytes would be 2^35 − 8; one uint64, and two uint32, least byte first in the store; −2 of kind 10 as its pattern
     ∷ over (leaf 7) (0xff ∷ 0xff ∷ 0xff ∷ 0xff ∷ []) 4 8 (refuses 9 0)
     ∷ over (leaf 7) (0 ∷ 0 ∷ 0 ∷ 1 ∷ 1 ∷ 2 ∷ 3 ∷ 4 ∷ 5 ∷ 6 ∷ 7 ∷ 8 ∷ []) 4 8 (gives 1 8 (7 ∷ 1 ∷ 1 ∷ 0 ∷ []) (8 ∷ 7 ∷ 6 ∷ 5 ∷ 4 ∷ 3 ∷ 2 ∷ 1 ∷ []))
+    ∷ over (leaf 6) (0 ∷ 0 ∷ 0 ∷ 2 ∷ 1 ∷ 2 ∷ 3 ∷ 4 ∷ 5 ∷ 6 ∷ 7 ∷ 8 ∷ []) 4 8 (gives 1 8 (6 ∷ 1 ∷ 2 ∷ 0 ∷ []) (4 ∷ 3 ∷ 2 ∷ 1 ∷ 8 ∷ 7 ∷ 6 ∷ 5 ∷ []))
     ∷ over (leaf 10) (0xff ∷ 0xff ∷ 0xff ∷ 0xff ∷ 0xff ∷ 0xff ∷ 0xff ∷ 0xfe ∷ []) 4 0 (gives 1 0 (10 ∷ 1 ∷ 18446744073709551614 ∷ 0 ∷ []) [])
     -- a tag of no case; tag 0 with two rows, and with one: 8 where the case's value starts; cut in the tag
     ∷ over grammarU (0 ∷ 0 ∷ 0 ∷ 1 ∷ []) 8 0 (refuses 10 0)

@@ -16,6 +16,7 @@ use Rattle.packed.proofs.Put.{length-put}
 use Rattle.packed.proofs.Source.{put-there}
 use Rattle.big_endian.specs.BigEndian.{packBigEndian, packBigEndianSeq, unpackBigEndian}
 use Rattle.big_endian.proofs.Laws.{length-packBig, unpackBig-packed, packBig-unpack, unpackBig-sum, packBigSeq-of-bytes}
+use Rattle.big_endian.proofs.Calls.{unpackBig-none, unpackBig-next}
 use Rattle.value.specs.Tree.{G, Val, ValueOf, rowCount}
 use Rattle.value.specs.Step.{Step}
 use Rattle.tables.specs.Row.{rowWidth}
@@ -51,7 +52,7 @@ use Rattle.route.proofs.Refusals.{import-whole}
 -- ---- the rule
 
 xdr-rule : XdrRule
-unfolding xdrOf padded
+unfolding xdrOf padded packBigEndianSeq
 xdr-rule = record {
   constant = refl;
   uint32 = λ n. refl;
@@ -67,10 +68,15 @@ xdr-rule = record {
   noParts = refl;
   parts = λ v vs. refl;
   padded = λ n. (padding-few n, padding-four n);
+  noNumbers = λ w. refl;
+  numbers = λ w n ns. refl;
+  noBytes = λ bs. unpackBig-none bs;
+  nextByte = λ w bs h. unpackBig-next w bs h;
   sum = λ a b c d. unpackBig-sum a b c d [];
   packs = λ w n h. (length-packBig w n, rw append-nil at (unpackBig-packed w n [] h));
   only = λ w n bs b l e. sym (ap (packBigEndian w) (sym e) ∙ packBig-unpack w bs b (omega arith) ∙ take-all w bs (omega arith));
   smaller = λ v. sizes v .outer;
+  arraysWithin = λ v. sizes v .inner;
 }
 
 -- ---- values of a grammar that passes

@@ -62,7 +62,8 @@ AtMostOneAnswer {R} meaning = (q r : R) → meaning q ≡ meaning r → q ≡ r
 
 -- "a refusal names its number and place": `Refuses Q o` says that the errors of o are exactly those with Q, and each Q of specs/Refusals.antt
 -- gives the number, the place and what they are given for. A writer that answers every refusal with 17 at byte 0 fails `writing`.
--- Nothing is asked of the inputs. The answer of a call is a function of the outcome that is named here, so its refusals are these
+-- Nothing is asked of the inputs, but that the words of a grammar in `importing` are u32s. The answer of a call is a function of the outcome
+-- that is named here, so its refusals are these
 pub record Demand1 : Type 0 where
   -- of each answer enum
   pub answer : AtMostOneAnswer outcomeOf
@@ -129,8 +130,8 @@ pub record Demand1 : Type 0 where
   pub listedRewriting : (g d : List ℕ) (capacity len index : ℕ) → Lists (RewritingRefused g d capacity len index)
   pub listedRoutes : (g first second : List ℕ) (e : NamedReason) → RouteRefused g first second e → Listed (unnamed e)
   pub listedChoosing : (l d : List ℕ) → Lists (ChoosingRefused l d)
-  -- "and a refusal alters no buffer lent to the call": a slice of numbers or bytes, rows, the output, the store of an import. They would be empty if no call were
-  -- refused: `reading-C` of proofs/Examples.antt is
+  -- "and a refusal alters no buffer lent to the call": a slice of numbers or bytes, rows, the output, the store of an import. They would be
+  -- empty if no call were refused: `reading-C` of proofs/Examples.antt is
   pub fillsNothing : (o : Outcome Reason (List ℕ)) (a : Outcome Reason (Unit {0})) (entry exit : List ℕ) → Fills o a entry exit → (e : Reason) → a ≡ refused e → exit ≡ entry
   pub parsesNothing : (o : Outcome Reason (Step State Val)) (index : ℕ) (r : Parsed) (entry exit : List ℕ) → Parses o index r entry exit → (e : Reason) → parsedOf r ≡ refused e → exit ≡ entry
   pub marshallsNothing : (o : Outcome Reason Val) (index : ℕ) (w : SizeOf) (entry exit : List ℕ) → Marshalls o index w entry exit → (e : Reason) → sizeOf w ≡ refused e → exit ≡ entry

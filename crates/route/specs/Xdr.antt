@@ -4,7 +4,7 @@ use mathlib.Core.Path.{_≡_}
 use mathlib.Core.Logic.{_↔_, _⊎_}
 use mathlib.Core.List.{List, [], _∷_, _++_}
 use Prim.Native.Nat.{ℕ, _+_, _*_, _%_, _^_, _≤_, _<_}
-use lib.ListN.{length, take, drop, replicate}
+use lib.ListN.{length, take, drop, replicate, getD}
 use lib.IntN.{ℤ}
 use Rattle.refusal.specs.Outcome.{Outcome, accepted, refused, byte, Reason, reason}
 use Rattle.packed.specs.Packed.{Bytes, Below, packLittleEndianSeq, put}
@@ -44,12 +44,19 @@ pub record XdrRule : Type 0 where
   pub parts : (v : Val) (vs : Vals) → xdrOfAll (vcons v vs) ≡ xdrOf v ++ xdrOfAll vs
   -- 0 to 3 bytes, up to a multiple of four
   pub padded : (n : ℕ) → (padding n ≤ 3) × ((n + padding n) % 4 ≡ 0)
-  -- of four bytes the first is the most significant, and the bytes of a number are the only ones with that sum
+  -- numbers one behind the other, in their order
+  pub noNumbers : (w : ℕ) → packBigEndianSeq w [] ≡ []
+  pub numbers : (w n : ℕ) (ns : List ℕ) → packBigEndianSeq w (n ∷ ns) ≡ packBigEndian w n ++ packBigEndianSeq w ns
+  -- at every width the first byte is the most significant, and the bytes of a number are the only ones with that sum
+  pub noBytes : (bs : List ℕ) → 0 ≡ unpackBigEndian 0 bs
+  pub nextByte : (w : ℕ) (bs : List ℕ) → w < length bs → getD bs w 0 + unpackBigEndian w bs * 256 ≡ unpackBigEndian (w + 1) bs
   pub sum : (a b c d : ℕ) → unpackBigEndian 4 (a ∷ b ∷ c ∷ d ∷ []) ≡ a * 0x1_00_00_00 + b * 0x1_00_00 + c * 0x1_00 + d
   pub packs : (w n : ℕ) → n < 256 ^ w → (length (packBigEndian w n) ≡ w) × (unpackBigEndian w (packBigEndian w n) ≡ n)
   pub only : (w n : ℕ) (bs : List ℕ) → Bytes bs → length bs ≡ w → unpackBigEndian w bs ≡ n → bs ≡ packBigEndian w n
   -- what may be written may be exported: the XDR size is never above `SizeOfV`
   pub smaller : (v : Val) → xdrSize v ≤ SizeOfV v
+  -- a store as long as the XDR is enough
+  pub arraysWithin : (v : Val) → length (storeOf v) ≤ xdrSize v
 
 -- d is the XDR bytes of the value v of the grammar, which has fewer than 2^32 rows. Of more rows a 4-byte count would not tell
 pub record XdrOf (g d : List ℕ) (v : Val) : Type 0 where
