@@ -446,9 +446,10 @@ route_answer route_choose_grammar(const uint32_t *list, size_t list_len, const u
  * It is proved (docs/PROMISES.md, request 08), under one grammar: XDR that was exported is imported
  * as an equal value, where the rows lent are enough and so is the store, of at most 1048576 bytes;
  * and what was imported is exported as the same bytes, where the output is long enough. 4096 rows
- * and a store as long as the XDR are always enough. XDR is never longer than the value's record, so
- * what route_marshall_val does not refuse with 16 route_export_xdr does not either; but a value
- * that was exported or imported may be too long to be written as a record. */
+ * and a store as long as the XDR are enough wherever any import is accepted. XDR is never longer
+ * than the value's record, so what route_marshall_val does not refuse with 16 route_export_xdr does
+ * not either; but a value that was exported or imported may be too long to be written as a record.
+ */
 
 /* Writes the XDR of the value that rows 0 to n - 1 stand for at byte index, and gives its size in
  * `first`. Changes only bytes index to index + size - 1 of out, which may be longer. It uses less

@@ -471,7 +471,8 @@ impl Grammar {
     }
 
     /// Reads as [`import_xdr`](Grammar::import_xdr) does with 4,096 rows and a store as long as the
-    /// record, which are always enough, into as many rows and bytes as the value has.
+    /// record, which are enough wherever any import is accepted, into as many rows and bytes as the
+    /// value has.
     ///
     /// ```
     /// use route_record::{Grammar, Place, Refusal};

@@ -10,9 +10,9 @@
 //! It is proved (docs/PROMISES.md, request 08), under one grammar: XDR that was exported is imported
 //! as an equal value, where the rows lent are enough and so is the store, of at most 1,048,576
 //! bytes; and what was imported is exported as the same bytes, where the output is long enough.
-//! 4,096 rows and a store as long as the XDR are always enough. XDR is never longer than the value's
-//! record. So a value that was exported or imported may be too long to be written as a record, and
-//! never the other way.
+//! 4,096 rows and a store as long as the XDR are enough wherever any import is accepted. XDR is never
+//! longer than the value's record. So a value that was exported or imported may be too long to be
+//! written as a record, and never the other way.
 //!
 //! An export uses less than 1 MiB of stack, on values as deep as 4,096 rows can be, an import less
 //! than 128 KiB, on grammars as deep as 256 nodes can be.
