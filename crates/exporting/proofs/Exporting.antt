@@ -1,7 +1,7 @@
 -- Putting what was decided.
 use mathlib.Core.Path.{_≡_, refl, ap, sym, _∙_}
 use mathlib.Core.List.{List, _++_, append-assoc}
-use Prim.Native.Nat.{ℕ, _+_, _-_, _*_, _/_, _^_, _≤_, _<_}
+use Prim.Native.Nat.{ℕ, _+_, _-_, _*_, _/_, _^_, _≤_, _<_, min}
 use native.Mathlib.Nat.{le-refl, div-one, mul-div-cancel-left}
 use native.Mathlib.Omega.{arith}
 use lib.ListN.{length, set, take, drop, replicate, length-append, length-drop, length-replicate, replicate-append-replicate}
@@ -11,7 +11,7 @@ use Rattle.refusal.specs.Meaning.{reasonOf}
 use Rattle.refusal.specs.declared.Refusal.{Refusal}
 use Rattle.refusal.proofs.Outcome.{map-accepted, map-refused}
 use Rattle.packed.specs.Packed.{Bytes, Below, put, putAt}
-use Rattle.packed.proofs.Put.{put-more, put-next}
+use Rattle.packed.proofs.Put.{put-nothing, put-more, put-next}
 use Rattle.packed.proofs.Calls.{fills-put}
 use Rattle.big_endian.specs.BigEndian.{packBigEndian, reverseEach}
 use Rattle.big_endian.proofs.Laws.{length-packBig, length-reverseEach, reverseEach-one}
@@ -55,9 +55,22 @@ eight-left w h n m = go (h .0) (h .1)
     go uint32s e = absurd (m e)
     go uint64s e = e
 
--- the loop over padding: a zero more is put
-pub zeros-next : (out now : List ℕ) (index i : ℕ) → now ≡ put out index (replicate i 0) → index + i < length out → set now (index + i) 0 ≡ put out index (replicate (i + 1) 0)
-zeros-next out now index i e h = put-next out now index i 0 (replicate i 0) e (length-replicate i 0) h ∙ ap (put out index) (replicate-append-replicate i 1 0)
+-- the loop over padding: as many zeros are put as the count allows
+module _ (out now : List ℕ) (index count i : ℕ) (e : now ≡ put out index (replicate (min i count) 0)) where
+  zeros : (m n : ℕ) → m ≡ n → put out index (replicate m 0) ≡ put out index (replicate n 0)
+  zeros m n = ap (λ (k : ℕ). put out index (replicate k 0))
+
+  pub zeros-next : i < count → index + count ≤ length out → set now (index + i) 0 ≡ put out index (replicate (min (i + 1) count) 0)
+  zeros-next l h = put-next out now index i 0 (replicate i 0) (e ∙ zeros (min i count) i (omega arith)) (length-replicate i 0) (omega arith) ∙ ap (put out index) (replicate-append-replicate i 1 0) ∙ zeros (i + 1) (min (i + 1) count) (omega arith)
+
+  pub zeros-all : count ≤ i → now ≡ put out index (replicate (min (i + 1) count) 0)
+  zeros-all l = e ∙ zeros (min i count) (min (i + 1) count) (omega arith)
+
+  pub zeros-put : count ≤ i → {n : ℕ} → count ≡ n → now ≡ put out index (replicate n 0)
+  zeros-put l {n} q = e ∙ zeros (min i count) n (omega (arith, q))
+
+pub zeros-none : (out : List ℕ) (index count : ℕ) → out ≡ put out index (replicate (min 0 count) 0)
+zeros-none out index count = let e : 0 ≡ min 0 count = omega arith in sym (put-nothing out index) ∙ ap (λ (n : ℕ). put out index (replicate n 0)) e
 
 -- a count, the elements and their padding, put one behind the other
 module _ (w count place : ℕ) (s out : List ℕ) (index : ℕ) (known : (k : Elements) × (w ≡ elementWidth k)) (held : place + w * count ≤ length s) (room : index + (4 + (w * count + padding (w * count))) ≤ length out) where

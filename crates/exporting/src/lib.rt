@@ -120,15 +120,18 @@ fn copy_elements(width: u64, elements: &[u8], out: &mut [u8], index: usize)
     }
 }
 
-// Puts the padding behind so many bytes of elements, which has room, and gives the index behind it.
+// Puts the padding behind so many bytes of elements, which has room, and gives the index behind it. A loop up to the count would be compiled
+// to a call of memset, which the archive must not need.
 fn export_padding(size: u64, out: &mut [u8], index: usize) -> usize
     requires { ⌜ index + paddingOf size ≤ length (now out) ⌝ }
     ensures { λ r. ⌜ (r ≡ index + paddingOf size) × (now (out .exit) ≡ put (now (out .entry)) index (replicate (paddingOf size) 0)) ⌝ }
 {
     let count = padding(size) as usize;
     let mut i: usize = 0;
-    while i < count {
-        out[index + i] = 0;
+    while i < 3 {
+        if i < count {
+            out[index + i] = 0;
+        }
         i += 1;
     }
     index + count
