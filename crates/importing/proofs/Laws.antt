@@ -3,18 +3,18 @@ use mathlib.Core.Path.{_≡_, refl, ap, sym, _∙_}
 use mathlib.Core.Bool.{Bool, true, false, _&&_}
 use mathlib.Core.List.{List, [], _∷_}
 use Prim.Native.Nat.{ℕ, zero, suc, _+_, _-_, _*_, _/_, _≤_, _<_}
-use native.Mathlib.Nat.{le-refl, div-one, one-mul, mul-div-cancel-left}
+use native.Mathlib.Nat.{le-refl, div-one, mul-div-cancel-left}
 use native.Mathlib.Numerals.{add-one}
 use native.Mathlib.Omega.{arith}
 use lib.ListN.{length, getD, take, drop, length-drop}
 use lib.Seq.{drop-cons, take-all, take-length, length-take-le}
 use lib.Dec.{leb, ltb, eqb}
-use borrow.Author.Tests.{lt-ltb, le-ltb, le-leb, lt-leb, leb-true, ne-eqb}
+use borrow.Author.Tests.{lt-ltb, le-ltb, le-leb, leb-true, ne-eqb}
 use Rattle.refusal.specs.Outcome.{Outcome, accepted, refused, bind, test, map, Fills, Reason, reason, byte}
 use Rattle.refusal.specs.Meaning.{reasonOf}
 use Rattle.refusal.specs.declared.Refusal.{Refusal}
 use Rattle.refusal.proofs.Outcome.{clash, map-accepted, test-true, test-false, post-accepted}
-use Rattle.packed.specs.Packed.{Bytes, present, room, putAt, putWithin}
+use Rattle.packed.specs.Packed.{Bytes, present, putAt, putWithin}
 use Rattle.packed.proofs.Laws.{bytes-drop}
 use Rattle.packed.proofs.Fitting.{putWithin-nothing}
 use Rattle.packed.proofs.Calls.{present-fits}
@@ -104,28 +104,9 @@ zeros-none part i = refl
 
 -- ---- an array's body
 
-module _ (len used size : ℕ) (part : List ℕ) (p : ℕ) where
-  pub body-missing : length part < size + padding size → refused (reason 9 (byte p)) ≡ checkBody len used size part p
-  unfolding checkBody
-  body-missing h = sym (test-false _ _ (lt-leb (size + padding size) (length part) h))
-
-  module _ (h : size + padding size ≤ length part) where
-    pub body-room : {e : Reason} → refused e ≡ room len used (1 * size) → refused e ≡ checkBody len used size part p
-    unfolding checkBody
-    body-room {e} r =
-        let q : refused e ≡ room len used size = r ∙ ap (room len used) (one-mul size) in
-        rw (le-leb (size + padding size) (length part) h, ← q)
-
-    pub body-zeros : accepted tt ≡ room len used (1 * size) → {b : Bool} → b ≡ zeros (take (size + padding size - size) (drop size part)) → test b (reason 23 (byte p)) accepted ≡ checkBody len used size part p
-    unfolding checkBody
-    body-zeros r e =
-        let n : size + padding size - size ≡ padding size = omega arith in
-        let q : accepted tt ≡ room len used size = r ∙ ap (room len used) (one-mul size) in
-        rw (le-leb (size + padding size) (length part) h, ← q, e, n)
-
-  -- what holds where nothing is refused
-  pub body-holds : accepted tt ≡ checkBody len used size part p → (size + padding size ≤ length part) × (used + size ≤ len)
-  body-holds h = let x = post-accepted (rw (← h) at (body-post len used size part p)) in (x .0, x .1)
+-- what holds where nothing is refused
+pub body-holds : (len used size : ℕ) (part : List ℕ) (p : ℕ) → accepted tt ≡ checkBody len used size part p → (size + padding size ≤ length part) × (used + size ≤ len)
+body-holds len used size part p h = let x = post-accepted (rw (← h) at (body-post len used size part p)) in (x .0, x .1)
 
 -- a number that was taken was there
 pub take-moves : (d : List ℕ) (w : ℕ) (s : Filling) (n : ℕ) (t : Filling) → yield n t ≡ takeNumber d w s → (t ≡ move w s) × (s .at + w ≤ length d)

@@ -35,6 +35,7 @@ use Rattle.xdr.specs.Import.{Filling, Importing, start, importWhole, importTo}
 use Rattle.xdr.proofs.Sizes.{padding-few, padding-four, padded-numbers, sizes}
 use Rattle.xdr.proofs.Rows.{length-rowsIn, packed-walk}
 use Rattle.xdr.proofs.Import.{Small}
+use Rattle.xdr.proofs.AtArray.{at-array}
 use Rattle.xdr.proofs.Small.{small-of}
 use Rattle.xdr.proofs.Whole.{Imported as Whole, whole-fits, whole-few, whole-tight, whole-either, whole-accepted, one-meaning}
 use Rattle.exporting.specs.Export.{exportOf, Exports}
@@ -240,6 +241,7 @@ xdr = record {
   rule = xdr-rule;
   importsExactly = imports-exactly;
   tooLittleLent = too-little-lent;
+  orderAtArray = at-array;
   exportThenImport = export-then-import;
   importThenExport = import-then-export;
 }

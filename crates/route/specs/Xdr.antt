@@ -9,6 +9,7 @@ use lib.IntN.{ℤ}
 use Rattle.refusal.specs.Outcome.{Outcome, accepted, refused, byte, Reason, reason}
 use Rattle.packed.specs.Packed.{Bytes, Below, packLittleEndianSeq, put}
 use Rattle.big_endian.specs.BigEndian.{packBigEndian, packBigEndianSeq, unpackBigEndian}
+use Rattle.value.specs.Kinds.{Elements}
 use Rattle.value.specs.Tree.{Val, Vals, VConstant, VArray, VTuple, VCase, vnil, vcons, VUint32, VUint64, VByteArray, VUint32Array, VUint64Array, seqV, SizeOfV, rowCount}
 use Rattle.value.specs.Signed.{patternOf, VInt32, VInt64}
 use Rattle.value.specs.Step.{Step}
@@ -19,6 +20,7 @@ use Rattle.rows.specs.declared.SizeOf.{SizeOf}
 use Rattle.admission.specs.Admission.{capacityOf}
 use Rattle.xdr.specs.Xdr.{padding, xdrOf, xdrOfAll, xdrSize, storeOf, rowsIn}
 use Rattle.xdr.specs.Import.{Filling}
+use Rattle.xdr.specs.AtArray.{AtArray}
 use Rattle.exporting.specs.Export.{exportOf, Exports}
 use Rattle.importing.specs.Meaning.{Counts, importedOf}
 use Rattle.importing.specs.Calls.{importOf, Imports}
@@ -133,9 +135,15 @@ ImportThenExport =
     → (out : List ℕ) (index : ℕ) → index + length d ≤ length out
     → (w : SizeOf) (after : List ℕ) → Exports (exportOf g rows₁ (k .rows) store₁ (length out) index) index w out after → (sizeOf w ≡ accepted (length d)) × PutThere d out index after
 
+-- 9, 17 and 23 "at an array", in the request's order: of every array of numbers, wherever it starts, in any bytes and for any store. `AtArray`
+-- has the words and leaves out no case
+abbrev pub OrderAtArray : Type 0
+OrderAtArray = (capacity len : ℕ) (d : List ℕ) (k : Elements) (s : Filling) → AtArray capacity len d k s
+
 pub record Xdr : Type 0 where
   pub rule : XdrRule
   pub importsExactly : ImportsExactly
   pub tooLittleLent : TooLittleLent
+  pub orderAtArray : OrderAtArray
   pub exportThenImport : ExportThenImport
   pub importThenExport : ImportThenExport

@@ -4,3 +4,4 @@ pub mod Import
 pub mod Whole
 pub mod Small
 pub mod Stops
+pub mod AtArray

@@ -1,2 +1,3 @@
 pub mod Xdr
 pub mod Import
+pub mod AtArray

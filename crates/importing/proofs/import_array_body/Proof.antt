@@ -1,13 +1,15 @@
 use mathlib.Core.Path.{_≡_, ap, sym, _∙_}
 use mathlib.Core.Bool.{Bool}
 use Prim.Native.Nat.{ℕ, _+_, _-_, _<_, _≤_}
+use native.Mathlib.Nat.{one-mul}
 use native.Mathlib.Omega.{arith}
 use lib.ListN.{length, take, drop}
 use Rattle.refusal.specs.Outcome.{refused, accepted, test, Reason}
 use Rattle.refusal.proofs.Meaning.{done, stopped}
+use Rattle.packed.specs.Packed.{room}
 use Rattle.xdr.specs.Xdr.{padding}
 use Rattle.xdr.specs.Import.{zeros}
-use Rattle.importing.proofs.Laws.{body-missing, body-room, body-zeros}
+use Rattle.xdr.proofs.AtArray.{body-missing, body-room, body-zeros}
 use borrow.Author.Needs.{needs}
 use Rattle.importing.proofs.import_array_body.Statement.{statement}
 use Rattle.importing.proofs.import_array_body.Tie as tie
@@ -49,15 +51,16 @@ returns-2 : tie.Need-returns-2
 returns-2 c =
     let a = c .before .before .before .before .before .before .before .args in
     let p = c .before .before .before .before .before .padding .ensures .0 in
-    body-room (a .room) (a .used) (a .size) (a .part .now) (a .start) (omega (arith, p, c .before .before .before .before .if1 .left)) (stopped (c .before .r .given .1) (c .before .before .before .room .ensures))
+    body-room (a .room) (a .used) (a .size) (a .part .now) (a .start) (omega (arith, p, c .before .before .before .before .if1 .left)) (stopped (c .before .r .given .1) (c .before .before .before .room .ensures) ∙ ap (room (a .room) (a .used)) (one-mul (a .size)))
 
 returns-3 : tie.Need-returns-3
 returns-3 c =
     let a = c .before .before .before .before .before .before .before .before .before .args in
     let p = c .before .before .before .before .before .before .before .padding .ensures .0 in
+    let n : a .size + c .before .before .before .before .before .before .before .padding .result - a .size ≡ padding (a .size) = omega (arith, p) in
     c .accept-if .ensures ∙ ap (λ (e : Reason). test (c .before .before .zeros .result) e accepted) (c .before .at-byte2 .ensures)
-    ∙ body-zeros (a .room) (a .used) (a .size) (a .part .now) (a .start) (omega (arith, p, c .before .before .before .before .before .before .if1 .left)) (done (c .before .before .before .enum-told .given .1) (c .before .before .before .before .before .room .ensures))
-    (c .before .before .zeros .ensures ∙ ap (λ (n : ℕ). zeros (take (a .size + n - a .size) (drop (a .size) (a .part .now)))) p)
+    ∙ body-zeros (a .room) (a .used) (a .size) (a .part .now) (a .start) (omega (arith, p, c .before .before .before .before .before .before .if1 .left)) (done (c .before .before .before .enum-told .given .1) (c .before .before .before .before .before .room .ensures) ∙ ap (room (a .room) (a .used)) (one-mul (a .size)))
+    (c .before .before .zeros .ensures ∙ ap (λ (m : ℕ). zeros (take m (drop (a .size) (a .part .now)))) n)
 
 pub import-array-body-spec : {M : Type 1} → statement M
 import-array-body-spec =
