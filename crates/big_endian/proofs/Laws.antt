@@ -1,12 +1,12 @@
 -- The laws of bytes most byte first, once for every width, from those of PackedInts.
 use mathlib.Core.Path.{_≡_, refl, ap, sym, _∙_}
 use mathlib.Core.List.{List, [], _∷_, _++_, append-assoc, reverse, reverseAux, reverse-reverse}
-use Prim.Native.Nat.{ℕ, zero, suc, _+_, _-_, _*_, _^_, _<_, _≤_, suc-le-suc}
-use native.Mathlib.Nat.{mul-suc, mul-zero, add-comm, mod-eq-of-lt}
+use Prim.Native.Nat.{ℕ, zero, suc, _+_, _-_, _*_, _/_, _^_, _<_, _≤_, suc-le-suc}
+use native.Mathlib.Nat.{mul-suc, mul-zero, add-comm, mod-eq-of-lt, le-refl, div-one}
 use native.Mathlib.Omega.{arith}
 use lib.ListN.{length, take, drop, length-append, length-drop, length-reverse}
 use lib.Dec.{lit<}
-use lib.Seq.{take-all, take-take, take-nil, take-add, take-at, drop-at, length-take-le}
+use lib.Seq.{take-all, take-take, take-nil, take-add, take-at, drop-at, take-length, length-take-le}
 use Rattle.packed.specs.Packed.{Bytes, Below, unpackLittleEndian, packLittleEndian, packLittleEndianSeq}
 use Rattle.packed.proofs.Laws.{bytes-take, bytes-drop, unpack-below, length-pack, pack-bytes, unpack-packed, pack-unpack}
 use Rattle.big_endian.specs.BigEndian.{packBigEndian, unpackBigEndian, packBigEndianSeq, unpackBigEndianSeq, reverseEach}
@@ -138,11 +138,14 @@ reverseEach-take w (suc n) m s h =
     rw (take-take w m s (omega arith), drop-take, reverseEach-take w n (m - w) (drop w s) (omega arith))
 
 -- bytes are elements of one byte
-pub reverseEach-one : (n : ℕ) (s : List ℕ) → n ≤ length s → reverseEach 1 s n ≡ take n s
+reverseEach-one : (n : ℕ) (s : List ℕ) → n ≤ length s → reverseEach 1 s n ≡ take n s
 unfolding reverseEach
 reverseEach-one zero s h = refl
 reverseEach-one (suc n) [] h = absurd (omega arith)
 reverseEach-one (suc n) (b ∷ s) h = rw (reverseEach-one n s (omega arith))
+
+pub bytes-as-elements : (bs : List ℕ) → reverseEach 1 bs (length bs / 1) ≡ bs
+bytes-as-elements bs = rw (div-one (length bs), reverseEach-one (length bs) bs (le-refl (length bs)), take-length bs)
 
 -- packed numbers, from least byte first to most byte first
 pub reverseEach-packSeq : (w : ℕ) (ns rest : List ℕ) → reverseEach w (packLittleEndianSeq w ns ++ rest) (length ns) ≡ packBigEndianSeq w ns

@@ -2,10 +2,10 @@
 use mathlib.Core.Path.{_≡_, refl, ap, sym, _∙_}
 use mathlib.Core.List.{List, _++_, append-assoc}
 use Prim.Native.Nat.{ℕ, _+_, _-_, _*_, _/_, _^_, _≤_, _<_, min}
-use native.Mathlib.Nat.{le-refl, div-one, mul-div-cancel-left}
+use native.Mathlib.Nat.{mul-div-cancel-left}
 use native.Mathlib.Omega.{arith}
 use lib.ListN.{length, set, take, drop, replicate, length-append, length-drop, length-replicate, replicate-append-replicate}
-use lib.Seq.{take-length, length-take-le}
+use lib.Seq.{length-take-le}
 use Rattle.refusal.specs.Outcome.{Outcome, accepted, refused, map, contents, Fills, Reason}
 use Rattle.refusal.specs.Meaning.{reasonOf}
 use Rattle.refusal.specs.declared.Refusal.{Refusal}
@@ -14,7 +14,7 @@ use Rattle.packed.specs.Packed.{Bytes, Below, put, putAt}
 use Rattle.packed.proofs.Put.{put-nothing, put-more, put-next}
 use Rattle.packed.proofs.Calls.{fills-put}
 use Rattle.big_endian.specs.BigEndian.{packBigEndian, reverseEach}
-use Rattle.big_endian.proofs.Laws.{length-packBig, length-reverseEach, reverseEach-one}
+use Rattle.big_endian.proofs.Laws.{length-packBig, length-reverseEach, bytes-as-elements}
 use Rattle.big_endian.proofs.Calls.{elements-inside}
 use Rattle.value.specs.Kinds.{Elements, bytes, uint32s, uint64s, elementWidth}
 use Rattle.value.specs.Tree.{Val, SizeOfV}
@@ -38,7 +38,7 @@ use Rattle.exporting.proofs.Exports.{accepted-exports}
 -- bytes that have room were put: they are elements of one byte
 pub bytes-copied : (src out : List ℕ) (index : ℕ) → index + length src ≤ length out → {o : Outcome Reason (Unit {0})} {exit : List ℕ} → Fills (putAt out index src) o out exit → exit ≡ put out index (reverseEach 1 src (length src / 1))
 bytes-copied src out index h f =
-    fills-put out index src (length src) refl h f ∙ ap (put out index) (sym (rw (div-one (length src), reverseEach-one (length src) src (le-refl (length src)), take-length src)))
+    fills-put out index src (length src) refl h f ∙ ap (put out index) (sym (bytes-as-elements src))
 
 -- elements that have room were put, each turned round
 pub elements-copied : (w : ℕ) (src out : List ℕ) (index : ℕ) → 0 < w → index + length src ≤ length out → {o : Outcome Reason (Unit {0})} {exit : List ℕ} → Fills (putAt out index (reverseEach w src (length src / w))) o out exit → exit ≡ put out index (reverseEach w src (length src / w))

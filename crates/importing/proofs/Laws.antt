@@ -3,11 +3,11 @@ use mathlib.Core.Path.{_≡_, refl, ap, sym, _∙_}
 use mathlib.Core.Bool.{Bool, true, false, _&&_}
 use mathlib.Core.List.{List, [], _∷_}
 use Prim.Native.Nat.{ℕ, zero, suc, _+_, _-_, _*_, _/_, _≤_, _<_}
-use native.Mathlib.Nat.{le-refl, div-one, mul-div-cancel-left}
+use native.Mathlib.Nat.{le-refl, mul-div-cancel-left}
 use native.Mathlib.Numerals.{add-one}
 use native.Mathlib.Omega.{arith}
 use lib.ListN.{length, getD, take, drop, length-drop}
-use lib.Seq.{drop-cons, take-all, take-length, length-take-le}
+use lib.Seq.{drop-cons, take-all, length-take-le}
 use lib.Dec.{leb, ltb, eqb}
 use borrow.Author.Tests.{lt-ltb, le-ltb, le-leb, leb-true, ne-eqb}
 use Rattle.refusal.specs.Outcome.{Outcome, accepted, refused, bind, test, map, Fills, Reason, reason, byte}
@@ -19,7 +19,7 @@ use Rattle.packed.proofs.Laws.{bytes-drop}
 use Rattle.packed.proofs.Fitting.{putWithin-nothing}
 use Rattle.packed.proofs.Calls.{present-fits}
 use Rattle.big_endian.specs.BigEndian.{unpackBigEndian, unpackBigEndianSeq, unpackBigEndianAt, reverseEach}
-use Rattle.big_endian.proofs.Laws.{unpackBig-take, reverseEach-one, reverseEach-take, packSeq-unpackBigSeq}
+use Rattle.big_endian.proofs.Laws.{unpackBig-take, reverseEach-take, packSeq-unpackBigSeq}
 use Rattle.value.specs.Kinds.{Number, numberKind, width, Elements, bytes, uint32s, uint64s, elementsKind, elementWidth, kindOf}
 use Rattle.value.specs.Tree.{Gs, VConstant, VNumber, VNumberArray, rowCount}
 use Rattle.value.specs.Step.{Step, yield, next, give}
@@ -163,10 +163,6 @@ module _ {A : Type 0} {rowsAt : A → ℕ → List ℕ} {storeAt : A → List �
 pub fills-within : (out : List ℕ) (index : ℕ) (bs : List ℕ) {o : Outcome Reason (Unit {0})} {exit : List ℕ} → Fills (putAt out index bs) o out exit → exit ≡ putWithin out index bs
 unfolding putWithin
 fills-within out index bs f = f .buffer
-
--- bytes are elements of one byte
-pub bytes-as-elements : (bs : List ℕ) → reverseEach 1 bs (length bs / 1) ≡ bs
-bytes-as-elements bs = rw (div-one (length bs), reverseEach-one (length bs) bs (le-refl (length bs)), take-length bs)
 
 -- the elements of an array behind its count, from byte p on, as they lie in a store
 pub elements-stored : (k : Elements) (d : List ℕ) (p n size : ℕ) → Bytes d → size ≡ elementWidth k * n → p + size ≤ length d → let part = take (p + size - p) (drop p d) in reverseEach (elementWidth k) part (length part / elementWidth k) ≡ storeOf (VNumberArray k (unpackBigEndianSeq (elementWidth k) (drop p d) n))

@@ -4,7 +4,8 @@ use lib.ListN.{length}
 use Rattle.packed.specs.Packed.{putWithin}
 use Rattle.big_endian.specs.BigEndian.{reverseEach}
 use Rattle.value.specs.Kinds.{Elements, elementWidth}
-use Rattle.importing.proofs.Laws.{fills-within, bytes-as-elements, kind-bytes, kind-uint32s, kind-uint64s}
+use Rattle.big_endian.proofs.Laws.{bytes-as-elements}
+use Rattle.importing.proofs.Laws.{fills-within, kind-bytes, kind-uint32s, kind-uint64s}
 use borrow.Author.Needs.{needs}
 use Rattle.importing.proofs.copy_elements.Statement.{statement}
 use Rattle.importing.proofs.copy_elements.Tie as tie
