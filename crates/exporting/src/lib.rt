@@ -9,18 +9,11 @@ ghost use Rattle.big_endian.specs.BigEndian.{packBigEndian, reverseEach};
 ghost use Rattle.value.specs.Kinds.{Elements, elementWidth};
 ghost use Rattle.rows.specs.Size.{mostOwnSize, ofRow, ownAt, ownFrom, sumFrom};
 ghost use Rattle.rows.specs.Meaning.{sizeOf};
-ghost use Rattle.xdr.specs.Xdr.{padding as paddingOf, padded, xdrSize};
+ghost use Rattle.xdr.specs.Xdr.{padding, padded, xdrSize};
 ghost use Rattle.exporting.specs.Own.{ownXdr, ownXdrSize, RowFits};
 ghost use Rattle.exporting.specs.Export.{valueToExport, exportOf, Exports};
 use refusal::Answer;
 use rows::SizeOf;
-
-// The bytes from so many up to a multiple of four.
-fn padding(size: u64) -> u64
-    ensures { λ r. ⌜ r ≡ paddingOf size ⌝ }
-{
-    (4 - size % 4) % 4
-}
 
 // A row's own XDR bytes, without its children's.
 fn own_size(rows: &[u64], row: usize) -> u64
@@ -34,7 +27,7 @@ fn own_size(rows: &[u64], row: usize) -> u64
         2 => 8,
         3 => 4,
         4 => 0,
-        5 => 4 + (count + padding(count)),
+        5 => 4 + (count + xdr::padding(count)),
         6 => 4 + 4 * count,
         7 => 4 + 8 * count,
         8 => 4,
@@ -123,10 +116,10 @@ fn copy_elements(width: u64, elements: &[u8], out: &mut [u8], index: usize)
 // Puts the padding behind so many bytes of elements, which has room, and gives the index behind it. A loop up to the count would be compiled
 // to a call of memset, which the archive must not need.
 fn export_padding(size: u64, out: &mut [u8], index: usize) -> usize
-    requires { ⌜ index + paddingOf size ≤ length (now out) ⌝ }
-    ensures { λ r. ⌜ (r ≡ index + paddingOf size) × (now (out .exit) ≡ put (now (out .entry)) index (replicate (paddingOf size) 0)) ⌝ }
+    requires { ⌜ index + padding size ≤ length (now out) ⌝ }
+    ensures { λ r. ⌜ (r ≡ index + padding size) × (now (out .exit) ≡ put (now (out .entry)) index (replicate (padding size) 0)) ⌝ }
 {
-    let count = padding(size) as usize;
+    let count = xdr::padding(size) as usize;
     let mut i: usize = 0;
     while i < 3 {
         if i < count {
@@ -146,8 +139,8 @@ fn export_elements(
     out: &mut [u8],
     index: usize,
 ) -> usize
-    requires { ⌜ ((k : Elements) × (width ≡ elementWidth k)) × (count < 256 ^ 4) × (place + width * count ≤ length (now store)) × (index + (4 + (width * count + paddingOf (width * count))) ≤ length (now out)) ⌝ }
-    ensures { λ r. ⌜ (r ≡ index + (4 + (width * count + paddingOf (width * count)))) × (now (out .exit) ≡ put (now (out .entry)) index (packBigEndian 4 count ++ padded (reverseEach width (take (width * count) (drop place (now (store .entry)))) count))) ⌝ }
+    requires { ⌜ ((k : Elements) × (width ≡ elementWidth k)) × (count < 256 ^ 4) × (place + width * count ≤ length (now store)) × (index + (4 + (width * count + padding (width * count))) ≤ length (now out)) ⌝ }
+    ensures { λ r. ⌜ (r ≡ index + (4 + (width * count + padding (width * count)))) × (now (out .exit) ≡ put (now (out .entry)) index (packBigEndian 4 count ++ padded (reverseEach width (take (width * count) (drop place (now (store .entry)))) count))) ⌝ }
 {
     let at = export_uint32(count as u32, out, index);
     let size = width * count;

@@ -14,7 +14,7 @@ ghost use Rattle.tables.specs.Grammar.{kindWord, countWord};
 ghost use Rattle.tables.specs.Row.{laid};
 ghost use Rattle.grammar.specs.Tree.{nodeTree, treeOf};
 ghost use Rattle.admission.specs.Admission.{capacityOf};
-ghost use Rattle.xdr.specs.Xdr.{padding as paddingOf, storeOf, storeOfAll, rowsIn, rowsInAll};
+ghost use Rattle.xdr.specs.Xdr.{storeOf, storeOfAll, rowsIn, rowsInAll};
 ghost use Rattle.xdr.specs.Import.{zeros as zerosOf, claim as claimOf, move, fill as fillOf, takeNumber, checkBody, takeNumbers, importBody, importFields, importVal, importWhole, start};
 ghost use Rattle.importing.specs.Meaning.{fillingOf, stepOf, takenOf, TakenBelow};
 ghost use Rattle.importing.specs.Brings.{Ready, Brings, takeBelow, closed, Counted, Leaf, childPlace, nodeAt, treesAt, Children, Node, RowClaimed, Admitted};
@@ -170,13 +170,6 @@ fn import_constant(rows: &mut [u64], row: usize, s: Filling) -> Step
     Step::Next(s)
 }
 
-// The bytes from so many up to a multiple of four.
-fn padding(size: usize) -> usize
-    ensures { λ r. ⌜ (r ≡ paddingOf size) × (r ≤ 3) ⌝ }
-{
-    (4 - size % 4) % 4
-}
-
 // Whether the bytes of a part from `start` on, up to `end`, are zero.
 fn zeros(part: &[u8], start: usize, end: usize) -> bool
     requires { ⌜ (start ≤ end) × (end ≤ length (now part)) ⌝ }
@@ -197,7 +190,7 @@ fn import_array_body(part: &[u8], size: usize, start: usize, used: usize, room: 
     requires { ⌜ size + 3 < 2 ^ 64 ⌝ }
     ensures { λ r. ⌜ outcomeOf r ≡ checkBody room used size (now (part .entry)) start ⌝ }
 {
-    let end = size + padding(size);
+    let end = size + xdr::padding(size as u64) as usize;
     if part.len() < end {
         return Answer::Refused(refusal::at_byte(refusal::BYTES_MISSING, start));
     }
@@ -248,7 +241,10 @@ fn import_elements(
                     let end = place + size;
                     tables::put_row(rows, row, kind, 1, count, s.used as u64);
                     copy_elements(kind, &bytes[place..end], store, s.used);
-                    Step::Next(u.move_on(size + padding(size)).fill(size))
+                    Step::Next(
+                        u.move_on(size + xdr::padding(size as u64) as usize)
+                            .fill(size),
+                    )
                 }
             }
         }

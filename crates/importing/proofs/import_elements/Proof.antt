@@ -13,7 +13,7 @@ use Rattle.value.specs.Kinds.{elementWidth}
 use Rattle.value.specs.Tree.{VNumberArray, rowCount}
 use Rattle.value.specs.Step.{yield, give}
 use Rattle.rows.specs.Layout.{ownRow}
-use Rattle.xdr.specs.Xdr.{padding, storeOf, rowsIn}
+use Rattle.xdr.specs.Xdr.{padding, rowsIn}
 use Rattle.xdr.specs.Import.{Filling, fill, move, takeNumber, checkBody}
 use Rattle.importing.specs.Meaning.{fillingOf, takenOf}
 use Rattle.importing.proofs.Laws.{take-moves, part-from, body-holds, numbers-refused, numbers-body, numbers-taken, brings-refused, brings-next, elements-stored}
@@ -113,14 +113,14 @@ add-move-on c =
     let q = c .before .before .before .before .before .before .before .before .before .before in
     let h = counted (q .before .before .before .before) in
     let y = body q in
-    omega (arith, y .1, c .padding .ensures .1, q .before .before .before .before .before .before .before .before .before .before .before .pre .1)
+    omega (arith, y .1, c .padding .ensures, q .before .before .before .before .before .before .before .before .before .before .before .pre .1)
 
 move-on-requires : tie.Need-move-on-requires
 move-on-requires c κs =
     let q = c .before .before .before .before .before .before .before .before .before .before in
     let h = counted (q .before .before .before .before) in
     let y = body q in
-    omega (arith, h .1, h .2, y .1, c .padding .ensures .0, q .before .before .before .before .before .before .before .before .before .before .before .pre .1)
+    omega (arith, h .1, h .2, y .1, c .padding .ensures, q .before .before .before .before .before .before .before .before .before .before .before .pre .1)
 
 fill-requires : tie.Need-fill-requires
 fill-requires c κs =
@@ -165,7 +165,7 @@ returns-3 c =
     let ns = unpackBigEndianSeq w (drop p d) (g .0 .0) in
     let l : length ns ≡ g .0 .0 = length-unpackBigSeq w (drop p d) (g .0 .0) in
     let t : fillingOf (c .fill .result) ≡ fill (w * g .0 .0) (move (w * g .0 .0 + padding (w * g .0 .0)) (fillingOf (g .0 .1 .0))) =
-    c .fill .ensures ∙ ap (fill (a .width * g .0 .0)) (c .before .move-on .ensures ∙ ap (λ (n : ℕ). move (a .width * g .0 .0 + n) (fillingOf (g .0 .1 .0))) (c .before .before .padding .ensures .0)) ∙ rw f in
+    c .fill .ensures ∙ ap (fill (a .width * g .0 .0)) (c .before .move-on .ensures ∙ ap (λ (n : ℕ). move (a .width * g .0 .0 + n) (fillingOf (g .0 .1 .0))) (c .before .before .padding .ensures)) ∙ rw f in
     brings-next (c .fill .result) (VNumberArray k ns)
     (ap (give (VNumberArray k)) (ap (λ (s : Filling). yield ns s) t ∙ numbers-taken d (a .room) k (fillingOf (a .s)) (g .0 .0) (fillingOf (g .0 .1 .0)) (h .0) (rw f at (y .0))))
     (c .before .before .before .before .before .before .before .before .before .before .put-row .ensures ∙ rw (e, l))

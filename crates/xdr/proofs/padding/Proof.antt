@@ -1,8 +1,8 @@
 use mathlib.Core.Path.{refl}
 use Rattle.xdr.specs.Xdr.{padding}
 use borrow.Author.Needs.{needs}
-use Rattle.exporting.proofs.padding.Statement.{statement}
-use Rattle.exporting.proofs.padding.Tie as tie
+use Rattle.xdr.proofs.padding.Statement.{statement}
+use Rattle.xdr.proofs.padding.Tie as tie
 
 sub-result : tie.Need-sub-result
 sub-result c = search needs
