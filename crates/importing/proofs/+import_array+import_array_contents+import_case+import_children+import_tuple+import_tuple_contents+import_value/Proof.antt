@@ -1,6 +1,7 @@
 -- The readers of the cycle meet their contracts. The measure is the rows still free: four times for a value, one more for children, two for
 -- contents, three for an array, a tuple or a case.
 use mathlib.Core.Path.{_≡_, refl, ap, sym, _∙_}
+use mathlib.Core.Bool.{false}
 use mathlib.Core.List.{List}
 use Prim.Native.Nat.{ℕ, suc, _+_, _-_, _*_, _^_, _≤_, _<_}
 use native.Mathlib.Nat.{sub-zero, add-zero, mul-zero, mul-suc, mul-le-mul-left}
@@ -9,13 +10,16 @@ use native.Mathlib.Omega.{arith}
 use lib.ListN.{length}
 use Rattle.refusal.proofs.Tests.{none-below}
 use Rattle.value.specs.Kinds.{kindOf, lastKind}
+use Rattle.value.specs.Tree.{Gs}
 use Rattle.value.specs.Step.{yield}
+use Rattle.value.proofs.KindLaws.{isParent}
 use Rattle.tables.specs.Grammar.{kindWord, firstWord, countWord}
 use Rattle.grammar.specs.Tree.{nodeTree, treeOf, childTrees}
+use Rattle.xdr.specs.Xdr.{storeOf, rowsIn}
 use Rattle.xdr.specs.Import.{importFields, importBody, importVal}
 use Rattle.importing.specs.declared.Step.{Step as CodeStep}
 use Rattle.importing.specs.Meaning.{fillingOf, takenOf}
-use Rattle.importing.specs.Brings.{Ready, RowClaimed, takeBelow, childPlace, nodeAt, treesAt}
+use Rattle.importing.specs.Brings.{Ready, Brings, Leaf, RowClaimed, takeBelow, childPlace, nodeAt, treesAt}
 use Rattle.importing.proofs.Cycle.{Claimed, claimed-next, arm-refused, arm-body, ready-claimed, leaf, ready-below, below-taken, counted-children, kind-tree, node-few, children-array, children-tuple, children-case, arm-array, arm-array-refused, arm-tuple, arm-case, arm-case-refused, Remaining, remaining-start, remaining-done, remaining-refused, remaining-next, trees-next, trees-done}
 use borrow.Author.Needs.{needs}
 use borrow.Fn.Kinds.{In}
@@ -496,6 +500,37 @@ import-tuple-contents-returns t c =
 claimed : (t : ℕ) (c : import-value-lts.After-t (import-value-calls t) (import-value-at t) import-value.Post) → Claimed (c .before .before .before .before .before .before .before .args .lent .capacity) (c .before .before .before .before .before .before .before .args .s) (c .t .given .0 .0)
 claimed t c = claimed-next (c .before .before .before .before .before .before .before .args .lent .capacity) (c .before .before .before .before .before .before .before .args .s) (c .t .given .0 .0) (c .t .given .1) (c .before .before .claim .ensures)
 
+-- behind the kind word: what the reader of a leaf asks
+leaf-asked : (t : ℕ) (c : import-value-lts.After-word (import-value-calls t) (import-value-at t) import-value.Post) {k : ℕ} → c .word .result ≡ k → isParent k ≡ false → k ≤ lastKind → let a = c .before .before .before .before .before .before .before .before .before .args in Leaf (c .word .result) × (a .node < 4294967296) × (c .before .before .t .given .0 .0 .at ≤ length (a .bytes .now)) × (length (a .bytes .now) ≤ 1048576)
+leaf-asked t c e n l =
+    let a = c .before .before .before .before .before .before .before .before .before .args in
+    let p = c .before .before .before .before .before .before .before .before .before .pre .1 in
+    let r = ready-claimed (a .s) (c .before .before .t .given .0 .0) (p .1) (claimed t (c .before .before)) in
+    (leaf e n l, omega (arith, node-few (a .grammar .now) (a .node) (p .0) .0), r .inside, r .short)
+
+-- of a parent, its row claimed
+parent-asked : (t : ℕ) (c : import-value-lts.After-word (import-value-calls t) (import-value-at t) import-value.Post) {k : ℕ} → c .word .result ≡ k → let a = c .before .before .before .before .before .before .before .before .before .args in let u = c .before .before .t .given .0 .0 in (4 * (a .lent .capacity - u .begun) + 3 < t) × RowClaimed (a .grammar .now) (a .bytes .now) (a .rows .now) (a .store .now) (a .node) k (a .s .begun) (a .lent) u
+parent-asked t c e =
+    let a = c .before .before .before .before .before .before .before .before .before .args in
+    let p = c .before .before .before .before .before .before .before .before .before .pre in
+    let q = claimed t (c .before .before) in
+    (omega (arith, p .0, q .begun, q .free), record { node = p .1 .0; kind = sym (c .word .ensures .0) ∙ e; ready = ready-claimed (a .s) (c .before .before .t .given .0 .0) (p .1 .1) q; claimed = q .begun })
+
+-- what a reader brings, the value brings: of a parent, by the tree of its node
+parent-brought : (t : ℕ) (c : import-value-lts.After-word (import-value-calls t) (import-value-at t) import-value.Post) {r : CodeStep} {rows₁ store₁ : List ℕ} → let a = c .before .before .before .before .before .before .before .before .before .args in let u = c .before .before .t .given .0 .0 in let g = treeOf (a .grammar .now) (a .node) in Brings rowsIn storeOf (importBody (a .lent .capacity) (a .lent .room) (a .bytes .now) g (fillingOf u)) (a .s .begun) (u .used) (a .rows .now) (a .store .now) r rows₁ store₁ → Brings rowsIn storeOf (importVal (a .lent .capacity) (a .lent .room) (a .bytes .now) g (fillingOf (a .s))) (a .s .begun) (a .s .used) (a .rows .now) (a .store .now) r rows₁ store₁
+parent-brought t c h =
+    let a = c .before .before .before .before .before .before .before .before .before .args in
+    arm-body (a .lent .capacity) (a .lent .room) (a .bytes .now) (treeOf (a .grammar .now) (a .node)) (a .s) (c .before .before .t .given .0 .0) (claimed t (c .before .before)) h
+
+-- and of a leaf, by its kind word
+leaf-brought : (t : ℕ) (c : import-value-lts.After-word (import-value-calls t) (import-value-at t) import-value.Post) {r : CodeStep} {rows₁ store₁ : List ℕ} → let a = c .before .before .before .before .before .before .before .before .before .args in let u = c .before .before .t .given .0 .0 in ((capacity : ℕ) (gs : Gs) → Brings rowsIn storeOf (importBody capacity (a .lent .room) (a .bytes .now) (nodeTree (kindOf (c .word .result)) gs) (fillingOf u)) (a .s .begun) (u .used) (a .rows .now) (a .store .now) r rows₁ store₁) → Brings rowsIn storeOf (importVal (a .lent .capacity) (a .lent .room) (a .bytes .now) (treeOf (a .grammar .now) (a .node)) (fillingOf (a .s))) (a .s .begun) (a .s .used) (a .rows .now) (a .store .now) r rows₁ store₁
+leaf-brought t c h =
+    let a = c .before .before .before .before .before .before .before .before .before .args in
+    let g = a .grammar .now in
+    let gs = childTrees g (treeOf g) (firstWord g (a .node)) (countWord g (a .node)) in
+    let e : treeOf g (a .node) ≡ nodeTree (kindOf (c .word .result)) gs = kind-tree g (a .node) (c .before .before .before .before .before .before .before .before .before .pre .1 .0) ∙ ap (λ (w : ℕ). nodeTree (kindOf w) gs) (sym (c .word .ensures .0)) in
+    parent-brought t c (rw e (h (a .lent .capacity) gs))
+
 import-value-claim-requires : (t : ℕ) → import-value-lts.Need-claim-requires (import-value-calls t) (import-value-at t) import-value.Post
 import-value-claim-requires t c κs = search needs
 
@@ -515,70 +550,37 @@ import-value-word-requires : (t : ℕ) → import-value-lts.Need-word-requires (
 import-value-word-requires t c κs = search needs
 
 import-value-import-leaf-requires : (t : ℕ) → import-value-lts.Need-import-leaf-requires (import-value-calls t) (import-value-at t) import-value.Post
-import-value-import-leaf-requires t c κs =
-    let p = c .before .before .before .before .before .before .before .before .before .before .before .before .pre .1 in
-    let r = ready-claimed (c .before .before .before .before .before .before .before .before .before .before .before .before .args .s) (c .before .before .before .before .before .t .given .0 .0) (p .1) (claimed t (c .before .before .before .before .before)) in
-    (leaf (c .before .before .match2 .keys1) refl (omega arith), omega (arith, node-few (c .before .before .before .before .before .before .before .before .before .before .before .before .args .grammar .now) (c .before .before .before .before .before .before .before .before .before .before .before .before .args .node) (p .0) .0), r .inside, r .short)
+import-value-import-leaf-requires t c κs = leaf-asked t (c .before .before .before) (c .before .before .match2 .keys1) refl (omega arith)
 
 import-value-import-leaf-requires-2 : (t : ℕ) → import-value-lts.Need-import-leaf-requires-2 (import-value-calls t) (import-value-at t) import-value.Post
-import-value-import-leaf-requires-2 t c κs =
-    let p = c .before .before .before .before .before .before .before .before .before .before .before .before .pre .1 in
-    let r = ready-claimed (c .before .before .before .before .before .before .before .before .before .before .before .before .args .s) (c .before .before .before .before .before .t .given .0 .0) (p .1) (claimed t (c .before .before .before .before .before)) in
-    (leaf (c .before .before .match2 .keys2) refl (omega arith), omega (arith, node-few (c .before .before .before .before .before .before .before .before .before .before .before .before .args .grammar .now) (c .before .before .before .before .before .before .before .before .before .before .before .before .args .node) (p .0) .0), r .inside, r .short)
+import-value-import-leaf-requires-2 t c κs = leaf-asked t (c .before .before .before) (c .before .before .match2 .keys2) refl (omega arith)
 
 import-value-import-leaf-requires-3 : (t : ℕ) → import-value-lts.Need-import-leaf-requires-3 (import-value-calls t) (import-value-at t) import-value.Post
-import-value-import-leaf-requires-3 t c κs =
-    let p = c .before .before .before .before .before .before .before .before .before .before .before .before .pre .1 in
-    let r = ready-claimed (c .before .before .before .before .before .before .before .before .before .before .before .before .args .s) (c .before .before .before .before .before .t .given .0 .0) (p .1) (claimed t (c .before .before .before .before .before)) in
-    (leaf (c .before .before .match2 .keys3) refl (omega arith), omega (arith, node-few (c .before .before .before .before .before .before .before .before .before .before .before .before .args .grammar .now) (c .before .before .before .before .before .before .before .before .before .before .before .before .args .node) (p .0) .0), r .inside, r .short)
+import-value-import-leaf-requires-3 t c κs = leaf-asked t (c .before .before .before) (c .before .before .match2 .keys3) refl (omega arith)
 
 import-value-import-array-requires : (t : ℕ) → import-value-lts.Need-import-array-requires (import-value-calls t) (import-value-at t) import-value.Post
-import-value-import-array-requires t c κs =
-    let p = c .before .before .before .before .before .before .before .before .before .before .before .before .pre in
-    let q = claimed t (c .before .before .before .before .before) in
-    (omega (arith, p .0, q .begun, q .free), record { node = p .1 .0; kind = sym (c .before .before .before .word .ensures .0) ∙ c .before .before .match2 .keys4; ready = ready-claimed (c .before .before .before .before .before .before .before .before .before .before .before .before .args .s) (c .before .before .before .before .before .t .given .0 .0) (p .1 .1) q; claimed = q .begun })
+import-value-import-array-requires t c κs = parent-asked t (c .before .before .before) (c .before .before .match2 .keys4)
 
 import-value-import-tuple-requires : (t : ℕ) → import-value-lts.Need-import-tuple-requires (import-value-calls t) (import-value-at t) import-value.Post
-import-value-import-tuple-requires t c κs =
-    let p = c .before .before .before .before .before .before .before .before .before .before .before .before .pre in
-    let q = claimed t (c .before .before .before .before .before) in
-    (omega (arith, p .0, q .begun, q .free), record { node = p .1 .0; kind = sym (c .before .before .before .word .ensures .0) ∙ c .before .before .match2 .keys5; ready = ready-claimed (c .before .before .before .before .before .before .before .before .before .before .before .before .args .s) (c .before .before .before .before .before .t .given .0 .0) (p .1 .1) q; claimed = q .begun })
+import-value-import-tuple-requires t c κs = parent-asked t (c .before .before .before) (c .before .before .match2 .keys5)
 
 import-value-import-leaf-requires-4 : (t : ℕ) → import-value-lts.Need-import-leaf-requires-4 (import-value-calls t) (import-value-at t) import-value.Post
-import-value-import-leaf-requires-4 t c κs =
-    let p = c .before .before .before .before .before .before .before .before .before .before .before .before .pre .1 in
-    let r = ready-claimed (c .before .before .before .before .before .before .before .before .before .before .before .before .args .s) (c .before .before .before .before .before .t .given .0 .0) (p .1) (claimed t (c .before .before .before .before .before)) in
-    (leaf (c .before .before .match2 .keys6) refl (omega arith), omega (arith, node-few (c .before .before .before .before .before .before .before .before .before .before .before .before .args .grammar .now) (c .before .before .before .before .before .before .before .before .before .before .before .before .args .node) (p .0) .0), r .inside, r .short)
+import-value-import-leaf-requires-4 t c κs = leaf-asked t (c .before .before .before) (c .before .before .match2 .keys6) refl (omega arith)
 
 import-value-import-leaf-requires-5 : (t : ℕ) → import-value-lts.Need-import-leaf-requires-5 (import-value-calls t) (import-value-at t) import-value.Post
-import-value-import-leaf-requires-5 t c κs =
-    let p = c .before .before .before .before .before .before .before .before .before .before .before .before .pre .1 in
-    let r = ready-claimed (c .before .before .before .before .before .before .before .before .before .before .before .before .args .s) (c .before .before .before .before .before .t .given .0 .0) (p .1) (claimed t (c .before .before .before .before .before)) in
-    (leaf (c .before .before .match2 .keys7) refl (omega arith), omega (arith, node-few (c .before .before .before .before .before .before .before .before .before .before .before .before .args .grammar .now) (c .before .before .before .before .before .before .before .before .before .before .before .before .args .node) (p .0) .0), r .inside, r .short)
+import-value-import-leaf-requires-5 t c κs = leaf-asked t (c .before .before .before) (c .before .before .match2 .keys7) refl (omega arith)
 
 import-value-import-leaf-requires-6 : (t : ℕ) → import-value-lts.Need-import-leaf-requires-6 (import-value-calls t) (import-value-at t) import-value.Post
-import-value-import-leaf-requires-6 t c κs =
-    let p = c .before .before .before .before .before .before .before .before .before .before .before .before .pre .1 in
-    let r = ready-claimed (c .before .before .before .before .before .before .before .before .before .before .before .before .args .s) (c .before .before .before .before .before .t .given .0 .0) (p .1) (claimed t (c .before .before .before .before .before)) in
-    (leaf (c .before .before .match2 .keys8) refl (omega arith), omega (arith, node-few (c .before .before .before .before .before .before .before .before .before .before .before .before .args .grammar .now) (c .before .before .before .before .before .before .before .before .before .before .before .before .args .node) (p .0) .0), r .inside, r .short)
+import-value-import-leaf-requires-6 t c κs = leaf-asked t (c .before .before .before) (c .before .before .match2 .keys8) refl (omega arith)
 
 import-value-import-case-requires : (t : ℕ) → import-value-lts.Need-import-case-requires (import-value-calls t) (import-value-at t) import-value.Post
-import-value-import-case-requires t c κs =
-    let p = c .before .before .before .before .before .before .before .before .before .before .before .before .pre in
-    let q = claimed t (c .before .before .before .before .before) in
-    (omega (arith, p .0, q .begun, q .free), record { node = p .1 .0; kind = sym (c .before .before .before .word .ensures .0) ∙ c .before .before .match2 .keys9; ready = ready-claimed (c .before .before .before .before .before .before .before .before .before .before .before .before .args .s) (c .before .before .before .before .before .t .given .0 .0) (p .1 .1) q; claimed = q .begun })
+import-value-import-case-requires t c κs = parent-asked t (c .before .before .before) (c .before .before .match2 .keys9)
 
 import-value-import-leaf-requires-7 : (t : ℕ) → import-value-lts.Need-import-leaf-requires-7 (import-value-calls t) (import-value-at t) import-value.Post
-import-value-import-leaf-requires-7 t c κs =
-    let p = c .before .before .before .before .before .before .before .before .before .before .before .before .pre .1 in
-    let r = ready-claimed (c .before .before .before .before .before .before .before .before .before .before .before .before .args .s) (c .before .before .before .before .before .t .given .0 .0) (p .1) (claimed t (c .before .before .before .before .before)) in
-    (leaf (c .before .before .match2 .keys10) refl (omega arith), omega (arith, node-few (c .before .before .before .before .before .before .before .before .before .before .before .before .args .grammar .now) (c .before .before .before .before .before .before .before .before .before .before .before .before .args .node) (p .0) .0), r .inside, r .short)
+import-value-import-leaf-requires-7 t c κs = leaf-asked t (c .before .before .before) (c .before .before .match2 .keys10) refl (omega arith)
 
 import-value-import-leaf-requires-8 : (t : ℕ) → import-value-lts.Need-import-leaf-requires-8 (import-value-calls t) (import-value-at t) import-value.Post
-import-value-import-leaf-requires-8 t c κs =
-    let p = c .before .before .before .before .before .before .before .before .before .before .before .before .pre .1 in
-    let r = ready-claimed (c .before .before .before .before .before .before .before .before .before .before .before .before .args .s) (c .before .before .before .before .before .t .given .0 .0) (p .1) (claimed t (c .before .before .before .before .before)) in
-    (leaf (c .before .before .match2 .keys11) refl (omega arith), omega (arith, node-few (c .before .before .before .before .before .before .before .before .before .before .before .before .args .grammar .now) (c .before .before .before .before .before .before .before .before .before .before .before .before .args .node) (p .0) .0), r .inside, r .short)
+import-value-import-leaf-requires-8 t c κs = leaf-asked t (c .before .before .before) (c .before .before .match2 .keys11) refl (omega arith)
 
 import-value-refuse-kind-requires : (t : ℕ) → import-value-lts.Need-refuse-kind-requires (import-value-calls t) (import-value-at t) import-value.Post
 import-value-refuse-kind-requires t c κs = search needs
@@ -595,12 +597,7 @@ import-value-same-length-2 : (t : ℕ) → import-value-lts.Need-same-length-2 (
 import-value-same-length-2 t c = search needs
 
 import-value-returns-2 : (t : ℕ) → import-value-lts.Need-returns-2 (import-value-calls t) (import-value-at t) import-value.Post
-import-value-returns-2 t c =
-    let a = c .before .before .before .before .before .before .before .before .before .before .before .before .before .before .before .before .before .args in
-    let g = a .grammar .now in
-    let gs = childTrees g (treeOf g) (firstWord g (a .node)) (countWord g (a .node)) in
-    let e : treeOf g (a .node) ≡ nodeTree (kindOf (c .before .before .before .before .before .before .before .before .word .result)) gs = kind-tree g (a .node) (c .before .before .before .before .before .before .before .before .before .before .before .before .before .before .before .before .before .pre .1 .0) ∙ ap (λ (w : ℕ). nodeTree (kindOf w) gs) (sym (c .before .before .before .before .before .before .before .before .word .ensures .0)) in
-    arm-body (a .lent .capacity) (a .lent .room) (a .bytes .now) (treeOf g (a .node)) (a .s) (c .before .before .before .before .before .before .before .before .before .before .t .given .0 .0) (claimed t (c .before .before .before .before .before .before .before .before .before .before)) (rw e (c .before .before .before .before .import-leaf .ensures (a .lent .capacity) gs))
+import-value-returns-2 t c = leaf-brought t (c .before .before .before .before .before .before .before .before) (c .before .before .before .before .import-leaf .ensures)
 
 import-value-same-length-3 : (t : ℕ) → import-value-lts.Need-same-length-3 (import-value-calls t) (import-value-at t) import-value.Post
 import-value-same-length-3 t c = search needs
@@ -609,12 +606,7 @@ import-value-same-length-4 : (t : ℕ) → import-value-lts.Need-same-length-4 (
 import-value-same-length-4 t c = search needs
 
 import-value-returns-3 : (t : ℕ) → import-value-lts.Need-returns-3 (import-value-calls t) (import-value-at t) import-value.Post
-import-value-returns-3 t c =
-    let a = c .before .before .before .before .before .before .before .before .before .before .before .before .before .before .before .before .before .args in
-    let g = a .grammar .now in
-    let gs = childTrees g (treeOf g) (firstWord g (a .node)) (countWord g (a .node)) in
-    let e : treeOf g (a .node) ≡ nodeTree (kindOf (c .before .before .before .before .before .before .before .before .word .result)) gs = kind-tree g (a .node) (c .before .before .before .before .before .before .before .before .before .before .before .before .before .before .before .before .before .pre .1 .0) ∙ ap (λ (w : ℕ). nodeTree (kindOf w) gs) (sym (c .before .before .before .before .before .before .before .before .word .ensures .0)) in
-    arm-body (a .lent .capacity) (a .lent .room) (a .bytes .now) (treeOf g (a .node)) (a .s) (c .before .before .before .before .before .before .before .before .before .before .t .given .0 .0) (claimed t (c .before .before .before .before .before .before .before .before .before .before)) (rw e (c .before .before .before .before .import-leaf2 .ensures (a .lent .capacity) gs))
+import-value-returns-3 t c = leaf-brought t (c .before .before .before .before .before .before .before .before) (c .before .before .before .before .import-leaf2 .ensures)
 
 import-value-same-length-5 : (t : ℕ) → import-value-lts.Need-same-length-5 (import-value-calls t) (import-value-at t) import-value.Post
 import-value-same-length-5 t c = search needs
@@ -623,12 +615,7 @@ import-value-same-length-6 : (t : ℕ) → import-value-lts.Need-same-length-6 (
 import-value-same-length-6 t c = search needs
 
 import-value-returns-4 : (t : ℕ) → import-value-lts.Need-returns-4 (import-value-calls t) (import-value-at t) import-value.Post
-import-value-returns-4 t c =
-    let a = c .before .before .before .before .before .before .before .before .before .before .before .before .before .before .before .before .before .args in
-    let g = a .grammar .now in
-    let gs = childTrees g (treeOf g) (firstWord g (a .node)) (countWord g (a .node)) in
-    let e : treeOf g (a .node) ≡ nodeTree (kindOf (c .before .before .before .before .before .before .before .before .word .result)) gs = kind-tree g (a .node) (c .before .before .before .before .before .before .before .before .before .before .before .before .before .before .before .before .before .pre .1 .0) ∙ ap (λ (w : ℕ). nodeTree (kindOf w) gs) (sym (c .before .before .before .before .before .before .before .before .word .ensures .0)) in
-    arm-body (a .lent .capacity) (a .lent .room) (a .bytes .now) (treeOf g (a .node)) (a .s) (c .before .before .before .before .before .before .before .before .before .before .t .given .0 .0) (claimed t (c .before .before .before .before .before .before .before .before .before .before)) (rw e (c .before .before .before .before .import-leaf3 .ensures (a .lent .capacity) gs))
+import-value-returns-4 t c = leaf-brought t (c .before .before .before .before .before .before .before .before) (c .before .before .before .before .import-leaf3 .ensures)
 
 import-value-same-length-7 : (t : ℕ) → import-value-lts.Need-same-length-7 (import-value-calls t) (import-value-at t) import-value.Post
 import-value-same-length-7 t c = search needs
@@ -637,9 +624,7 @@ import-value-same-length-8 : (t : ℕ) → import-value-lts.Need-same-length-8 (
 import-value-same-length-8 t c = search needs
 
 import-value-returns-5 : (t : ℕ) → import-value-lts.Need-returns-5 (import-value-calls t) (import-value-at t) import-value.Post
-import-value-returns-5 t c =
-    let a = c .before .before .before .before .before .before .before .before .before .before .before .before .before .before .before .before .before .args in
-    arm-body (a .lent .capacity) (a .lent .room) (a .bytes .now) (treeOf (a .grammar .now) (a .node)) (a .s) (c .before .before .before .before .before .before .before .before .before .before .t .given .0 .0) (claimed t (c .before .before .before .before .before .before .before .before .before .before)) (c .before .before .before .before .import-array .ensures)
+import-value-returns-5 t c = parent-brought t (c .before .before .before .before .before .before .before .before) (c .before .before .before .before .import-array .ensures)
 
 import-value-same-length-9 : (t : ℕ) → import-value-lts.Need-same-length-9 (import-value-calls t) (import-value-at t) import-value.Post
 import-value-same-length-9 t c = search needs
@@ -648,9 +633,7 @@ import-value-same-length-10 : (t : ℕ) → import-value-lts.Need-same-length-10
 import-value-same-length-10 t c = search needs
 
 import-value-returns-6 : (t : ℕ) → import-value-lts.Need-returns-6 (import-value-calls t) (import-value-at t) import-value.Post
-import-value-returns-6 t c =
-    let a = c .before .before .before .before .before .before .before .before .before .before .before .before .before .before .before .before .before .args in
-    arm-body (a .lent .capacity) (a .lent .room) (a .bytes .now) (treeOf (a .grammar .now) (a .node)) (a .s) (c .before .before .before .before .before .before .before .before .before .before .t .given .0 .0) (claimed t (c .before .before .before .before .before .before .before .before .before .before)) (c .before .before .before .before .import-tuple .ensures)
+import-value-returns-6 t c = parent-brought t (c .before .before .before .before .before .before .before .before) (c .before .before .before .before .import-tuple .ensures)
 
 import-value-same-length-11 : (t : ℕ) → import-value-lts.Need-same-length-11 (import-value-calls t) (import-value-at t) import-value.Post
 import-value-same-length-11 t c = search needs
@@ -659,12 +642,7 @@ import-value-same-length-12 : (t : ℕ) → import-value-lts.Need-same-length-12
 import-value-same-length-12 t c = search needs
 
 import-value-returns-7 : (t : ℕ) → import-value-lts.Need-returns-7 (import-value-calls t) (import-value-at t) import-value.Post
-import-value-returns-7 t c =
-    let a = c .before .before .before .before .before .before .before .before .before .before .before .before .before .before .before .before .before .args in
-    let g = a .grammar .now in
-    let gs = childTrees g (treeOf g) (firstWord g (a .node)) (countWord g (a .node)) in
-    let e : treeOf g (a .node) ≡ nodeTree (kindOf (c .before .before .before .before .before .before .before .before .word .result)) gs = kind-tree g (a .node) (c .before .before .before .before .before .before .before .before .before .before .before .before .before .before .before .before .before .pre .1 .0) ∙ ap (λ (w : ℕ). nodeTree (kindOf w) gs) (sym (c .before .before .before .before .before .before .before .before .word .ensures .0)) in
-    arm-body (a .lent .capacity) (a .lent .room) (a .bytes .now) (treeOf g (a .node)) (a .s) (c .before .before .before .before .before .before .before .before .before .before .t .given .0 .0) (claimed t (c .before .before .before .before .before .before .before .before .before .before)) (rw e (c .before .before .before .before .import-leaf4 .ensures (a .lent .capacity) gs))
+import-value-returns-7 t c = leaf-brought t (c .before .before .before .before .before .before .before .before) (c .before .before .before .before .import-leaf4 .ensures)
 
 import-value-same-length-13 : (t : ℕ) → import-value-lts.Need-same-length-13 (import-value-calls t) (import-value-at t) import-value.Post
 import-value-same-length-13 t c = search needs
@@ -673,12 +651,7 @@ import-value-same-length-14 : (t : ℕ) → import-value-lts.Need-same-length-14
 import-value-same-length-14 t c = search needs
 
 import-value-returns-8 : (t : ℕ) → import-value-lts.Need-returns-8 (import-value-calls t) (import-value-at t) import-value.Post
-import-value-returns-8 t c =
-    let a = c .before .before .before .before .before .before .before .before .before .before .before .before .before .before .before .before .before .args in
-    let g = a .grammar .now in
-    let gs = childTrees g (treeOf g) (firstWord g (a .node)) (countWord g (a .node)) in
-    let e : treeOf g (a .node) ≡ nodeTree (kindOf (c .before .before .before .before .before .before .before .before .word .result)) gs = kind-tree g (a .node) (c .before .before .before .before .before .before .before .before .before .before .before .before .before .before .before .before .before .pre .1 .0) ∙ ap (λ (w : ℕ). nodeTree (kindOf w) gs) (sym (c .before .before .before .before .before .before .before .before .word .ensures .0)) in
-    arm-body (a .lent .capacity) (a .lent .room) (a .bytes .now) (treeOf g (a .node)) (a .s) (c .before .before .before .before .before .before .before .before .before .before .t .given .0 .0) (claimed t (c .before .before .before .before .before .before .before .before .before .before)) (rw e (c .before .before .before .before .import-leaf5 .ensures (a .lent .capacity) gs))
+import-value-returns-8 t c = leaf-brought t (c .before .before .before .before .before .before .before .before) (c .before .before .before .before .import-leaf5 .ensures)
 
 import-value-same-length-15 : (t : ℕ) → import-value-lts.Need-same-length-15 (import-value-calls t) (import-value-at t) import-value.Post
 import-value-same-length-15 t c = search needs
@@ -687,12 +660,7 @@ import-value-same-length-16 : (t : ℕ) → import-value-lts.Need-same-length-16
 import-value-same-length-16 t c = search needs
 
 import-value-returns-9 : (t : ℕ) → import-value-lts.Need-returns-9 (import-value-calls t) (import-value-at t) import-value.Post
-import-value-returns-9 t c =
-    let a = c .before .before .before .before .before .before .before .before .before .before .before .before .before .before .before .before .before .args in
-    let g = a .grammar .now in
-    let gs = childTrees g (treeOf g) (firstWord g (a .node)) (countWord g (a .node)) in
-    let e : treeOf g (a .node) ≡ nodeTree (kindOf (c .before .before .before .before .before .before .before .before .word .result)) gs = kind-tree g (a .node) (c .before .before .before .before .before .before .before .before .before .before .before .before .before .before .before .before .before .pre .1 .0) ∙ ap (λ (w : ℕ). nodeTree (kindOf w) gs) (sym (c .before .before .before .before .before .before .before .before .word .ensures .0)) in
-    arm-body (a .lent .capacity) (a .lent .room) (a .bytes .now) (treeOf g (a .node)) (a .s) (c .before .before .before .before .before .before .before .before .before .before .t .given .0 .0) (claimed t (c .before .before .before .before .before .before .before .before .before .before)) (rw e (c .before .before .before .before .import-leaf6 .ensures (a .lent .capacity) gs))
+import-value-returns-9 t c = leaf-brought t (c .before .before .before .before .before .before .before .before) (c .before .before .before .before .import-leaf6 .ensures)
 
 import-value-same-length-17 : (t : ℕ) → import-value-lts.Need-same-length-17 (import-value-calls t) (import-value-at t) import-value.Post
 import-value-same-length-17 t c = search needs
@@ -701,9 +669,7 @@ import-value-same-length-18 : (t : ℕ) → import-value-lts.Need-same-length-18
 import-value-same-length-18 t c = search needs
 
 import-value-returns-10 : (t : ℕ) → import-value-lts.Need-returns-10 (import-value-calls t) (import-value-at t) import-value.Post
-import-value-returns-10 t c =
-    let a = c .before .before .before .before .before .before .before .before .before .before .before .before .before .before .before .before .before .args in
-    arm-body (a .lent .capacity) (a .lent .room) (a .bytes .now) (treeOf (a .grammar .now) (a .node)) (a .s) (c .before .before .before .before .before .before .before .before .before .before .t .given .0 .0) (claimed t (c .before .before .before .before .before .before .before .before .before .before)) (c .before .before .before .before .import-case .ensures)
+import-value-returns-10 t c = parent-brought t (c .before .before .before .before .before .before .before .before) (c .before .before .before .before .import-case .ensures)
 
 import-value-same-length-19 : (t : ℕ) → import-value-lts.Need-same-length-19 (import-value-calls t) (import-value-at t) import-value.Post
 import-value-same-length-19 t c = search needs
@@ -712,12 +678,7 @@ import-value-same-length-20 : (t : ℕ) → import-value-lts.Need-same-length-20
 import-value-same-length-20 t c = search needs
 
 import-value-returns-11 : (t : ℕ) → import-value-lts.Need-returns-11 (import-value-calls t) (import-value-at t) import-value.Post
-import-value-returns-11 t c =
-    let a = c .before .before .before .before .before .before .before .before .before .before .before .before .before .before .before .before .before .args in
-    let g = a .grammar .now in
-    let gs = childTrees g (treeOf g) (firstWord g (a .node)) (countWord g (a .node)) in
-    let e : treeOf g (a .node) ≡ nodeTree (kindOf (c .before .before .before .before .before .before .before .before .word .result)) gs = kind-tree g (a .node) (c .before .before .before .before .before .before .before .before .before .before .before .before .before .before .before .before .before .pre .1 .0) ∙ ap (λ (w : ℕ). nodeTree (kindOf w) gs) (sym (c .before .before .before .before .before .before .before .before .word .ensures .0)) in
-    arm-body (a .lent .capacity) (a .lent .room) (a .bytes .now) (treeOf g (a .node)) (a .s) (c .before .before .before .before .before .before .before .before .before .before .t .given .0 .0) (claimed t (c .before .before .before .before .before .before .before .before .before .before)) (rw e (c .before .before .before .before .import-leaf7 .ensures (a .lent .capacity) gs))
+import-value-returns-11 t c = leaf-brought t (c .before .before .before .before .before .before .before .before) (c .before .before .before .before .import-leaf7 .ensures)
 
 import-value-same-length-21 : (t : ℕ) → import-value-lts.Need-same-length-21 (import-value-calls t) (import-value-at t) import-value.Post
 import-value-same-length-21 t c = search needs
@@ -726,12 +687,7 @@ import-value-same-length-22 : (t : ℕ) → import-value-lts.Need-same-length-22
 import-value-same-length-22 t c = search needs
 
 import-value-returns-12 : (t : ℕ) → import-value-lts.Need-returns-12 (import-value-calls t) (import-value-at t) import-value.Post
-import-value-returns-12 t c =
-    let a = c .before .before .before .before .before .before .before .before .before .before .before .before .before .before .before .before .before .args in
-    let g = a .grammar .now in
-    let gs = childTrees g (treeOf g) (firstWord g (a .node)) (countWord g (a .node)) in
-    let e : treeOf g (a .node) ≡ nodeTree (kindOf (c .before .before .before .before .before .before .before .before .word .result)) gs = kind-tree g (a .node) (c .before .before .before .before .before .before .before .before .before .before .before .before .before .before .before .before .before .pre .1 .0) ∙ ap (λ (w : ℕ). nodeTree (kindOf w) gs) (sym (c .before .before .before .before .before .before .before .before .word .ensures .0)) in
-    arm-body (a .lent .capacity) (a .lent .room) (a .bytes .now) (treeOf g (a .node)) (a .s) (c .before .before .before .before .before .before .before .before .before .before .t .given .0 .0) (claimed t (c .before .before .before .before .before .before .before .before .before .before)) (rw e (c .before .before .before .before .import-leaf8 .ensures (a .lent .capacity) gs))
+import-value-returns-12 t c = leaf-brought t (c .before .before .before .before .before .before .before .before) (c .before .before .before .before .import-leaf8 .ensures)
 
 import-value-returns-13 : (t : ℕ) → import-value-lts.Need-returns-13 (import-value-calls t) (import-value-at t) import-value.Post
 import-value-returns-13 t c =
