@@ -8,7 +8,6 @@ use native.Mathlib.Numerals.{add-one}
 use native.Mathlib.Omega.{arith}
 use lib.ListN.{length, getD, take, drop}
 use lib.Dec.{eqb}
-use borrow.Author.Tests.{le-leb}
 use Rattle.refusal.specs.Outcome.{Outcome, accepted, refused, bind, test, map, word, byte, Reason, reason}
 use Rattle.refusal.specs.Meaning.{locationOf, reasonOf}
 use Rattle.refusal.specs.declared.Refusal.{Refusal}
@@ -16,13 +15,14 @@ use Rattle.refusal.proofs.Tests.{reflects-leb, reflects-ltb, reflects-eqb, refl
 use Rattle.refusal.proofs.Outcome.{Post, holds, post-reflects, post-accepted, post-refused, test-true, map-accepted, map-refused}
 use Rattle.value.specs.Tree.{Val}
 use Rattle.value.specs.Step.{Step}
-use Rattle.value.specs.Reading.{State, Stop, Reading, readWhole}
+use Rattle.value.specs.Reading.{State, Stop, Reading}
 use Rattle.value.proofs.Begun.{begins-whole}
 use Rattle.grammar.specs.Check.{checkGrammar}
 use Rattle.grammar.proofs.Rule.{refused-exactly, refused-word}
 use Rattle.grammar.specs.Tree.{treeOf}
-use Rattle.admission.specs.Admission.{checkLength, admitOf}
+use Rattle.admission.specs.Admission.{checkLength}
 use Rattle.readers.specs.Root.{readRoot}
+use Rattle.reading.proofs.Calls.{try-whole}
 use Rattle.choosing.specs.Choose.{listCount, countAt, grammarOf, checkList, placedReason, inList, checkGrammars, tryOf, Choice, tried, tryGrammars, chooseOf}
 use Rattle.choosing.specs.Rule.{ListRule}
 
@@ -122,11 +122,6 @@ module _ (l : List ℕ) (j n : ℕ) where
   grammar-refused h e = grammar-step h e
 
 -- ---- the tries
-
--- a try of a grammar that passes is a whole reading
-pub try-whole : (g d : List ℕ) (capacity : ℕ) → checkGrammar g ≡ accepted tt → length d ≤ 1048576 → readRoot g d 0 capacity true ≡ readWhole capacity d (treeOf g 0)
-unfolding readRoot admitOf readWhole
-try-whole g d capacity p h = rw (p, le-leb (length d) 1048576 h, le-leb 0 (length d) (omega arith))
 
 pub tries-none : (l d : List ℕ) (j before n : ℕ) → n ≤ j → refused (reason 22 (byte 0)) ≡ tryGrammars l d j before (n - j)
 unfolding tryGrammars

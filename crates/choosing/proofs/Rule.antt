@@ -12,17 +12,17 @@ use Rattle.refusal.proofs.Tests.{reflects-eqb}
 use Rattle.refusal.proofs.Outcome.{Post, holds, fails, post-bind, post-weaken, post-accepted, post-refused, test-true, clash}
 use Rattle.value.specs.Tree.{Val}
 use Rattle.value.specs.Step.{Step}
-use Rattle.value.specs.Reading.{State, Stop, Reading, begunOf, readWhole}
-use Rattle.value.proofs.Begun.{Begins, begins-whole}
+use Rattle.value.specs.Reading.{State, Stop, Reading, begunOf}
+use Rattle.value.proofs.Begun.{begins-whole, begun-whole}
 use Rattle.grammar.specs.Check.{checkGrammar}
 use Rattle.grammar.specs.Tree.{treeOf}
 use Rattle.grammar.proofs.Rule.{one-more}
 use Rattle.admission.proofs.Admission.{length-fits, length-post}
 use Rattle.reading.specs.Calls.{withoutState, demarshallOf}
-use Rattle.reading.proofs.Calls.{withoutState-accepted, root-whole}
+use Rattle.reading.proofs.Calls.{withoutState-accepted, checked}
 use Rattle.choosing.specs.Choose.{listCount, countAt, grammarOf, checkList, placedReason, inList, checkGrammars, tryOf, Choice, tried, tryGrammars, chooseOf}
 use Rattle.choosing.specs.Rule.{ListRule, ListPasses, Accepts, begunOver, IsFirst, ChoosesFirst, BegunWithin}
-use Rattle.choosing.proofs.Laws.{rule-ends, try-whole, list-post, list-filled, grammars-none, grammar-passed, grammar-refused, choose-length, tries-none, tries-accepted, tries-refused}
+use Rattle.choosing.proofs.Laws.{rule-ends, list-post, list-filled, grammars-none, grammar-passed, grammar-refused, choose-length, tries-none, tries-accepted, tries-refused}
 
 -- ---- 21, then 1 to 5 of each grammar
 
@@ -82,10 +82,6 @@ module _ (l : List ℕ) where
   passes-held h k = record { rule = rule-held h; grammars = post-accepted (rw (sym k) at grammars-post) }
 
 -- ---- the tries
-
--- where 1 to 6 are not given, the whole reading of the record is the try
-checked : (g d : List ℕ) (capacity : ℕ) → checkGrammar g ≡ accepted tt → length d ≤ 1048576 → demarshallOf g d capacity ≡ withoutState (readWhole capacity d (treeOf g 0))
-checked g d capacity p h = sym (root-whole g d capacity) ∙ ap withoutState (try-whole g d capacity p h)
 
 module _ (l d : List ℕ) where
   -- the try of grammar j is refused
@@ -172,17 +168,10 @@ chooses-first l d c = (λ e. post-accepted (rw e at (chosen-post l d)), λ f. fi
 
 -- a try begins from 1 to 4,097 values
 module _ (l d : List ℕ) where
-  try-bounds : (j : ℕ) → (1 ≤ begunOf (tryOf l d j)) × (begunOf (tryOf l d j) ≤ 4097)
-  try-bounds j = go (tryOf l d j) (begins-whole 4096 d (treeOf (grammarOf l j) 0))
-    where
-      go : (o : Reading Val) → Begins 4096 1 o → (1 ≤ begunOf o) × (begunOf o ≤ 4097)
-      go (accepted t) b = let p = post-accepted b in (p .0, omega (arith, p .1))
-      go (refused e) b = let p = post-refused b in (p .0, omega (arith, p .1))
-
   over-bounds : (n : ℕ) → (n ≤ begunOver l d n) × (begunOver l d n ≤ 4097 * n)
   unfolding begunOver
   over-bounds zero = (omega arith, omega arith)
-  over-bounds (suc n) = let o = over-bounds n in let t = try-bounds n in (omega (arith, o .0, t .0), omega (arith, o .1, t .1))
+  over-bounds (suc n) = let o = over-bounds n in let t = begun-whole 4096 d (treeOf (grammarOf l n) 0) in (omega (arith, o .0, t .0), omega (arith, o .1, t .1))
 
 pub begun-within : BegunWithin
 unfolding begunOver

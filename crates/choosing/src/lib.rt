@@ -1,13 +1,10 @@
 // Choosing: which grammar of a list is the first that accepts a record whole.
 ghost use mathlib.Core.Path.{_≡_};
-ghost use mathlib.Core.Bool.{true};
 ghost use Prim.Native.Nat.{ℕ, _+_, _≤_, _<_};
 ghost use lib.ListN.{length, getD};
 ghost use lib.Dec.{eqb};
-ghost use Rattle.refusal.specs.Outcome.{map, word};
+ghost use Rattle.refusal.specs.Outcome.{word};
 ghost use Rattle.refusal.specs.Meaning.{locationOf, reasonOf, outcomeOf};
-ghost use Rattle.readers.specs.Meaning.{stepOf};
-ghost use Rattle.readers.specs.Root.{readRoot};
 ghost use Rattle.choosing.specs.Choose.{listCount, countAt, placedReason, checkList, checkGrammars, tryGrammars, chooseOf, chosenOf};
 ghost use Rattle.choosing.specs.Rule.{ListRule, ListPasses};
 use readers::Step;
@@ -98,14 +95,6 @@ fn check_grammars(list: &[u32]) -> Answer
     Answer::Accepted
 }
 
-// The whole reading of a record by one grammar, as a check at the largest capacity.
-fn try_grammar(grammar: &[u32], record: &[u8]) -> Step
-    ensures { λ r. ⌜ stepOf r ≡ map (λ t. t .state) (readRoot (now (grammar .entry)) (now («record» .entry)) 0 4096 true) ⌝ }
-{
-    let mut none = [0u64; 0];
-    readers::read(grammar, record, 0, MOST_ROWS, true, &mut none)
-}
-
 // The tries in order, up to the first that accepts; 22 where none does.
 fn try_grammars(list: &[u32], record: &[u8]) -> Chosen
     requires { ⌜ ListPasses (now list) × (length (now «record») ≤ 1048576) ⌝ }
@@ -118,7 +107,7 @@ fn try_grammars(list: &[u32], record: &[u8]) -> Chosen
     while j < count {
         let start = at + 1;
         let end = next_count(list, at);
-        match try_grammar(&list[start..end], record) {
+        match reading::try_whole(&list[start..end], record, MOST_ROWS) {
             Step::Next(t) => {
                 let total = begun + t.begun;
                 return Chosen::Grammar {

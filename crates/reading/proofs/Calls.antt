@@ -167,6 +167,15 @@ root-whole g d capacity = go (admitOf g d 0) ∙ ap (λ (o : Outcome Reason (Ste
     go (refused r) = refl
     go (accepted u) = end-test d (readVal capacity d (treeOf g 0) (start 0))
 
+-- where 1 to 6 are not given, a try is the whole reading
+module _ (g d : List ℕ) (capacity : ℕ) (p : checkGrammar g ≡ accepted tt) (h : length d ≤ 1048576) where
+  pub try-whole : readRoot g d 0 capacity true ≡ readWhole capacity d (treeOf g 0)
+  unfolding readRoot admitOf readWhole
+  try-whole = rw (p, le-leb (length d) 1048576 h, le-leb 0 (length d) (omega arith))
+
+  pub checked : demarshallOf g d capacity ≡ withoutState (readWhole capacity d (treeOf g 0))
+  checked = sym (root-whole g d capacity) ∙ ap withoutState try-whole
+
 module _ (g d : List ℕ) (index : ℕ) (whole : Bool) (o : ℕ → Outcome Reason (Step State Val)) (e : (capacity : ℕ) → withoutState (readRoot g d index capacity whole) ≡ o capacity) {c : CodeStep} (p : Parsed) (a : parsedOf p ≡ parsedStep c) {entry exit : List ℕ} where
   counts : (capacity : ℕ) → FillsRows (readRoot g d index capacity whole) capacity index c entry exit → parsedOf p ≡ map countsOf (o capacity)
   counts capacity f = a ∙ step-counts c (readRoot g d index capacity whole) (f .answers) ∙ ap (map countsOf) (e capacity)

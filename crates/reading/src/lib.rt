@@ -1,8 +1,11 @@
 // Reading: GM's `ParseVal` and `Demarshall`, with rows lent or as a check.
 ghost use mathlib.Core.Path.{_≡_};
+ghost use mathlib.Core.Bool.{true};
 ghost use lib.ListN.{length};
 ghost use Rattle.refusal.specs.Outcome.{map};
 ghost use Rattle.admission.specs.Admission.{inForce, checkRows, capacityOf};
+ghost use Rattle.readers.specs.Meaning.{stepOf, StepKeeps};
+ghost use Rattle.readers.specs.Root.{readRoot};
 ghost use Rattle.reading.specs.Meaning.{parsedOf};
 ghost use Rattle.reading.specs.Calls.{parseValOf, demarshallOf, countsOf, Parses, parsedStep};
 use admission::CHECK_ROWS;
@@ -35,12 +38,19 @@ pub fn check_val_with(grammar: &[u32], record: &[u8], index: usize, capacity: us
     answer(readers::read(grammar, record, index, capacity, false, &mut none))
 }
 
+// A try: GM's `Demarshall` as a check, with the values begun where it ends, also where it is refused. A capacity above 4,096 counts as 4,096.
+pub fn try_whole(grammar: &[u32], record: &[u8], capacity: usize) -> Step
+    ensures { λ r. ⌜ (stepOf r ≡ map (λ t. t .state) (readRoot (now (grammar .entry)) (now («record» .entry)) 0 (inForce capacity) true)) × StepKeeps (inForce capacity) r ⌝ }
+{
+    let mut none = [0u64; 0];
+    readers::read(grammar, record, 0, capacity, true, &mut none)
+}
+
 // GM's `Demarshall` as a check, which answers as `demarshall` does with as many rows as the capacity says; one above 4,096 counts as 4,096.
 pub fn check_whole_with(grammar: &[u32], record: &[u8], capacity: usize) -> Parsed
     ensures { λ r. ⌜ parsedOf r ≡ map countsOf (demarshallOf (now (grammar .entry)) (now («record» .entry)) (inForce capacity)) ⌝ }
 {
-    let mut none = [0u64; 0];
-    answer(readers::read(grammar, record, 0, capacity, true, &mut none))
+    answer(try_whole(grammar, record, capacity))
 }
 
 // GM's `ParseVal` as a check for which no capacity is named: it has 1,024 rows.

@@ -6,13 +6,13 @@ use Prim.Native.Nat.{ℕ, zero, suc, _+_, _-_, _*_, _/_, _≤_}
 use native.Mathlib.Omega.{arith}
 use lib.ListN.{length, take, drop}
 use lib.Dec.{leb, ltb, eqb, ltb→lt}
-use Rattle.refusal.specs.Outcome.{test}
-use Rattle.refusal.proofs.Outcome.{Post, fails, post-bind, post-test, post-weaken, bind-test}
+use Rattle.refusal.specs.Outcome.{accepted, refused, test}
+use Rattle.refusal.proofs.Outcome.{Post, fails, post-bind, post-test, post-weaken, post-accepted, post-refused, bind-test}
 use Rattle.packed.specs.Packed.{unpackLittleEndian}
 use Rattle.value.specs.Kinds.{width, elementWidth}
 use Rattle.value.specs.Tree.{G, Gs, GConstant, GNumber, GArray, GTuple, GNumberArray, GTaggedUnion, gnil, gcons, Val, Vals, VConstant, VNumber, VArray, VTuple, VNumberArray, VCase, vnil, vcons}
 use Rattle.value.specs.Step.{Step, yield, next, give, both, elements}
-use Rattle.value.specs.Reading.{State, Stop, Reading, stop, start, move, begin, claim, claimed, free, takeNumber, takeNumbers, readBody, readFields, readCaseAt, readVal, readWhole}
+use Rattle.value.specs.Reading.{State, Stop, Reading, begunOf, stop, start, move, begin, claim, claimed, free, takeNumber, takeNumbers, readBody, readFields, readCaseAt, readVal, readWhole}
 use Rattle.value.proofs.Agreement.{gives}
 
 module _ (capacity : ℕ) where
@@ -89,3 +89,10 @@ module _ (capacity : ℕ) where
     pub begins-whole : (g : G) → Begins 1 (readWhole capacity d g)
     unfolding readWhole
     begins-whole g = begins-next _ (begins-val g (start 0) (omega arith)) (λ v t h. begins-test (eqb (t .at) (length d)) 11 t _ h (begins-yield v t h))
+
+    pub begun-whole : (g : G) → (1 ≤ begunOf (readWhole capacity d g)) × (begunOf (readWhole capacity d g) ≤ suc capacity)
+    begun-whole g = go (readWhole capacity d g) (begins-whole g)
+      where
+        go : (x : Reading Val) → Begins 1 x → (1 ≤ begunOf x) × (begunOf x ≤ suc capacity)
+        go (accepted t) b = let p = post-accepted b in (p .0, omega (arith, p .1))
+        go (refused e) b = post-refused b

@@ -13,7 +13,7 @@ use Rattle.choosing.proofs.try_grammars.Tie as tie
 use Rattle.choosing.proofs.try_grammars.Reads as reads
 use Rattle.choosing.proofs.try_grammars.Lts as lts
 use Rattle.choosing.proofs.next_count.Reads as next-count-reads
-use Rattle.choosing.proofs.try_grammar.Reads as try-grammar-reads
+use Rattle.reading.proofs.try_whole.Reads as try-whole-reads
 use Rattle.refusal.proofs.at_byte.Reads as at-byte-reads
 use Rattle.tables.proofs.word.Reads as word-reads
 
@@ -39,30 +39,30 @@ add-start c = search needs
 next-count-requires : tie.Need-next-count-requires Inv-loop μ-loop
 next-count-requires c κs = search needs
 
-mul-try-grammar : tie.Need-mul-try-grammar Inv-loop μ-loop
-mul-try-grammar c = search needs
+mul-try-whole : tie.Need-mul-try-whole Inv-loop μ-loop
+mul-try-whole c = search needs
 
-sub-try-grammar : tie.Need-sub-try-grammar Inv-loop μ-loop
-sub-try-grammar c = search needs
+sub-try-whole : tie.Need-sub-try-whole Inv-loop μ-loop
+sub-try-whole c = search needs
 
-part-try-grammar-start : tie.Need-part-try-grammar-start Inv-loop μ-loop
-part-try-grammar-start c = search needs
+part-try-whole-start : tie.Need-part-try-whole-start Inv-loop μ-loop
+part-try-whole-start c = search needs
 
-part-try-grammar-end : tie.Need-part-try-grammar-end Inv-loop μ-loop
-part-try-grammar-end c =
+part-try-whole-end : tie.Need-part-try-whole-end Inv-loop μ-loop
+part-try-whole-end c =
     let x = c .before .before in
     let s = x .before .before .before .before in
     let v = x .loop in
     omega (arith, next-inside (s .args .list .now) (v .j) (v .at) (c .next-count .result) (v .inv .2) (c .next-count .ensures) (rule-ends (s .args .list .now) (s .pre .0 .rule)) (omega (arith, v .inv .0)))
 
-try-grammar-requires : tie.Need-try-grammar-requires Inv-loop μ-loop
-try-grammar-requires c κs = search needs
+try-whole-requires : tie.Need-try-whole-requires Inv-loop μ-loop
+try-whole-requires c κs = search needs
 
 enum-known-t : tie.Need-enum-known-t Inv-loop μ-loop
 enum-known-t c = search needs
 
 -- a try: the grammar passes, and its words are the part handed on
-trying : (c : lts.After-try-grammar (word-reads.Asked, word-reads.Learnt, next-count-reads.Asked, next-count-reads.Learnt, try-grammar-reads.Asked, try-grammar-reads.Learnt, at-byte-reads.Asked, at-byte-reads.Learnt) reads.Pre reads.Post Inv-loop μ-loop) → let y = c .before .before .before .before in let a = y .before .before .before .before .args in let v = y .loop in Trying (a .list .now) (a .«record» .now) (take (c .before .before .next-count .result - (v .at + 1)) (drop (v .at + 1) (a .list .now))) (v .j) (y .before .word .result)
+trying : (c : lts.After-try-whole (word-reads.Asked, word-reads.Learnt, next-count-reads.Asked, next-count-reads.Learnt, try-whole-reads.Asked, try-whole-reads.Learnt, at-byte-reads.Asked, at-byte-reads.Learnt) reads.Pre reads.Post Inv-loop μ-loop) → let y = c .before .before .before .before in let a = y .before .before .before .before .args in let v = y .loop in Trying (a .list .now) (a .«record» .now) (take (c .before .before .next-count .result - (v .at + 1)) (drop (v .at + 1) (a .list .now))) (v .j) (y .before .word .result)
 trying c =
     let y = c .before .before .before .before in
     let s = y .before .before .before .before in
@@ -78,13 +78,13 @@ add-total : tie.Need-add-total Inv-loop μ-loop
 add-total c =
     let x = c .before .before .before .before in
     let v = x .before .before .before .before .loop in
-    omega (arith, accepted-most (trying x) (step-matched (c .before .before .t .given .1) (x .try-grammar .ensures)), v .inv .4)
+    omega (arith, accepted-most (trying x) (step-matched (c .before .before .t .given .1) (x .try-whole .ensures .0)), v .inv .4)
 
 returns : tie.Need-returns Inv-loop μ-loop
 returns c =
     let x = c .before .before .before .before in
     let v = x .before .before .before .before .loop in
-    try-accepted (trying x) (step-matched (c .before .before .t .given .1) (x .try-grammar .ensures)) (v .begun) ∙ v .inv .5
+    try-accepted (trying x) (step-matched (c .before .before .t .given .1) (x .try-whole .ensures .0)) (v .begun) ∙ v .inv .5
 
 enum-known-t-2 : tie.Need-enum-known-t-2 Inv-loop μ-loop
 enum-known-t-2 c = search needs
@@ -93,7 +93,7 @@ add-begun : tie.Need-add-begun Inv-loop μ-loop
 add-begun c =
     let x = c .before .before .before .before in
     let v = x .before .before .before .before .loop in
-    omega (arith, refused-most (trying x) (step-matched (c .before .before .t2 .given .1) (x .try-grammar .ensures)), v .inv .4)
+    omega (arith, refused-most (trying x) (step-matched (c .before .before .t2 .given .1) (x .try-whole .ensures .0)), v .inv .4)
 
 add-j : tie.Need-add-j Inv-loop μ-loop
 add-j c = search needs
@@ -109,7 +109,7 @@ loop-again c =
     let l = s .args .list .now in
     let v = y .loop in
     let n = x .before .before .next-count in
-    let r = step-matched (c .before .before .t2 .given .1) (x .try-grammar .ensures) in
+    let r = step-matched (c .before .before .t2 .given .1) (x .try-whole .ensures .0) in
     (v .inv .0, omega arith, next-at l (v .j) (v .at) (n .result) (v .inv .2) (n .ensures), next-inside l (v .j) (v .at) (n .result) (v .inv .2) (n .ensures) (rule-ends l (s .pre .0 .rule)) (omega (arith, v .inv .0)), omega (arith, refused-most (trying x) r, v .inv .4), try-refused (trying x) r (v .begun) ∙ v .inv .5)
 
 at-byte-requires : tie.Need-at-byte-requires Inv-loop μ-loop
@@ -131,11 +131,11 @@ try-grammars-spec =
     loop-holds
     add-start
     next-count-requires
-    mul-try-grammar
-    sub-try-grammar
-    part-try-grammar-start
-    part-try-grammar-end
-    try-grammar-requires
+    mul-try-whole
+    sub-try-whole
+    part-try-whole-start
+    part-try-whole-end
+    try-whole-requires
     enum-known-t
     add-total
     returns
