@@ -4,7 +4,7 @@ use mathlib.Core.Bool.{Bool, true, false, _||_}
 use Prim.Native.Nat.{ℕ, suc, _≤_, _<_}
 use native.Mathlib.Omega.{arith}
 use lib.ListN.{length, List·getD-eq-default}
-use lib.Dec.{eqb, lit<}
+use lib.Dec.{eqb, lit<, lit≤}
 use Rattle.refusal.proofs.Tests.{NoneBelow, none-below}
 use Rattle.value.specs.Kinds.{Number, uint32, uint64, int32, int64, width, numberKind, Elements, bytes, uint32s, uint64s, elementWidth, elementsKind, kinds, lastKind, kindOf, constant, number, array, tuple, elements, union, other}
 
@@ -30,6 +30,12 @@ width-positive uint32 = lit< tt
 width-positive uint64 = lit< tt
 width-positive int32 = lit< tt
 width-positive int64 = lit< tt
+
+pub width-most : (k : Number) → width k ≤ 8
+width-most uint32 = lit≤ tt
+width-most uint64 = lit≤ tt
+width-most int32 = lit≤ tt
+width-most int64 = lit≤ tt
 
 pub elementWidth-positive : (k : Elements) → 0 < elementWidth k
 elementWidth-positive bytes = lit< tt

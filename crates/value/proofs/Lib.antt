@@ -8,3 +8,4 @@ pub mod Cut
 pub mod Begun
 pub mod Examples
 pub mod Capacity
+pub mod Least

@@ -5,3 +5,4 @@ pub mod Step
 pub mod Parse
 pub mod Reading
 pub mod Signed
+pub mod Least
