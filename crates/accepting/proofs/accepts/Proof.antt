@@ -1,0 +1,91 @@
+use mathlib.Core.Path.{sym, _∙_}
+use native.Mathlib.Omega.{arith}
+use Rattle.refusal.proofs.Meaning.{done, stopped}
+use Rattle.refusal.proofs.Outcome.{post-accepted, post-refused}
+use Rattle.admission.proofs.Admission.{length-post}
+use Rattle.least.proofs.Meaning.{least-matched}
+use Rattle.accepting.specs.Rule.{tooLong, noValue, tooShort}
+use Rattle.accepting.proofs.Laws.{accepts-refused, least-known, not-walked, tried, walks}
+use borrow.Author.Needs.{needs}
+use Rattle.accepting.proofs.accepts.Statement.{statement}
+use Rattle.accepting.proofs.accepts.Tie as tie
+
+least-length-requires : tie.Need-least-length-requires
+least-length-requires c κs = search needs
+
+enum-known-r : tie.Need-enum-known-r
+enum-known-r c = search needs
+
+enum-told : tie.Need-enum-told
+enum-told c = search needs
+
+enum-known-least : tie.Need-enum-known-least
+enum-known-least c = search needs
+
+check-length-requires : tie.Need-check-length-requires
+check-length-requires c κs = search needs
+
+enum-told-2 : tie.Need-enum-told-2
+enum-told-2 c = search needs
+
+enum-told-3 : tie.Need-enum-told-3
+enum-told-3 c = search needs
+
+walk-requires : tie.Need-walk-requires
+walk-requires c κs = search needs
+
+returns : tie.Need-returns
+returns c =
+    let x = c .before .before .before in
+    let a = x .before .before .before .args in
+    accepts-refused (a .grammar .now) (a .«record» .now) (least-matched (c .before .r .given .1) (x .least-length .ensures))
+
+returns-2 : tie.Need-returns-2
+returns-2 c =
+    let x = c .before .before in
+    let a = x .before .before .before .args in
+    let k = least-known (a .grammar .now) (a .«record» .now) (least-matched (c .enum-told .given .1) (x .least-length .ensures)) in
+    not-walked (a .grammar .now) (a .«record» .now) (k .0) (noValue (k .1))
+
+returns-3 : tie.Need-returns-3
+returns-3 c =
+    let y = c .before .before in
+    let x = y .before .before .before .before in
+    let a = x .before .before .before .args in
+    let k = least-known (a .grammar .now) (a .«record» .now) (least-matched (y .before .before .least .given .1) (x .least-length .ensures)) in
+    not-walked (a .grammar .now) (a .«record» .now) (k .0) (tooLong (post-refused (rw (sym (stopped (c .enum-told2 .given .1) (y .check-length .ensures))) at (length-post (a .«record» .now))) .1))
+
+returns-4 : tie.Need-returns-4
+returns-4 c =
+    let y = c .before .before .before in
+    let x = y .before .before .before .before in
+    let a = x .before .before .before .args in
+    let k = least-known (a .grammar .now) (a .«record» .now) (least-matched (y .before .before .least .given .1) (x .least-length .ensures)) in
+    not-walked (a .grammar .now) (a .«record» .now) (k .0) (tooShort (y .before .before .least .given .0 .0) (k .1) (c .if1 .taken))
+
+returns-5 : tie.Need-returns-5
+returns-5 c =
+    let y = c .before .before .before .before in
+    let x = y .before .before .before .before in
+    let a = x .before .before .before .args in
+    let k = least-known (a .grammar .now) (a .«record» .now) (least-matched (y .before .before .least .given .1) (x .least-length .ensures)) in
+    let h = post-accepted (rw (sym (done (c .before .before .enum-told3 .given .1) (y .check-length .ensures))) at (length-post (a .«record» .now))) in
+    c .walk .ensures ∙ tried (a .grammar .now) (a .«record» .now) (k .0) (walks (a .grammar .now) (a .«record» .now) (k .1) h (omega (arith, c .before .if1 .left))) h
+
+pub accepts-spec : {M : Type 1} → statement M
+accepts-spec =
+    tie.close
+    (tie.spec
+    least-length-requires
+    enum-known-r
+    enum-told
+    enum-known-least
+    check-length-requires
+    enum-told-2
+    enum-told-3
+    walk-requires
+    returns
+    returns-2
+    returns-3
+    returns-4
+    returns-5)
