@@ -1,6 +1,6 @@
 -- The words of a C answer: what an outcome means at the C interface.
 use mathlib.Core.Path.{_≡_}
-use mathlib.Core.Bool.{Bool, true, false}
+use mathlib.Core.Bool.{Bool, true, false, cond}
 use mathlib.Core.List.{List}
 use Prim.Native.Nat.{ℕ}
 use lib.IntN.{ℤ}
@@ -18,6 +18,7 @@ use Rattle.reading.specs.Calls.{countsOf}
 use Rattle.previewing.specs.Preview.{Preview}
 use Rattle.comparing.specs.SameRoute.{NamedReason, ofGrammar, ofFirst, ofSecond, Compares}
 use Rattle.choosing.specs.Choose.{Choice}
+use Rattle.accepting.specs.Accepts.{Verdict}
 use Rattle.xdr.specs.Xdr.{xdrOf, xdrSize, storeOf, rowsIn}
 use Rattle.xdr.specs.Import.{Filling}
 use Rattle.importing.specs.Meaning.{Counts as ImportCounts}
@@ -73,6 +74,10 @@ previewValues p = values (p .size) (p .changed)
 -- of a choice: the number of the grammar, and the values begun
 abbrev pub choiceValues : Choice → Values
 choiceValues c = values (c .number) (c .begun)
+
+-- of a verdict: 1 for yes and 0 for no, and the values begun
+abbrev pub verdictValues : Verdict → Values
+verdictValues v = values (cond (v .yes) 1 0) (v .begun)
 
 -- of an import: the row count, and the bytes of the store used
 abbrev pub importValues : ImportCounts → Values

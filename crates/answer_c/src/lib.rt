@@ -10,8 +10,10 @@ ghost use Rattle.reading.specs.Meaning.{parsedOf};
 ghost use Rattle.previewing.specs.Preview.{previewedOf};
 ghost use Rattle.comparing.specs.SameRoute.{sameRouteOf};
 ghost use Rattle.choosing.specs.Choose.{chosenOf};
+ghost use Rattle.accepting.specs.Accepts.{verdictOf};
 ghost use Rattle.importing.specs.Meaning.{importedOf};
-ghost use Rattle.answer_c.specs.Answer.{answerOf, refusalOf, noValue, oneValue, signedValue, partValues, countValues, previewValues, choiceValues, importValues, sameAnswerOf};
+ghost use Rattle.answer_c.specs.Answer.{answerOf, refusalOf, noValue, oneValue, signedValue, partValues, countValues, previewValues, choiceValues, verdictValues, importValues, sameAnswerOf};
+use accepting::YesOrNo;
 use choosing::Chosen;
 use comparing::SameRoute;
 use importing::Imported;
@@ -188,6 +190,16 @@ pub fn of_chosen(answer: Chosen) -> RouteAnswer
     match answer {
         Chosen::Grammar { number, begun } => accept(number as u64, begun as u64),
         Chosen::Refused(r) => refuse(r),
+    }
+}
+
+pub fn of_yes_or_no(answer: YesOrNo) -> RouteAnswer
+    ensures { λ r. ⌜ r ≡ answerOf (map verdictValues (verdictOf answer)) ⌝ }
+{
+    match answer {
+        YesOrNo::Yes(begun) => accept(1, begun as u64),
+        YesOrNo::No(begun) => accept(0, begun as u64),
+        YesOrNo::Refused(r) => refuse(r),
     }
 }
 

@@ -71,6 +71,7 @@ number-zero = record {
   writing = λ g t n s len index. zero-of _ (map-refuses SizeOfV (demand1 .writing g t n s len index)) (demand1 .listedWriting SizeOfV g t n s len index);
   preview = λ g t n s out index. zero-of _ (demand1 .preview g t n s out index) (demand1 .listedWriting SizeOfV g t n s (length out) index);
   choosing = λ l d. zero-of _ (demand1 .choosing l d) (demand1 .listedChoosing l d);
+  accepting = λ g d. zero-of _ (demand1 .accepting g d) (demand1 .listedGrammar g);
   exporting = λ g t n s len index. zero-of _ (map-refuses xdrSize (demand1 .exporting g t n s len index)) (demand1 .listedWriting xdrSize g t n s len index);
   importing = λ g d capacity len words. zero-of _ (map-refuses importCounts (demand1 .importing g d capacity len words)) (demand1 .listedImporting g d capacity len);
   routes = λ g first second o h. named-zero o (λ e q. demand1 .listedRoutes g first second e (demand1 .routes g first second e .0 (h .refuses e .0 q)));

@@ -32,12 +32,15 @@ use Rattle.comparing.specs.SameRoute.{sameRouteOf}
 use Rattle.comparing.proofs.Meaning.{sameRoute-injective}
 use Rattle.comparing.proofs.Comparing.{compares-one}
 use Rattle.choosing.proofs.Meaning.{chosenOf-injective}
+use Rattle.least.proofs.Meaning.{leastLengthOf-injective}
+use Rattle.accepting.specs.Accepts.{acceptsOf}
+use Rattle.accepting.proofs.Meaning.{verdictOf-injective}
 use Rattle.route.proofs.Listed.{grammar-listed, room-listed, unpackers-listed, rows-listed, locator-listed, signed-listed, reading-listed, whole-listed, writing-listed, importing-listed, rewriting-listed, routes-listed, choosing-listed}
 use Rattle.route.proofs.Reading.{rows-kept}
 use Rattle.route.proofs.Refusals.{map-refuses, room-refuses, present-refuses, walk-refuses, find-refuses, locate-refuses, signed-refuses, parse-refuses, demarshall-refuses, marshall-refuses, export-refuses, import-refuses, rewrite-refuses, both-refuses, choose-refuses}
 
 pub demand1 : Demand1
-unfolding previewOf
+unfolding previewOf acceptsOf
 demand1 = record {
   answer = outcome-injective;
   unpackedUint32 = unpackedU32-injective;
@@ -50,6 +53,8 @@ demand1 = record {
   route = sameRoute-injective;
   chosen = chosenOf-injective;
   imported = importedOf-injective;
+  leastLength = leastLengthOf-injective;
+  verdicts = verdictOf-injective;
   grammar = refused-exactly;
   room = room-refuses;
   packers = λ out index bs. map-refuses _ (room-refuses (length out) index (length bs));
@@ -70,6 +75,8 @@ demand1 = record {
   routes = both-refuses;
   oneRoute = λ g first second r q a b. sameRoute-injective r q (compares-one g first second (sameRouteOf r) (sameRouteOf q) a b);
   choosing = choose-refuses;
+  leastLengths = λ g. map-refuses _ (refused-exactly g);
+  accepting = λ g d. map-refuses _ (refused-exactly g);
   listedGrammar = λ g e q. grammar-listed q;
   listedRoom = λ len index size e q. room-listed q;
   listedUnpackers = λ len index size e q. unpackers-listed q;

@@ -19,10 +19,11 @@ use Rattle.sizing.specs.Writes.{marshallValOf}
 use Rattle.previewing.specs.Preview.{previewOf}
 use Rattle.comparing.specs.SameRoute.{NamedReason, Compares}
 use Rattle.choosing.specs.Choose.{chooseOf}
+use Rattle.accepting.specs.Accepts.{acceptsOf}
 use Rattle.xdr.specs.Xdr.{xdrSize}
 use Rattle.exporting.specs.Export.{exportOf}
 use Rattle.importing.specs.Calls.{importOf, countsOf as importCounts}
-use Rattle.answer_c.specs.Answer.{Values, answerOf, noValue, oneValue, signedValue, partValues, countValues, previewValues, choiceValues, importValues, sameAnswerOf}
+use Rattle.answer_c.specs.Answer.{Values, answerOf, noValue, oneValue, signedValue, partValues, countValues, previewValues, choiceValues, verdictValues, importValues, sameAnswerOf}
 
 pub data IsAccepted {E A : Type 0} : Outcome E A → Type 0 where
   isAccepted : (a : A) → IsAccepted (accepted a)
@@ -44,6 +45,7 @@ pub record NumberZero : Type 0 where
   pub writing : (g t : List ℕ) (n : ℕ) (s : List ℕ) (len index : ℕ) → ZeroIsAccepted oneValue (map SizeOfV (marshallValOf g t n s len index))
   pub preview : (g t : List ℕ) (n : ℕ) (s out : List ℕ) (index : ℕ) → ZeroIsAccepted previewValues (previewOf g t n s out index)
   pub choosing : (l d : List ℕ) → ZeroIsAccepted choiceValues (chooseOf l d)
+  pub accepting : (g d : List ℕ) → ZeroIsAccepted verdictValues (acceptsOf g d)
   pub exporting : (g t : List ℕ) (n : ℕ) (s : List ℕ) (len index : ℕ) → ZeroIsAccepted oneValue (map xdrSize (exportOf g t n s len index))
   pub importing : (g d : List ℕ) (capacity len : ℕ) → Below (2 ^ 32) g → ZeroIsAccepted importValues (map importCounts (importOf g d capacity len))
   -- yes and no

@@ -1,4 +1,4 @@
--- The three demands of 00-demands.md, with document 02's signed numbers, preview, chooser, named capacities and XDR, as statements over the
+-- The three demands of 00-demands.md, with document 02's signed numbers, preview, chooser, named capacities, XDR and yes or no, as statements over the
 -- definitions that the contracts of the public calls cite. Above each part stand the words that it says, and what would leave it empty;
 -- proofs/Demand1.antt to Demand3.antt prove them.
 use mathlib.Core.Path.{_≡_}
@@ -49,6 +49,8 @@ use Rattle.previewing.specs.Preview.{previewOf, previewedOf}
 use Rattle.route.specs.Rewriting.{rewriteOf, Rewrites}
 use Rattle.comparing.specs.SameRoute.{NamedReason, sameRouteOf, readBoth, Compares}
 use Rattle.choosing.specs.Choose.{chosenOf, chooseOf}
+use Rattle.least.specs.Least.{leastLengthOf, leastOf}
+use Rattle.accepting.specs.Accepts.{verdictOf, acceptsOf}
 use Rattle.route.specs.Refusals.{Refuses, NoRoom, NotThere, RowsRefused, LookUpRefused, LocatorRefused, SignedRefused, ReadingRefused, WholeRefused, WritingRefused, ImportRefused, RewritingRefused, RouteRefused, ChoosingRefused, Listed, Lists, unnamed}
 use Rattle.comparing.specs.declared.SameRoute.{SameRoute}
 
@@ -77,6 +79,8 @@ pub record Demand1 : Type 0 where
   pub route : AtMostOneAnswer sameRouteOf
   pub chosen : AtMostOneAnswer chosenOf
   pub imported : AtMostOneAnswer importedOf
+  pub leastLength : AtMostOneAnswer leastLengthOf
+  pub verdicts : AtMostOneAnswer verdictOf
   -- `check_grammar`
   pub grammar : (g : List ℕ) → Refuses (FirstRefusal g) (checkGrammar g)
   -- `room` of `packed`
@@ -115,6 +119,9 @@ pub record Demand1 : Type 0 where
   pub oneRoute : (g first second : List ℕ) (r q : SameRoute) → Compares g first second (sameRouteOf r) → Compares g first second (sameRouteOf q) → r ≡ q
   -- `choose_grammar`
   pub choosing : (l d : List ℕ) → Refuses (ChoosingRefused l d) (chooseOf l d)
+  -- `least_length` and `accepts`: the grammar's, whatever the record
+  pub leastLengths : (g : List ℕ) → Refuses (FirstRefusal g) (leastOf g)
+  pub accepting : (g d : List ℕ) → Refuses (FirstRefusal g) (acceptsOf g d)
   -- every refusal given, but for those of `find_row`, whose number is the caller's, is one of the papers' tables, with its kind of place;
   -- which call gives which is said above. So none has number 0, which at the C interface is an accepted call
   pub listedGrammar : (g : List ℕ) → Lists (FirstRefusal g)

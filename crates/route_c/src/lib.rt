@@ -12,9 +12,10 @@ ghost use Rattle.reading.specs.Calls.{parseValOf, demarshallOf, countsOf};
 ghost use Rattle.sizing.specs.Writes.{marshallValOf};
 ghost use Rattle.previewing.specs.Preview.{previewOf};
 ghost use Rattle.choosing.specs.Choose.{chooseOf};
+ghost use Rattle.accepting.specs.Accepts.{acceptsOf};
 ghost use Rattle.exporting.specs.Export.{exportOf};
 ghost use Rattle.importing.specs.Calls.{importOf};
-ghost use Rattle.answer_c.specs.Answer.{answerOf, noValue, oneValue, signedValue, partValues, countValues, previewValues, choiceValues, Answers, AnswersRows, AnswersBytes, AnswersXdr, AnswersImport, AnswersSame};
+ghost use Rattle.answer_c.specs.Answer.{answerOf, noValue, oneValue, signedValue, partValues, countValues, previewValues, choiceValues, verdictValues, Answers, AnswersRows, AnswersBytes, AnswersXdr, AnswersImport, AnswersSame};
 use answer_c::RouteAnswer;
 use answer_c::of_answer;
 use answer_c::of_chosen;
@@ -27,6 +28,7 @@ use answer_c::of_signed_number;
 use answer_c::of_size;
 use answer_c::of_unpacked_u32;
 use answer_c::of_unpacked_u64;
+use answer_c::of_yes_or_no;
 
 #[no_mangle]
 pub extern "C" fn route_unpack_u32(packed: &[u8], index: usize) -> RouteAnswer
@@ -239,6 +241,13 @@ pub extern "C" fn route_choose_grammar(list: &[u32], record: &[u8]) -> RouteAnsw
     ensures { λ r. ⌜ r ≡ answerOf (map choiceValues (chooseOf (now (list .entry)) (now («record» .entry)))) ⌝ }
 {
     of_chosen(choosing::choose_grammar(list, record))
+}
+
+#[no_mangle]
+pub extern "C" fn route_accepts(grammar: &[u32], record: &[u8]) -> RouteAnswer
+    ensures { λ r. ⌜ r ≡ answerOf (map verdictValues (acceptsOf (now (grammar .entry)) (now («record» .entry)))) ⌝ }
+{
+    of_yes_or_no(accepting::accepts(grammar, record))
 }
 
 #[no_mangle]
