@@ -4,7 +4,7 @@ use mathlib.Core.Bool.{Bool, true, false}
 use mathlib.Core.Logic.{_⊎_, inl, inr}
 use mathlib.Core.Option.{Option, none, some}
 use mathlib.Core.List.{List}
-use Prim.Native.Nat.{ℕ, zero, suc, _+_, _-_, _≤_, _<_, min}
+use Prim.Native.Nat.{ℕ, zero, suc, _+_, _-_, _*_, _≤_, _<_, min}
 use native.Mathlib.Nat.{eq-or-lt-of-le}
 use native.Mathlib.Decide.{decLe}
 use native.Mathlib.Omega.{arith}
@@ -101,6 +101,22 @@ joined-more sum {k} {g} {lengths} r i child n joined p h c e j =
     e ∙ rw (x, j) (joined-child sum g (firstWord g k) (countWord g k) i p h)
 
 -- ---- the nodes, from the last to the root
+
+pub last-childless : (g : List ℕ) → Passes g → getD g (3 * nodeCount g) 0 ≡ 0
+last-childless g p = go (decLe 1 (countWord g k)) (ap (λ (n : ℕ). getD g n 0) e)
+  where
+    k : ℕ
+    k = nodeCount g - 1
+
+    some : 0 < nodeCount g
+    some = p .layout .start .1 .0
+
+    e : 3 * nodeCount g ≡ 3 + 3 * k
+    e = omega arith
+
+    go : Dec (1 ≤ countWord g k) → getD g (3 * nodeCount g) 0 ≡ countWord g k → getD g (3 * nodeCount g) 0 ≡ 0
+    go (yes l) q = let c = p .node k (omega (arith, some)) .children (firstWord g k) (omega arith, omega arith) in absurd (omega (arith, c .0, c .1, some))
+    go (no l) q = omega arith
 
 -- a node's entry, by what its kind word is
 pub node-entry : {k : ℕ} {g lengths : List ℕ} → Ready k g lengths → {kind : ℕ} → kind ≡ kindWord g k → (key n : ℕ) → kind ≡ key → lengthOf n ≡ least (nodeTree (kindOf key) (childTrees g (treeOf g) (firstWord g k) (countWord g k))) → lengthOf n ≡ least (treeOf g k)

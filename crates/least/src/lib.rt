@@ -103,12 +103,22 @@ fn node_length(grammar: &[u32], k: usize, lengths: &[u64; 256]) -> u64
     }
 }
 
-// The entries of all nodes, filled from the last node to the root.
+// The count of the last node's children: 0, since their numbers would be above its own.
+fn last_count(grammar: &[u32]) -> u64
+    requires { ⌜ Passes (now grammar) ⌝ }
+    ensures { λ r. ⌜ r ≡ 0 ⌝ }
+{
+    tables::word(grammar, 3 * tables::word(grammar, 0)) as u64
+}
+
+// The entries of all nodes, filled from the last node to the root. They start as 0, which is read: of a 0 that it knows the compiler makes a
+// call of the C library's memset, and the archive calls no other library.
 fn fill(grammar: &[u32]) -> [u64; 256]
     requires { ⌜ Passes (now grammar) ⌝ }
     ensures { λ r. ⌜ FilledFrom 0 (now (grammar .entry)) r ⌝ }
 {
-    let mut lengths = [0u64; 256];
+    let zero = last_count(grammar);
+    let mut lengths = [zero; 256];
     let mut k = tables::word(grammar, 0);
     while 0 < k {
         k -= 1;
