@@ -1,7 +1,7 @@
 /* example.c: previews and writes a route as a record, reads it back with a trim below zero,
  * compares it with another box's records, previews a save over one of them, reads the record from a
- * link that drops its tail, sending for it again on refusal 9 alone, chooses the grammar of records
- * of two kinds, and exports the route as XDR and imports it.
+ * link that drops its tail, sending for it again on refusal 9 alone, says which records are routes,
+ * chooses the grammar of records of two kinds, and exports the route as XDR and imports it.
  *
  *     cc -std=c11 -Wall -Wextra -Werror -Ihost/c host/c/example.c target/staticlib/libroute_c.a */
 
@@ -170,6 +170,20 @@ static int read_from_link(const uint8_t *record, size_t length)
     return answer.number == 0;
 }
 
+/* Prints whether a record is a route. 0 values begun says that it was not even read: it is shorter
+ * than every route. Gives whether the grammar was accepted. */
+static int print_accepts(const uint8_t *record, size_t length)
+{
+    route_answer answer = route_accepts(grammar, GRAMMAR_WORDS, record, length);
+    if (answer.number != 0) {
+        print_refusal("accepts", answer);
+        return 0;
+    }
+    printf("%zu bytes, a route: %s, values begun %" PRIu64 "\n", length,
+           answer.first == 1 ? "yes" : "no", answer.second);
+    return 1;
+}
+
 /* Puts a grammar behind a list of so many words, and gives how many they are then. */
 static size_t put_grammar(uint32_t *list, size_t length, const uint32_t *words, size_t count)
 {
@@ -249,6 +263,11 @@ int main(void)
         return 1;
 
     if (!read_from_link(record, length))
+        return 1;
+
+    /* The record, all but its last byte, and its first four bytes. */
+    if (!print_accepts(record, length) || !print_accepts(record, length - 1) ||
+        !print_accepts(record, 4))
         return 1;
 
     /* The record's first four bytes, the serial number, and the whole record, as two records that

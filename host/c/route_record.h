@@ -304,7 +304,8 @@ route_answer route_signed_number(const uint64_t *rows, size_t rows_len, size_t n
  * route_check_val, route_check_val_with) the statement is false: under a uint32, from byte 0 on, 9
  * bytes are accepted, and the first 5 of them too. Nor does it hold of route_choose_grammar: what
  * is left of a cut record may be a whole record of another grammar of the list, and where no
- * grammar accepts it the answer is 22. */
+ * grammar accepts it the answer is 22. route_accepts says no to every proper front part of a record
+ * to which it says yes, and does not say why. */
 
 /* Reads from byte index on. The rows lent are rows_len divided by 4, rounded down, at most 4096;
  * none with rows_len 0. Changes only rows 0 to n - 1, which stand for the value, with the record as
@@ -412,6 +413,27 @@ route_answer route_preview(const uint32_t *grammar, size_t grammar_len, const ui
 ROUTE_NODISCARD
 route_answer route_same_route(const uint32_t *grammar, size_t grammar_len, const uint8_t *first,
                               size_t first_len, const uint8_t *second, size_t second_len);
+
+/* Says whether a record is accepted whole, and does not read one that is too short for every value
+ * of the grammar. The least length of a node is that of its shortest values: for kind 0, 0; kinds 1
+ * and 9, 4; kinds 2 and 10, 8; kinds 3, 5, 6 and 7, 8, a count and no element; kind 4, the sum
+ * over its fields, none where a field has none; kind 8, 8 plus the least over its cases that have
+ * one, none where no case has one. A sum above 1048577 counts as 1048577. A node that has none has
+ * no value.
+ *
+ * Gives in `first` 1 for yes and 0 for no, in `second` the values begun: one for each time a row is
+ * asked for, also when none is left. The answer is no, without a reading and with 0 values begun,
+ * when record_len is above 1048576, when node 0 has no least length, or when record_len is below
+ * it. Else the record is read as by route_check_whole_with with 4096, and the answer is yes when
+ * that accepts and no when it refuses by 8, 9, 10 or 11, with the values begun where the reading
+ * ended, 1 to 4097. It is proved (docs/PROMISES.md, request 09) that under a sound grammar yes
+ * comes exactly when route_check_whole_with with 4096 accepts, and 0 values begun exactly when
+ * there was no reading. It uses less than 64 KiB of stack, on grammars as deep as 256 nodes can be.
+ * Changes nothing.
+ * Refused: only 1 to 5 as route_check_grammar, whatever the record is. */
+ROUTE_NODISCARD
+route_answer route_accepts(const uint32_t *grammar, size_t grammar_len, const uint8_t *record,
+                           size_t record_len);
 
 /* Grammar lists: word 0 is C, the count of grammars. Then C times a word count and as many words, a
  * grammar table, and the list ends. The grammars have the numbers 0 to C - 1. */
