@@ -75,6 +75,7 @@ call!(route_marshall = marshall(grammar: &[u32], rows: &[u64], n: usize, store: 
 call!(route_preview = preview(grammar: &[u32], rows: &[u64], n: usize, store: &[u8], out: &[u8],
     index: usize));
 call!(route_same_route = same_route(grammar: &[u32], first: &[u8], second: &[u8]));
+call!(route_accepts = accepts(grammar: &[u32], record: &[u8]));
 call!(route_choose_grammar = choose_grammar(list: &[u32], record: &[u8]));
 call!(route_export_xdr = export_xdr(grammar: &[u32], rows: &[u64], n: usize, store: &[u8],
     out: &mut [u8], index: usize));

@@ -1,8 +1,10 @@
 //! Grammars that passed their check, and what is done under one: reading, writing, previewing a
-//! write, comparing, exporting to XDR and importing it.
+//! write, comparing, saying yes or no, exporting to XDR and importing it.
 
 use crate::value::Value;
-use crate::{calls, Parsed, Preview, Refusal, SameRouteRefusal, MAX_BYTES, MAX_ROWS, ROW_WORDS};
+use crate::{
+    calls, Parsed, Preview, Refusal, SameRouteRefusal, Verdict, MAX_BYTES, MAX_ROWS, ROW_WORDS,
+};
 
 /// A grammar table that passed its check. A text gives one too, by [`str::parse`].
 ///
@@ -395,6 +397,25 @@ impl Grammar {
     /// ```
     pub fn same_route(&self, first: &[u8], second: &[u8]) -> Result<bool, SameRouteRefusal> {
         calls::same_route(&self.words, first, second)
+    }
+
+    /// Whether the record is accepted whole, as [`check_whole_with`](Grammar::check_whole_with) does
+    /// with 4,096 rows, and the values begun. A record of more than 1,048,576 bytes, or of fewer than
+    /// every value of the grammar has, is not read: no, with 0 values begun. [`calls::accepts`] says
+    /// more. It refuses nothing but a grammar, which this one passed, so there is no refusal here.
+    ///
+    /// ```
+    /// use route_record::{Grammar, Verdict};
+    ///
+    /// let grammar = "tuple(u32, bytes)".parse::<Grammar>()?;
+    /// let record = [7, 0, 0, 0, 2, 0, 0, 0, 0, 0, 0, 0, 0x41, 0x42];
+    /// assert_eq!(grammar.accepts(&record), Verdict { accepted: true, begun: 3 });
+    /// assert_eq!(grammar.accepts(&record[..13]), Verdict { accepted: false, begun: 3 });
+    /// assert_eq!(grammar.accepts(&record[..3]), Verdict { accepted: false, begun: 0 });
+    /// # Ok::<(), route_record::GrammarError>(())
+    /// ```
+    pub fn accepts(&self, record: &[u8]) -> Verdict {
+        calls::accepts(&self.words, record).expect("the library accepted this grammar")
     }
 
     /// Writes the XDR of a value, its bytes by RFC 4506, at byte `index` of the output and gives

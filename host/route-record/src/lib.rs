@@ -4,7 +4,8 @@
 //!
 //! A [`Grammar`] is a table of words that passed its check. It reads a record into a [`Value`],
 //! whose [`Row`]s are a tree, writes a value as its record, and says by a [`Preview`] what writing
-//! would change. It writes a value as XDR, the bytes of RFC 4506, and reads it from XDR.
+//! would change. It says by a [`Verdict`] whether it accepts a record, which it need not read where
+//! that is too short. It writes a value as XDR, the bytes of RFC 4506, and reads it from XDR.
 //! [`Value::build`] makes a value that was not read. A [`GrammarList`] says by a [`Chosen`] which of
 //! its grammars accepts a record. What is refused is refused by a [`Refusal`] with number, place and
 //! meaning.
@@ -35,7 +36,8 @@
 //! [`calls::check_val`], [`calls::check_val_with`]) the statement is false: under a uint32, from
 //! byte 0 on, 9 bytes are accepted, and the first 5 of them too. Nor does it hold of a
 //! [`GrammarList`]: what is left of a cut record may be a whole record of another grammar of the
-//! list, and where no grammar accepts it the answer is 22.
+//! list, and where no grammar accepts it the answer is 22. [`Grammar::accepts`] says no to every
+//! proper front part of a record to which it says yes, and does not say why.
 //!
 //! ```
 //! use route_record::{Grammar, GrammarList, Refusal};
@@ -70,10 +72,10 @@
 //! # Where it runs
 //!
 //! On x86-64 Linux, which the archive is built for; a build for another target stops and says so.
-//! Firmware is kept out by that, and by the stack: reading, comparing and choosing a grammar take
-//! less than 64 KiB, importing XDR less than 128 KiB, but what walks rows, so writing, its preview
-//! and exporting XDR, up to 1 MiB. The library itself needs no allocator and no operating system;
-//! these bindings use `std`.
+//! Firmware is kept out by that, and by the stack: reading, comparing, saying yes or no and choosing
+//! a grammar take less than 64 KiB, importing XDR less than 128 KiB, but what walks rows, so writing,
+//! its preview and exporting XDR, up to 1 MiB. The library itself needs no allocator and no operating
+//! system; these bindings use `std`.
 
 #![deny(missing_docs, unsafe_code)]
 
@@ -92,6 +94,7 @@ mod preview;
 mod refusal;
 mod text;
 mod value;
+mod verdict;
 
 pub use builder::Builder;
 pub use chosen::Chosen;
@@ -107,3 +110,4 @@ pub use preview::Preview;
 pub use refusal::{Place, Refusal, SameRouteRefusal, REFUSALS};
 pub use text::{GrammarError, Position, TextError};
 pub use value::{Children, Contents, Elements, Row, Rows, Value};
+pub use verdict::Verdict;

@@ -14,6 +14,7 @@
 //! assert_eq!(unpack_u32(&out, 7), Err(Refusal { number: 9, place: Place::Byte(7) }));
 //! ```
 
+mod accepting;
 mod choosing;
 mod grammar;
 mod packed;
@@ -23,6 +24,7 @@ mod same_route;
 mod writing;
 mod xdr;
 
+pub use accepting::accepts;
 pub use choosing::choose_grammar;
 pub use grammar::check_grammar;
 pub use packed::{
