@@ -2,14 +2,15 @@
 
 use route_record::{Refusal, SameRouteRefusal};
 
-/// The status of a command that was done; of `same`, that the routes are the same.
+/// The status of a command that was done; of `same` and `accepts`, that the answer is yes.
 pub const DONE: u8 = 0;
 /// The status of a refusal by the library.
 pub const REFUSED: u8 = 1;
 /// The status of a command line, file or text that the tool can do nothing with.
 pub const FAILED: u8 = 2;
-/// The status of `same` where the routes are different.
-pub const DIFFERENT: u8 = 3;
+/// The status of `same` where the routes are different, and of `accepts` where the record is not
+/// accepted.
+pub const NO: u8 = 3;
 
 /// Why a command does not end with status 0, in lines to print.
 pub enum Stop {
@@ -17,8 +18,8 @@ pub enum Stop {
     Refused(String),
     /// Nothing could be asked. This goes to standard error.
     Failed(String),
-    /// The routes are different. A script that asks whether they are the same takes it for no.
-    Different,
+    /// The answer is no, and a script that asks takes it for that. It goes to standard output.
+    No(String),
 }
 
 impl From<Refusal> for Stop {

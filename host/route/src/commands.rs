@@ -42,7 +42,7 @@ impl Command {
 }
 
 /// All commands, in the order of the help.
-pub static COMMANDS: [Command; 9] = [
+pub static COMMANDS: [Command; 10] = [
     Command {
         name: "check",
         takes_list: false,
@@ -84,6 +84,21 @@ pub static COMMANDS: [Command; 9] = [
                   route same -g 'tuple(u32, u32)' --hex first.hex -",
         printed: "same\n",
         run: same,
+    },
+    Command {
+        name: "accepts",
+        takes_list: false,
+        count: 1..=1,
+        takes_output: false,
+        options: &[],
+        records: "RECORD",
+        summary: "Says whether the whole record is accepted, and so does the status, and how\n\
+                  many values were begun. A record longer than 1,048,576 bytes, or shorter\n\
+                  than every value of the grammar, is not read: no, and 0 values begun.",
+        example: "echo 07000000 0200000000000000 4142 | \
+                  route accepts -g 'tuple(u32, bytes)' --hex -",
+        printed: "yes, values begun 3\n",
+        run: accepts,
     },
     Command {
         name: "choose",
@@ -202,7 +217,17 @@ fn same(arguments: &Arguments) -> Result<String, Stop> {
     let (first, second) = (arguments.record(0)?, arguments.record(1)?);
     match grammar.same_route(&first, &second)? {
         true => Ok("same\n".to_string()),
-        false => Err(Stop::Different),
+        false => Err(Stop::No("different\n".to_string())),
+    }
+}
+
+fn accepts(arguments: &Arguments) -> Result<String, Stop> {
+    let grammar = arguments.grammar()?;
+    let verdict = grammar.accepts(&arguments.record(0)?);
+    let begun = format!("values begun {}\n", verdict.begun);
+    match verdict.accepted {
+        true => Ok(format!("yes, {begun}")),
+        false => Err(Stop::No(format!("no, {begun}"))),
     }
 }
 

@@ -30,10 +30,10 @@ Options:
     -V, --version         the version
 
 Exit status:
-    0    done; for same, the same route
+    0    done; for same, the same route; for accepts, yes
     1    refused; standard output gives the refusal, its place and its meaning
     2    bad usage, an unreadable file or a wrong text; standard error says what
-    3    for same, different routes
+    3    for same, different routes; for accepts, no
 ";
 
 /// The help for a command, or for all.

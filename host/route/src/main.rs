@@ -16,7 +16,7 @@ use std::ffi::OsString;
 use std::io::{self, ErrorKind, Write};
 use std::process::ExitCode;
 
-use answer::{Stop, DIFFERENT, DONE, FAILED, REFUSED};
+use answer::{Stop, DONE, FAILED, NO, REFUSED};
 use arguments::Request;
 
 const VERSION: &str = concat!("route ", env!("CARGO_PKG_VERSION"), "\n");
@@ -26,7 +26,7 @@ fn main() -> ExitCode {
     match answer_to(&arguments) {
         Ok(text) => print(&text, DONE),
         Err(Stop::Refused(text)) => print(&text, REFUSED),
-        Err(Stop::Different) => print("different\n", DIFFERENT),
+        Err(Stop::No(text)) => print(&text, NO),
         Err(Stop::Failed(text)) => fail(&text),
     }
 }

@@ -53,7 +53,7 @@ impl Source {
 
     /// The record that the source holds, as its bytes or in hexadecimal digits.
     pub fn record(&self, hex: bool) -> Result<Vec<u8>, Stop> {
-        // One more than the library accepts, so that it refuses them.
+        // One more than the library accepts, so that it does not accept them.
         self.content(hex, MAX_BYTES as u64 + 1)
     }
 

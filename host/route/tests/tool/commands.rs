@@ -109,6 +109,7 @@ fn every_command_takes_values_of_up_to_4096_rows() {
         assert_eq!(same(record), printed(0, "same\n"));
         assert_eq!(same(small), printed(3, "different\n"));
         let begun = count as usize + 1;
+        assert_eq!(of_record("accepts"), yes(begun));
         assert_eq!(of_record("choose"), chosen(0, begun));
         let preview = route(&["preview", CONSTANTS, record, record], b"");
         assert_eq!(preview, previewed(8, 0));
@@ -133,6 +134,8 @@ fn every_command_takes_values_of_up_to_4096_rows() {
     let of_first = printed(1, &format!("the first record: {}", refusal.stdout));
     let got = route(&["same", CONSTANTS, record, small], b"");
     assert_eq!(got, of_first);
+    let got = route(&["accepts", CONSTANTS, record], b"");
+    assert_eq!(got, no(1));
     let got = route(&["choose", CONSTANTS, record], b"");
     assert_eq!(got, refused(22, Place::Byte(0)));
     let got = route(&["preview", CONSTANTS, record, small], b"");
@@ -271,6 +274,54 @@ fn same_leaves_out_the_first_field_of_a_root_that_is_a_tuple() {
     assert_eq!(answer("u32", "07000000", "08000000"), different);
     let (seven, eight) = ("0100000000000000 07000000", "0100000000000000 08000000");
     assert_eq!(answer("array(tuple(u32))", seven, eight), different);
+}
+
+/// What is printed of a record that is accepted, and of one that is not.
+fn yes(begun: usize) -> Run {
+    printed(0, &format!("yes, values begun {begun}\n"))
+}
+
+fn no(begun: usize) -> Run {
+    printed(3, &format!("no, values begun {begun}\n"))
+}
+
+#[test]
+fn accepts_has_a_word_a_count_and_a_status_for_each_answer() {
+    let accepts = |record: &[u8]| route(&["accepts", "-g", TYPES, "-"], record);
+    assert_eq!(accepts(&RECORD), yes(3));
+    assert_eq!(accepts(&RECORD[..13]), no(3));
+    assert_eq!(accepts(&RECORD[..12]), no(3));
+    assert_eq!(accepts(&RECORD[..11]), no(0));
+    assert_eq!(accepts(&[]), no(0));
+    assert_eq!(accepts(&[&RECORD[..], &[0]].concat()), no(3));
+    let accepts = |grammar: &str, record: &[u8]| route(&["accepts", grammar, "-"], record);
+    assert_eq!(accepts("-gconstant", &[]), yes(1));
+    assert_eq!(accepts("-gunion()", &[0; 8]), no(0));
+    assert_eq!(accepts("-garray(union())", &constants(0)), yes(1));
+    assert_eq!(accepts("-garray(union())", &constants(1)), no(2));
+}
+
+#[test]
+fn accepts_takes_a_grammar_and_a_record_as_files_or_standard_input() {
+    let folder = folder("accepts");
+    let record = &file(&folder, "record", RECORD);
+    let hex = &file(&folder, "record.hex", HEX);
+    for text in [TYPES, WORDS] {
+        let grammar = &file(&folder, "grammar", text);
+        let accepts = |arguments: &[&str], stdin: &[u8]| {
+            let got = route(&[&["accepts"], arguments].concat(), stdin);
+            assert_eq!(got, yes(3), "{arguments:?}");
+        };
+        accepts(&[grammar, record], b"");
+        accepts(&["-", record], text.as_bytes());
+        accepts(&[grammar, "-"], &RECORD);
+        accepts(&["--hex", grammar, hex], b"");
+        accepts(&[record, "-g", text], b"");
+        accepts(
+            &[&format!("--grammar={text}"), "--hex", "-"],
+            HEX.as_bytes(),
+        );
+    }
 }
 
 /// What is printed of a choice.

@@ -9,8 +9,8 @@ use route_record::{Kind, KINDS};
 
 use crate::run::{folder, printed, route, run, Run};
 
-const COMMANDS: [&str; 9] = [
-    "check", "tree", "same", "choose", "size", "preview", "export", "import", "words",
+const COMMANDS: [&str; 10] = [
+    "check", "tree", "same", "accepts", "choose", "size", "preview", "export", "import", "words",
 ];
 
 /// The example of each command that a help shows: the line, and what it prints.

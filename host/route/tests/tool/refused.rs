@@ -24,6 +24,7 @@ fn every_command_refuses_a_refused_grammar() {
         ("check", &[record]),
         ("tree", &[record]),
         ("same", &[record, record]),
+        ("accepts", &[record]),
         ("size", &[record]),
         ("preview", &[record, record]),
         ("export", &[record]),
@@ -64,6 +65,10 @@ fn a_record_longer_than_the_library_reads() {
     let longer = [&most[..], &[0]].concat();
     let got = route(&["choose", "-gu32", "-gbytes", "-"], &longer);
     assert_eq!(got, refused(6, Place::Byte(0)));
+    let got = route(&["accepts", "-gbytes", "-"], &most);
+    assert_eq!(got, printed(0, "yes, values begun 1\n"));
+    let got = route(&["accepts", "-gbytes", "-"], &longer);
+    assert_eq!(got, printed(3, "no, values begun 0\n"));
     for command in ["export", "import"] {
         let got = route(&[command, "-gbytes", "-"], &longer);
         assert_eq!(got, refused(6, Place::Byte(0)), "{command}");

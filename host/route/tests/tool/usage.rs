@@ -71,6 +71,7 @@ fn arguments_that_a_command_does_not_take() {
     let check = "route check GRAMMAR [RECORD [--rows N]]";
     let tree = "route tree GRAMMAR RECORD [--index I] [--all]";
     let same = "route same GRAMMAR FIRST SECOND";
+    let accepts = "route accepts GRAMMAR RECORD";
     let choose = "route choose GRAMMAR.. RECORD";
     let preview = "route preview GRAMMAR RECORD OUTPUT [--index I]";
     let export = "route export GRAMMAR RECORD";
@@ -91,6 +92,24 @@ fn arguments_that_a_command_does_not_take() {
             words,
         ),
         ("same g r", "a record is missing", same),
+        ("accepts", "the grammar is missing", accepts),
+        ("accepts -g u32", "a record is missing", accepts),
+        ("accepts g r r", "there are too many arguments", accepts),
+        (
+            "accepts -g u32 -g u64 r",
+            "the grammar is given twice",
+            accepts,
+        ),
+        (
+            "accepts g r --rows 1",
+            "--rows is for another command",
+            accepts,
+        ),
+        (
+            "accepts - -",
+            "standard input can be only one of them",
+            accepts,
+        ),
         ("choose", "the grammar is missing", choose),
         ("choose g", "a record is missing", choose),
         ("choose -g u32 -g u64", "a record is missing", choose),
