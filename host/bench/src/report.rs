@@ -34,28 +34,30 @@ impl Report {
     }
 
     /// Prints the line of a call: the times of the programs that have it, with the library's
-    /// divided by each.
-    pub fn call(&mut self, name: &str, times: &[Option<f64>], limit: Option<Limit>) {
+    /// divided by each, and whether it is within each of its limits.
+    pub fn call(&mut self, name: &str, times: &[Option<f64>], limits: &[Limit]) {
         let library = times[0].expect("the library has every call");
         let cell = |time: &Option<f64>| match time {
             None => " |".to_string(),
             Some(time) => format!(" {time:.0} ({:.2}) |", library / time),
         };
         let others: String = times[1..].iter().map(cell).collect();
-        let (limit, verdict) = match limit {
-            None => (String::new(), ""),
-            Some(Limit::Beside(other, most)) => {
-                let place = self.programs.iter().position(|&name| name == other);
-                let time = place.and_then(|place| times[place]);
-                let ratio = library / time.expect("the program has the call");
-                (format!("{most} × {other}"), self.verdict(ratio <= most))
-            }
-            Some(Limit::Milliseconds(most)) => {
-                let within = library <= most * 1_000_000.0;
-                (format!("{most} ms"), self.verdict(within))
-            }
-        };
-        println!("| {name} | {library:.0} |{others} {limit} | {verdict} |");
+        let (mut most_of_each, mut verdicts) = (Vec::new(), Vec::new());
+        for limit in limits {
+            let (most, within) = match *limit {
+                Limit::Beside(other, most) => {
+                    let place = self.programs.iter().position(|&name| name == other);
+                    let time = place.and_then(|place| times[place]);
+                    let ratio = library / time.expect("the program has the call");
+                    (format!("{most} × {other}"), ratio <= most)
+                }
+                Limit::Milliseconds(most) => (format!("{most} ms"), library <= most * 1_000_000.0),
+            };
+            most_of_each.push(most);
+            verdicts.push(self.verdict(within));
+        }
+        let (limits, verdicts) = (most_of_each.join(", "), verdicts.join(", "));
+        println!("| {name} | {library:.0} |{others} {limits} | {verdicts} |");
     }
 
     /// Prints the heading of the table of times per row, a column for each number of rows.

@@ -36,7 +36,8 @@ const CALLS: [Call; 7] = [
 /// Measures and prints the table of calls.
 pub fn calls(report: &mut Report, programs: &[&dyn Program]) {
     report.calls();
-    let beside_rust = Some(Limit::Beside("Rust", RATIO));
+    let beside_rust = &[Limit::Beside("Rust", RATIO)][..];
+    let beside_copy = &[Limit::Beside("copy", RATIO)][..];
     let sizes: [(&str, fn() -> Input); 4] = [
         ("16 rows", || records::mixed(16)),
         ("300 rows", || records::mixed(300)),
@@ -50,13 +51,13 @@ pub fn calls(report: &mut Report, programs: &[&dyn Program]) {
             _ => Call::CheckMost,
         };
         for call in [check].into_iter().chain(CALLS) {
-            let limit = match (call, size) {
-                (Call::Size | Call::SameRoute, _) => None,
+            let limits = match (call, size) {
+                (Call::Size | Call::SameRoute, _) => &[],
                 (_, "300 rows") | (Call::Preview | Call::Import, "1 MiB") => beside_rust,
-                (Call::Write | Call::Export, "1 MiB") => Some(Limit::Beside("copy", RATIO)),
-                _ => None,
+                (Call::Write | Call::Export, "1 MiB") => beside_copy,
+                _ => &[],
             };
-            line(report, programs, call, (size, input()), limit);
+            line(report, programs, call, (size, input()), limits);
         }
     }
     let input = ("a serial and 300 rows", records::with_serial(300));
@@ -67,7 +68,7 @@ pub fn calls(report: &mut Report, programs: &[&dyn Program]) {
     );
     line(report, programs, Call::Choose, input, beside_rust);
     let input = ("300 rows", records::mixed(300));
-    line(report, programs, Call::CheckGrammar, input, None);
+    line(report, programs, Call::CheckGrammar, input, &[]);
     for call in [Call::Unpack, Call::Pack] {
         let input = ("4,096 uint32", records::uint32_array(4_096));
         line(report, programs, call, input, beside_rust);
@@ -84,8 +85,8 @@ pub fn calls(report: &mut Report, programs: &[&dyn Program]) {
             records::shared_children(0, Vec::new()),
         ),
     ] {
-        let at_once = Some(Limit::Milliseconds(AT_ONCE));
-        line(report, programs, Call::Read, (name, input), at_once);
+        let at_once = [Limit::Milliseconds(AT_ONCE)];
+        line(report, programs, Call::Read, (name, input), &at_once);
     }
 }
 
@@ -95,10 +96,10 @@ fn line(
     programs: &[&dyn Program],
     call: Call,
     (name, input): (&str, Input),
-    limit: Option<Limit>,
+    limits: &[Limit],
 ) {
     let times = times(programs, call, &[input]);
-    report.call(&format!("{}, {name}", call.name()), &times[0], limit);
+    report.call(&format!("{}, {name}", call.name()), &times[0], limits);
 }
 
 /// The times of a call on each of the records, by program, once the library's answers were
