@@ -7,7 +7,7 @@ use Prim.Native.Nat.{ℕ, zero, suc, _+_, _^_, _≤_, _<_, min}
 use native.Mathlib.Omega.{arith}
 use native.Mathlib.Decide.{decLe}
 use lib.ListN.{length}
-use lib.Dec.{ltb, ltb→lt}
+use borrow.Author.Tests.{ltb-true}
 use Rattle.refusal.specs.Outcome.{accepted}
 use Rattle.packed.specs.Packed.{Bytes}
 use Rattle.packed.proofs.Laws.{pow-256}
@@ -149,4 +149,4 @@ module _ (capacity : ℕ) (d : List ℕ) (g : G) (w : ValidGrammar g) (b : Bytes
     where
       go : (o : Option ℕ) (n : ℕ) → AtMost o n → short o n ≡ true → ⊥
       go none n k q = k
-      go (some l) n k q = omega (arith, ltb→lt n l (rw q tt))
+      go (some l) n k q = omega (arith, ltb-true n l q)
