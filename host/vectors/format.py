@@ -1,10 +1,11 @@
 """Runs the Python text of docs/FORMAT.md over the test vectors: `python3 host/vectors/format.py`.
 
 The check of grammars, the readings and their checks, the check of row tables, the size, the signed
-number, the writers, preview, same route, the chooser, export and import answer as each line says.
-Preview also answers as each line of `marshall_val` says that writing does, and the checks, preview,
-same route, the chooser, export and import as each row of the page's own tables says. Prints a line for
-each failure, the number of lines of each call and, last, 'N passed, M failed'.
+number, the writers, preview, same route, the chooser, export, import and yes or no answer as each line
+says. Preview also answers as each line of `marshall_val` says that writing does, and the checks,
+preview, same route, the chooser, export, import, the least lengths and yes or no as each row of the
+page's own tables says. Prints a line for each failure, the number of lines of each call and, last,
+'N passed, M failed'.
 """
 
 import collections
@@ -132,6 +133,27 @@ def import_xdr(line):
     return line.get("accepted") == {"row_count": str(n), "used": str(used)}
 
 
+def accepts(line):
+    grammar, record = words(line, "grammar"), data(line, "record")
+    yes, begun = page["accepts"](grammar, record)
+    if yes != is_checked(grammar, record):
+        return False
+    return line.get("accepted") == {"yes": "1" if yes else "0", "begun": str(begun)}
+
+
+def is_checked(grammar, record):
+    """Whether the whole check with capacity 4,096 accepts."""
+    try:
+        page["check"](grammar, record, 0, True, 4096)
+    except ValueError:
+        return False
+    return True
+
+
+def least_lengths(line):
+    return page["least_lengths"](words(line, "grammar")) == line["accepted"]["least"]
+
+
 CALLS = {
     "check_grammar": check_grammar,
     "parse_val": read,
@@ -157,7 +179,11 @@ CALLS = {
     "export_xdr on the page": export_xdr,
     "import_xdr": import_xdr,
     "import_xdr on the page": import_xdr,
+    "accepts on the page": accepts,
+    "least lengths on the page": least_lengths,
 }
+
+NEVER_REFUSED = {"least lengths on the page"}
 
 
 def vectors(name):
@@ -259,6 +285,23 @@ def imports_on_page():
         yield line
 
 
+def least_lengths_on_page():
+    for line, cells in page_table("Least lengths", "least lengths on the page"):
+        named, lengths, _ = cells
+        least = [None if length == "none" else int(length) for length in lengths.split(", ")]
+        yield line | {"grammar": of_name(named), "accepted": {"least": least}}
+
+
+def yes_or_no_on_page():
+    for line, cells in page_table("Yes or no", "accepts on the page"):
+        named, record, answer, _ = cells
+        line |= {"grammar": of_name(named), "record": parts(record)}
+        line |= numbers_or_refusal(r"(?P<yes>yes|no), begun (?P<begun>\d+)", answer)
+        if "accepted" in line:
+            line["accepted"]["yes"] = "1" if line["accepted"]["yes"] == "yes" else "0"
+        yield line
+
+
 def numbers_or_refusal(form, cell):
     """The answer of a cell, as a line has it. Numbers given have this form."""
     numbers = re.fullmatch(form, cell)
@@ -305,7 +348,12 @@ def listed(cell):
 
 def parts(cell):
     """The bytes of a cell, as a line has them."""
-    text, repeated, times = cell.strip("`").partition(" × ")
+    return [part for run in cell.split(" and ") for part in run_parts(run)]
+
+
+def run_parts(run):
+    """The bytes between two backticks, as a line has them."""
+    text, repeated, times = run.strip("`").partition(" × ")
     if repeated:
         return [{"repeat": text, "times": int(times)}]
     return [] if text == "-" else [text]
@@ -328,6 +376,8 @@ SOURCES = [
     vectors("xdr"),
     exports_on_page(),
     imports_on_page(),
+    least_lengths_on_page(),
+    yes_or_no_on_page(),
 ]
 
 LOCATOR = 18  # the refusal that the text does not give
@@ -359,7 +409,7 @@ for line in lines():
         print("not so:", line["name"])
 for call in CALLS:
     print(f"{call}: {accepted[call]} lines accepted, {refused[call]} refused")
-    if accepted[call] == 0 or refused[call] == 0:
+    if accepted[call] == 0 or refused[call] == 0 and call not in NEVER_REFUSED:
         failed += 1
         print("not tried both ways:", call)
 print(f"{passed} passed, {failed} failed")
