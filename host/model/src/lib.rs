@@ -6,6 +6,7 @@
 #![forbid(unsafe_code)]
 #![deny(missing_docs)]
 
+mod accepts;
 mod choosing;
 mod grammar;
 mod packed;
@@ -19,6 +20,7 @@ mod signed;
 mod writing;
 mod xdr;
 
+pub use accepts::{accepts, Verdict};
 pub use choosing::{choose_grammar, Chosen};
 pub use grammar::check_grammar;
 pub use packed::{pack, pack_seq, unpack, unpack_seq};
