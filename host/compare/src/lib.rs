@@ -16,6 +16,7 @@ mod random_case;
 mod record;
 mod row_table;
 mod run;
+mod shortest;
 mod show;
 mod shrink;
 mod table;
@@ -30,10 +31,11 @@ pub use random::Random;
 pub use record::Record;
 pub use row_table::{RowInput, RowTable};
 pub use run::{on_large_stack, run, Answers};
+pub use shortest::shortest_record;
 pub use show::{show, show_by_model, show_by_program, show_from, show_in_pieces, show_input};
 pub use shrink::shrink;
 pub use table::{chain, chain_and_number, doubling, grammar_list, grammars_of, leaf};
-pub use table::{root_kinds, table, Table};
+pub use table::{of_length, root_kinds, table, Table};
 pub use writing::Value;
 
 /// The refusal of the model in the bindings' type.

@@ -62,15 +62,22 @@ impl Table {
     /// A table whose root is a tuple of 1 to 4 of this one's nodes, in half of the draws with its
     /// root first. It has a node more, and as many child words more as the tuple has fields.
     pub fn in_a_tuple(self, random: &mut Random) -> Table {
-        let (n, m) = (self.nodes.len(), self.children.len());
+        let n = self.nodes.len();
         let count = random.within(1..=4);
-        let root = [4, m as u32, count as u32];
+        let first = random.below(n);
+        let mut fields = vec![random.pick(&[0, first])];
+        fields.extend((1..count).map(|_| random.below(n)));
+        self.below(4, &fields)
+    }
+
+    /// A table whose root is of this kind and has these nodes of this one as its children. It has a
+    /// node more, and as many child words more as there are children.
+    pub fn below(self, kind: u32, of_root: &[usize]) -> Table {
+        let root = [kind, self.children.len() as u32, of_root.len() as u32];
         // Each node's number is one more. Child words of no node hold anything.
         let children = self.children.into_iter();
         let mut children: Vec<u32> = children.map(|child| child.wrapping_add(1)).collect();
-        let first = random.below(n);
-        children.push(1 + random.pick(&[0, first]) as u32);
-        children.extend((1..count).map(|_| 1 + random.below(n) as u32));
+        children.extend(of_root.iter().map(|&child| child as u32 + 1));
         Table {
             nodes: [vec![root], self.nodes].concat(),
             children,
@@ -196,4 +203,21 @@ pub fn doubling(nodes: u32, kind: u32) -> Vec<u32> {
     let children: Vec<u32> = (1..nodes).flat_map(|k| [k, k]).collect();
     let nodes: Vec<[u32; 3]> = parents.chain([[kind, 0, 0]]).collect();
     table(&nodes, &children)
+}
+
+/// A table whose values have this many bytes, a multiple of 4. The root is a tuple; of each node behind
+/// it the values are twice as long as those of the next one, and the last is a uint32.
+pub fn of_length(bytes: u32) -> Table {
+    let numbers = bytes / 4;
+    let bits = u32::BITS - numbers.leading_zeros();
+    let fields: Vec<u32> = (1..=bits)
+        .filter(|node| numbers >> (bits - node) & 1 == 1)
+        .collect();
+    let count = fields.len() as u32;
+    let mut nodes = vec![[4, 0, count]];
+    nodes.extend((1..bits).map(|node| [4, count + 2 * (node - 1), 2]));
+    nodes.extend((bits > 0).then_some([1, 0, 0]));
+    let doubled = (2..=bits).flat_map(|node| [node, node]);
+    let children = fields.into_iter().chain(doubled).collect();
+    Table { nodes, children }
 }

@@ -1,5 +1,5 @@
 //! The capacity of a check: it answers as the reading that is lent as many rows as are named, 4,096 at
-//! most, or 1,024 where none are named. Same route and the chooser have 4,096.
+//! most, or 1,024 where none are named. Same route, the chooser and yes or no have 4,096.
 
 use std::collections::BTreeSet;
 
@@ -414,9 +414,9 @@ fn smaller_capacities() {
     assert_eq!(numbers, BTreeSet::from([0, 8, 9, 10, 11]));
 }
 
-/// Same route and the chooser have 4,096 rows, whatever a check has.
+/// Same route, the chooser and yes or no have 4,096 rows, whatever a check has.
 #[test]
-fn same_route_and_the_chooser() {
+fn same_route_the_chooser_and_yes_or_no() {
     let grammar = constants();
     for count in [CHECK_ROWS - 1, CHECK_ROWS, MAX_ROWS - 1, MAX_ROWS] {
         let record = (count as u64).to_le_bytes().to_vec();
@@ -436,14 +436,21 @@ fn same_route_and_the_chooser() {
             record: record.clone(),
         };
         let chosen = chosen.compare().answer.c_words();
+        let accepts = Case::Accepts {
+            grammar: grammar.clone(),
+            record: record.clone(),
+        };
+        let accepts = accepts.compare().answer.c_words();
         if count < MAX_ROWS {
             assert_eq!(same_route(&record, &record), [0, 0, 0, 1, 0]);
             assert_eq!(same_route(&record, &[0; 8]), [0, 0, 0, 0, 0]);
             assert_eq!(chosen, [0, 0, 0, 0, count as u64 + 1]);
+            assert_eq!(accepts, [0, 0, 0, 1, count as u64 + 1]);
         } else {
             assert_eq!(same_route(&record, &[0; 8]), [8, 2, 0, 0, 1]);
             assert_eq!(same_route(&[0; 8], &record), [8, 2, 0, 0, 2]);
             assert_eq!(chosen, [22, 2, 0, 0, 0]);
+            assert_eq!(accepts, [0, 0, 0, 0, 1]);
         }
     }
 }

@@ -25,7 +25,7 @@ fn output(case: &mut Case) -> &mut Vec<u8> {
 #[test]
 fn each_call_has_one() {
     let calls: BTreeSet<&str> = Case::blanks().iter().map(Case::call).collect();
-    assert_eq!(calls.len(), 25);
+    assert_eq!(calls.len(), 26);
     for mut blank in Case::blanks() {
         let answer = blank.compare().answer;
         if let Answer::Accepted(given) = answer {

@@ -117,6 +117,22 @@ fn texts() {
         text(choosing(&[array, vec![]])),
         r#"{"name": "a name", "call": "choose_grammar", "list": ["2", "9", "2", "3 0 1", "0 0 0", "1", "1", "0"], "record": ["07000000"], "refused": {"number": 1, "place": "word", "at": "12"}}"#
     );
+    let accepts = |grammar: Vec<u32>| Case::Accepts {
+        grammar,
+        record: vec![7, 0, 0, 0],
+    };
+    assert_eq!(
+        text(accepts(leaf(1))),
+        r#"{"name": "a name", "call": "accepts", "grammar": ["1", "1 0 0", "0"], "record": ["07000000"], "accepted": {"yes": "1", "begun": "1"}}"#
+    );
+    assert_eq!(
+        text(accepts(leaf(2))),
+        r#"{"name": "a name", "call": "accepts", "grammar": ["1", "2 0 0", "0"], "record": ["07000000"], "accepted": {"yes": "0", "begun": "0"}}"#
+    );
+    assert_eq!(
+        text(accepts(leaf(11))),
+        r#"{"name": "a name", "call": "accepts", "grammar": ["1", "11 0 0", "0"], "record": ["07000000"], "refused": {"number": 3, "place": "word", "at": "1"}}"#
+    );
 }
 
 #[test]

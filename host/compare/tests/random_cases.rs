@@ -23,7 +23,7 @@ fn run_cases(seed: u64, cases: u64) -> Answers {
 /// Every call gives every answer that it can give, and no other.
 #[test]
 fn each_call_gives_each_of_its_answers() {
-    let answers = run_cases(1, 22_000);
+    let answers = run_cases(3, 24_000);
     let mut total = 0;
     for blank in Case::blanks() {
         for &number in blank.answer_numbers() {
@@ -243,8 +243,47 @@ fn a_late_check_of_a_grammar_is_found_out() {
             Err(_) => outcome,
         }
     };
-    let difference = difference(12, library, 2_000);
+    let difference = difference(15, library, 2_000);
     assert_eq!(difference.case.call(), "choose_grammar");
+}
+
+/// Yes or no and the values begun by the grammar and the record, where these are the sound ones.
+type YesOrNo = fn(&[u32], &[u8], [u64; 2]) -> [u64; 2];
+
+/// Answers that are not yes or no as asked: no values begun with no, one with every answer, the rows of
+/// a check without a capacity, yes to every record that is read, no reading of a record of the least
+/// length, and yes and no exchanged where the record is read.
+const FALSE_VERDICTS: [YesOrNo; 6] = [
+    |_, _, [yes, begun]| [yes, yes * begun],
+    |_, _, [yes, begun]| [yes, begun.max(1)],
+    |grammar, record, [_, begun]| {
+        let is_accepted = model::check_whole(grammar, record).is_ok();
+        [is_accepted.into(), begun]
+    },
+    |_, _, [_, begun]| [begun.min(1), begun],
+    |grammar, record, sound| match model::least_length(grammar) {
+        Ok(Some(least)) if least == record.len() as u64 => [0, 0],
+        _ => sound,
+    },
+    |_, _, [yes, begun]| [begun.min(1) - yes, begun],
+];
+
+#[test]
+fn a_false_yes_or_no_is_found_out() {
+    for verdict in FALSE_VERDICTS {
+        let library = |case: &Case| {
+            let outcome = case.of_library();
+            match (case, &outcome.answer) {
+                (Case::Accepts { grammar, record }, Answer::Accepted(given)) => {
+                    let given = verdict(grammar, record, [given[0], given[1]]);
+                    Outcome::with(Answer::Accepted(given.to_vec()), case)
+                }
+                _ => outcome,
+            }
+        };
+        let difference = difference(14, library, 3_000);
+        assert_eq!(difference.case.call(), "accepts");
+    }
 }
 
 /// A check's capacity by the one that is named, if there is one.

@@ -348,6 +348,58 @@ fn lists_of_grammars() {
     }
 }
 
+/// The error of reading a record that is too short.
+fn reads_short_records(case: &Case) -> Outcome {
+    let outcome = case.of_model();
+    match (case, &outcome.answer) {
+        (Case::Accepts { record, .. }, Answer::Accepted(given))
+            if given[1] == 0 && record.len() <= MAX_BYTES =>
+        {
+            Outcome::with(Answer::Accepted(vec![0, 1]), case)
+        }
+        _ => outcome,
+    }
+}
+
+/// The error of giving 1 value begun to a record that is too long.
+fn reads_long_records(case: &Case) -> Outcome {
+    let outcome = case.of_model();
+    match (case, &outcome.answer) {
+        (Case::Accepts { record, .. }, Answer::Accepted(_)) if record.len() > MAX_BYTES => {
+            Outcome::with(Answer::Accepted(vec![0, 1]), case)
+        }
+        _ => outcome,
+    }
+}
+
+#[test]
+fn records_not_read() {
+    for seed in 0..3 {
+        let (grammar, record) = large_record(&mut Random::new(seed));
+        let large = Case::Accepts {
+            grammar: grammar.clone(),
+            record: record[..3].to_vec(),
+        };
+        let Case::Accepts { grammar, record } = smallest(reads_short_records, &large) else {
+            panic!("yes or no");
+        };
+        // Of an array of constants no single edit makes a uint32.
+        let smallest_grammars = [leaf(1), table(&[[3, 0, 1], [0; 3]], &[1])];
+        assert!(smallest_grammars.contains(&grammar), "{grammar:?}");
+        assert!(record.is_empty());
+        let large = Case::Accepts {
+            grammar,
+            record: vec![7; MAX_BYTES + 1],
+        };
+        let Case::Accepts { grammar, record } = smallest(reads_long_records, &large) else {
+            panic!("yes or no");
+        };
+        let smallest_grammars = [leaf(0), table(&[[3, 0, 1], [0; 3]], &[1])];
+        assert!(smallest_grammars.contains(&grammar), "{grammar:?}");
+        assert_eq!(record, [0; MAX_BYTES + 1]);
+    }
+}
+
 /// An error at an index of 5 or more when 3 numbers or more are packed.
 fn errs_behind_index_5(case: &Case) -> Outcome {
     match case {

@@ -21,7 +21,7 @@ pub struct Verdict {
 
 /// The length of the shortest value of a node, or none where it has no value; `behind` has those of
 /// the nodes behind it, the next one first.
-fn least_length(grammar: &[u32], number: u32, behind: &[Option<u64>]) -> Option<u64> {
+fn node_length(grammar: &[u32], number: u32, behind: &[Option<u64>]) -> Option<u64> {
     let (kind, children) = node(grammar, number);
     let place = |child: u32| (child - number - 1) as usize;
     let lengths = children.iter().map(|&child| behind[place(child)]);
@@ -37,27 +37,29 @@ fn least_length(grammar: &[u32], number: u32, behind: &[Option<u64>]) -> Option<
 }
 
 /// The least lengths of the nodes of a checked table from this one on.
-fn least_lengths(grammar: &[u32], number: u32) -> Vec<Option<u64>> {
+fn lengths_from(grammar: &[u32], number: u32) -> Vec<Option<u64>> {
     if number == grammar[0] {
         return vec![];
     }
-    let behind = least_lengths(grammar, number + 1);
-    let own = least_length(grammar, number, &behind);
+    let behind = lengths_from(grammar, number + 1);
+    let own = node_length(grammar, number, &behind);
     [vec![own], behind].concat()
 }
 
-/// Whether a record has at least as many bytes as the shortest value of a checked grammar's root.
-fn is_long_enough(grammar: &[u32], record: &[u8]) -> bool {
-    let least = least_lengths(grammar, 0)[0];
-    least.is_some_and(|least| record.len() as u64 >= least)
+/// The length of the shortest value of the grammar's root, 1,048,577 where that is longer, or none
+/// where the root has no value.
+pub fn least_length(grammar: &[u32]) -> Result<Option<u64>, Refusal> {
+    check_grammar(grammar)?;
+    Ok(lengths_from(grammar, 0)[0])
 }
 
 /// Whether a record is a value of the grammar's root, of at most 4,096 rows, and the number of values
 /// begun until this is known. One that is too long, or shorter than every value, is not read. What is
 /// refused is the grammar.
 pub fn accepts(grammar: &[u32], record: &[u8]) -> Result<Verdict, Refusal> {
-    check_grammar(grammar)?;
-    let is_read = check_length(record).is_ok() && is_long_enough(grammar, record);
+    let least = least_length(grammar)?;
+    let is_long_enough = least.is_some_and(|least| record.len() as u64 >= least);
+    let is_read = check_length(record).is_ok() && is_long_enough;
     let (accepted, begun) = match is_read {
         true => try_whole(grammar, record),
         false => (false, 0),

@@ -20,7 +20,7 @@ mod signed;
 mod writing;
 mod xdr;
 
-pub use accepts::{accepts, Verdict};
+pub use accepts::{accepts, least_length, Verdict};
 pub use choosing::{choose_grammar, Chosen};
 pub use grammar::check_grammar;
 pub use packed::{pack, pack_seq, unpack, unpack_seq};

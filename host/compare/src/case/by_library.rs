@@ -155,3 +155,8 @@ pub fn import_xdr(grammar: &[u32], record: &[u8], rows: &mut [u64], store: &mut 
     let imported = calls::import_xdr(grammar, record, rows, store);
     Answer::of(imported.map(|imported| [imported.rows as u64, imported.used as u64]))
 }
+
+pub fn accepts(grammar: &[u32], record: &[u8]) -> Answer {
+    let verdict = calls::accepts(grammar, record);
+    Answer::of(verdict.map(|verdict| [verdict.accepted.into(), verdict.begun as u64]))
+}

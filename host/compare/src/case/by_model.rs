@@ -207,3 +207,8 @@ pub fn import_xdr(grammar: &[u32], record: &[u8], rows: &mut [u64], store: &mut 
         ]
     }))
 }
+
+pub fn accepts(grammar: &[u32], record: &[u8]) -> Answer {
+    let verdict = model::accepts(grammar, record);
+    answer(verdict.map(|verdict| [verdict.accepted.into(), verdict.begun as u64]))
+}

@@ -138,6 +138,7 @@ cases! {
     } lends [out] gives [size];
     ImportXdr import_xdr { grammar: Vec<u32>, record: Vec<u8>, rows: Vec<u64>, store: Vec<u8> }
         lends [rows, store] gives [row_count, used];
+    Accepts accepts { grammar: Vec<u32>, record: Vec<u8> } lends [] gives [yes, begun];
 }
 
 impl Case {
@@ -156,7 +157,7 @@ impl Case {
             Case::UnpackU32Seq { .. } | Case::UnpackU64Seq { .. } => &[0, 7, 9],
             Case::PackU32 { .. } | Case::PackU64 { .. } => &[0, 17],
             Case::PackU32Seq { .. } | Case::PackU64Seq { .. } => &[0, 17],
-            Case::CheckGrammar { .. } => &[0, 1, 2, 3, 4, 5],
+            Case::CheckGrammar { .. } | Case::Accepts { .. } => &[0, 1, 2, 3, 4, 5],
             Case::ComputeSizeOf { .. } => &[0, 6, 12, 13, 14],
             Case::LocateArray { .. } => &[0, 6, 12, 13, 14, 18],
             Case::SignedNumber { .. } => &[0, 6, 12, 13, 14, 20],

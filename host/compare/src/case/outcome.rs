@@ -8,8 +8,8 @@ use crate::Difference;
 /// What a call answers.
 #[derive(Clone, Debug, PartialEq, Eq)]
 pub enum Answer {
-    /// Accepted, with the numbers that the call gives. Same route gives 1 for yes and 0 for no; a
-    /// signed number is given as its 64-bit pattern in two's complement.
+    /// Accepted, with the numbers that the call gives. Same route and `accepts` give 1 for yes and 0
+    /// for no; a signed number is given as its 64-bit pattern in two's complement.
     Accepted(Vec<u64>),
     /// Refused.
     Refused {

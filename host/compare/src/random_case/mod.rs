@@ -1,5 +1,6 @@
 //! Random cases of every call: sound ones, and ones with a fault or with several.
 
+mod accepts;
 mod choosing;
 mod preview;
 mod reading;
@@ -15,7 +16,7 @@ impl Case {
     /// A random case of any call. The calls on grammars, rows and records come more often than the
     /// packers and unpackers, which have fewer answers.
     pub fn random(random: &mut Random) -> Case {
-        match random.below(58) {
+        match random.below(62) {
             0..4 => packed(random, &U32),
             4..8 => packed(random, &U64),
             8..11 => check_grammar(random),
@@ -26,7 +27,8 @@ impl Case {
             43..47 => same_route::case(random),
             47..51 => choosing::case(random),
             51..54 => xdr::export(random),
-            _ => xdr::import(random),
+            54..58 => xdr::import(random),
+            _ => accepts::case(random),
         }
     }
 }

@@ -122,7 +122,7 @@ pub(super) fn long_array(random: &mut Random) -> (Vec<u32>, Input) {
 /// A grammar and a record of about as many rows as a check has, where no capacity is named, or as a
 /// value may have: an array of constants or of numbers, alone, before a number, behind one, or in a
 /// case. The last byte is missing, or there is one more, in some of them.
-fn many_rows(random: &mut Random) -> (Vec<u32>, Input) {
+pub(super) fn many_rows(random: &mut Random) -> (Vec<u32>, Input) {
     let most = random.pick(&[CHECK_ROWS, MAX_ROWS]);
     let rows = most - 2 + random.pick(&[0, 1, 2, 2, 2, 3, 3, 4]);
     let (kind, width) = random.pick(&[(0, 0), (0, 0), (1, 4), (2, 8), (9, 4), (10, 8)]);
