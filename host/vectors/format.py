@@ -179,6 +179,7 @@ CALLS = {
     "export_xdr on the page": export_xdr,
     "import_xdr": import_xdr,
     "import_xdr on the page": import_xdr,
+    "accepts": accepts,
     "accepts on the page": accepts,
     "least lengths on the page": least_lengths,
 }
@@ -376,6 +377,7 @@ SOURCES = [
     vectors("xdr"),
     exports_on_page(),
     imports_on_page(),
+    vectors("accepts"),
     least_lengths_on_page(),
     yes_or_no_on_page(),
 ]

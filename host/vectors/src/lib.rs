@@ -30,7 +30,7 @@ pub struct File {
 }
 
 /// All files.
-pub const FILES: [File; 11] = [
+pub const FILES: [File; 12] = [
     File {
         name: "packed.jsonl",
         vectors: || of_cases(cases::packed(), vec![]),
@@ -70,6 +70,10 @@ pub const FILES: [File; 11] = [
     File {
         name: "xdr.jsonl",
         vectors: || of_cases(cases::xdr_calls(), vec![]),
+    },
+    File {
+        name: "accepts.jsonl",
+        vectors: || of_cases(cases::accepts(), vec![]),
     },
     File {
         name: "show.jsonl",

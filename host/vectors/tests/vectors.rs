@@ -280,6 +280,72 @@ fn choosing_behind_each_refusal() {
     assert_eq!(tries, each.chain([(8, "no row")]).collect());
 }
 
+/// Each line of yes or no says yes exactly where the model's check with 4,096 rows accepts, with as many
+/// values begun as there are rows, and no values begun exactly where the record is too long, the root has
+/// no value or the record is shorter than each. Of roots of each kind there are records of the least
+/// length, of one byte less and of one more, and a yes and a no that were read.
+#[test]
+fn yes_or_no_of_each_length() {
+    let (mut roots, mut lengths) = (BTreeSet::new(), BTreeSet::new());
+    let (mut readings, mut not_read) = (BTreeSet::new(), BTreeSet::new());
+    for line in calls() {
+        let (Case::Accepts { grammar, record }, Answer::Accepted(given)) =
+            (&line.case, &line.outcome.answer)
+        else {
+            continue;
+        };
+        let (yes, begun) = (given[0] == 1, given[1] as usize);
+        let (root, length) = (root_kinds(grammar).0, record.len() as i64);
+        let least = model::least_length(grammar).expect("a sound grammar");
+        lengths.extend(least.map(|least| (root, (length - least as i64).clamp(-2, 2))));
+        let why = match least {
+            _ if record.len() > MAX_BYTES => "too long",
+            None => "no value",
+            Some(1_048_577) => "more than a record has",
+            Some(least) if length < least as i64 => "too short",
+            Some(_) => "read",
+        };
+        assert_eq!(begun > 0, why == "read", "{}", line.name);
+        if begun == 0 {
+            assert!(!yes, "{}", line.name);
+            not_read.insert(why);
+            continue;
+        }
+        roots.insert((root, yes));
+        let reading = model::check_whole_with(grammar, record, MAX_ROWS);
+        assert_eq!(reading.is_ok(), yes, "{}", line.name);
+        match reading {
+            Ok(reading) => assert_eq!(reading.rows.len(), ROW_WORDS * begun, "{}", line.name),
+            Err(refusal) => {
+                let how = match begun {
+                    1 => "first value",
+                    2..=MAX_ROWS => "behind others",
+                    _ => "no row",
+                };
+                readings.insert((refusal.number, how));
+            }
+        }
+    }
+    let both = |kind| [(kind, false), (kind, true)];
+    assert_eq!(roots, (0..=10).flat_map(both).collect());
+    let ways = ["first value", "behind others"];
+    let each = (8..=11).flat_map(|number| ways.map(|how| (number, how)));
+    assert_eq!(readings, each.chain([(8, "no row")]).collect());
+    let whys = [
+        "too long",
+        "no value",
+        "more than a record has",
+        "too short",
+    ];
+    assert_eq!(not_read, BTreeSet::from(whys));
+    for kind in 0..=10 {
+        // A constant has no bytes, so no record is shorter.
+        for more in if kind == 0 { 0..=2 } else { -2..=2 } {
+            assert!(lengths.contains(&(kind, more)), "kind {kind}, {more}");
+        }
+    }
+}
+
 /// The grammar, the capacity and the record of a whole reading.
 fn whole_reading(case: &Case) -> Option<(&[u32], usize, &[u8])> {
     match case {
@@ -700,12 +766,14 @@ fn front_parts_of_imports() {
 /// Refusals with their borders: the number, the call, what the line shows that just passes its test,
 /// and what the one that just does not.
 #[rustfmt::skip]
-const BORDERS: [(u64, &str, &str, &str); 162] = [
+const BORDERS: [(u64, &str, &str, &str); 173] = [
     (1, "check_grammar", "example F, N 256", "example F, N 257"),
     (1, "check_grammar", "example B, constant", "N 0"),
     (1, "preview", "N 256", "N 257"),
     (1, "choose_grammar", "N 256", "N 257"),
     (1, "choose_grammar", "one constant", "1 of the only grammar"),
+    (1, "accepts", "N 256, grammar 0", "N 257, grammar 0"),
+    (1, "accepts", "example B", "1 of the grammar, no bytes"),
     (2, "check_grammar", "M 1,024", "M 1,025"),
     (2, "check_grammar", "1,794 words", "1,793 words, one missing"),
     (2, "check_grammar", "1,794 words", "1,795 words, one too many"),
@@ -713,9 +781,13 @@ const BORDERS: [(u64, &str, &str, &str); 162] = [
     (2, "choose_grammar", "M 1,024", "M 1,025"),
     (2, "choose_grammar", "1,794 words", "1,793 words, one missing"),
     (2, "choose_grammar", "1,794 words", "1,795 words, one too many"),
+    (2, "accepts", "M 1,024, grammar 0", "M 1,025, grammar 0"),
+    (2, "accepts", "1,794 words, grammar 0", "1,793 words, one missing, grammar 0"),
+    (2, "accepts", "1,794 words, grammar 0", "1,795 words, one too many, grammar 0"),
     (3, "check_grammar", "int64", "kind 11"),
     (3, "preview", "int64 -3 over its record", "kind 11 in the grammar"),
     (3, "choose_grammar", "root int64, accepted", "3 of the only grammar"),
+    (3, "accepts", "int64, 8 bytes", "3 of the grammar, no bytes"),
     (4, "check_grammar", "example C, array of constants", "array with count 0"),
     (4, "check_grammar", "example C, array of constants", "array with count 2"),
     (4, "check_grammar", "array with the last child word", "array with its child at M"),
@@ -731,12 +803,17 @@ const BORDERS: [(u64, &str, &str, &str); 162] = [
     (4, "choose_grammar", "root uint32, accepted", "uint32 with first 1"),
     (4, "choose_grammar", "kind 4, first 2, count 1, M 3", "kind 4, first 3, count 1, M 3"),
     (4, "choose_grammar", "kind 4, first 3, count 0, M 3", "kind 4, first 4, count 0, M 3"),
+    (4, "accepts", "array of example D, count 0", "array with count 2, grammar 0"),
+    (4, "accepts", "kind 4, first 2, count 1, M 3, grammar 0", "kind 4, first 3, count 1, M 3, grammar 0"),
+    (4, "accepts", "kind 4, first 3, count 0, M 3, grammar 0", "kind 4, first 4, count 0, M 3, grammar 0"),
     (5, "check_grammar", "child that is the next node", "child that is its node"),
     (5, "check_grammar", "child that is the next node", "child number N"),
     (5, "check_grammar", "node 255 as the last child word", "child number 256 of N 256"),
     (5, "preview", "child that is the next node", "child that is its node"),
     (5, "choose_grammar", "child 2 of node 1 of 3, kind 4", "child 1 of node 1 of 3, kind 4"),
     (5, "choose_grammar", "child 2 of node 1 of 3, kind 4", "child 3 of node 1 of 3, kind 4"),
+    (5, "accepts", "child 2 of node 1 of 3, kind 4, grammar 0", "child 1 of node 1 of 3, kind 4, grammar 0"),
+    (5, "accepts", "child 2 of node 1 of 3, kind 4, grammar 0", "child 3 of node 1 of 3, kind 4, grammar 0"),
     (6, "demarshall", "a record of 1,048,576 bytes", "a record of 1,048,577 bytes"),
     (6, "check_whole", "a record of 1,048,576 bytes", "a record of 1,048,577 bytes"),
     (6, "parse_val", "the end of 1,048,576 bytes", "the end of 1,048,577 bytes"),

@@ -1,6 +1,7 @@
 //! The listed cases, in the notation of docs/FORMAT.md: grammars and rows as numbers with blanks
 //! and commas between them, bytes in hexadecimal.
 
+mod accepts;
 pub mod borders;
 mod capacities;
 mod choosing;
@@ -17,6 +18,7 @@ mod signed;
 mod writing;
 mod xdr;
 
+pub use accepts::accepts;
 pub use choosing::choosing;
 pub use grammar::grammar;
 pub use packed::packed;

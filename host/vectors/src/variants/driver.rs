@@ -1,6 +1,8 @@
 //! The calls of the vectors, made of the model.
 
-use model::{Chosen, Importing, Place, Preview, Reading, Refusal, SameRouteRefusal, Writing};
+use model::{
+    Chosen, Importing, Place, Preview, Reading, Refusal, SameRouteRefusal, Verdict, Writing,
+};
 
 use super::flat::{Call, Given, Outcome};
 
@@ -116,6 +118,12 @@ fn chosen(chosen: Result<Chosen, Refusal>) -> Outcome {
     outcome(chosen.map(|chosen| (numbers(chosen), vec![])))
 }
 
+/// The outcome of yes or no.
+fn answered(verdict: Result<Verdict, Refusal>) -> Outcome {
+    let numbers = |verdict: Verdict| vec![verdict.accepted.into(), verdict.begun as u64];
+    outcome(verdict.map(|verdict| (numbers(verdict), vec![])))
+}
+
 /// What comes of a call by the model.
 pub fn of_model(call: &Call) -> Outcome {
     let width = if call.call.contains("u32") { 4 } else { 8 };
@@ -214,6 +222,9 @@ pub fn of_model(call: &Call) -> Outcome {
                 model::import_xdr(&grammar, bytes(record), capacity, store),
                 rows,
             )
+        }
+        ("accepts", [grammar, record]) => {
+            answered(model::accepts(&short_words(grammar), bytes(record)))
         }
         ("show", [input]) => (vec![0], vec![Given::Bytes(model::show(bytes(input)))]),
         (other, given) => panic!("{other} of {} fields", given.len()),
