@@ -131,7 +131,8 @@ typedef struct argument {
     CALL(same_route, "wbb", ARRAY(0), ARRAY(1), ARRAY(2))                                      \
     CALL(choose_grammar, "wb", ARRAY(0), ARRAY(1))                                             \
     CALL(export_xdr, "wrnbBn", ARRAY(0), ARRAY(1), NUMBER(2), ARRAY(3), ARRAY(4), NUMBER(5))   \
-    CALL(import_xdr, "wbRB", ARRAY(0), ARRAY(1), ARRAY(2), ARRAY(3))
+    CALL(import_xdr, "wbRB", ARRAY(0), ARRAY(1), ARRAY(2), ARRAY(3))                           \
+    CALL(accepts, "wb", ARRAY(0), ARRAY(1))
 
 #define NUMBER(i) a[i].number
 #define ARRAY(i) a[i].array, a[i].length
@@ -349,6 +350,8 @@ static void test_lengths(void)
         CHECK(refused(route_check_whole_with(constant, of_u32[i], bytes, 8, 0), 2, 1, 4));
         CHECK(refused(route_choose_grammar(no_grammars, of_u32[i], bytes, 8), 21, 1, 0));
         CHECK(refused(route_choose_grammar(list, of_u32[i], bytes, 8), 21, 1, 0));
+        CHECK(refused(route_accepts(no_nodes, of_u32[i], bytes, 8), 1, 1, 0));
+        CHECK(refused(route_accepts(constant, of_u32[i], bytes, 8), 2, 1, 4));
         CHECK(refused(route_import_xdr(constant, of_u32[i], bytes, 8, u64, 4, forbidden, 8), 2, 1,
                       4));
         CHECK(refused(route_import_xdr(constant, 5, bytes, 8, u64, of_u64[i], forbidden, 8), 11, 2,
@@ -367,6 +370,7 @@ static void test_lengths(void)
         CHECK(equal(route_same_route(constant, 5, bytes, 0, forbidden, of_u8[i]),
                     (route_answer){6, 2, 0, 0, 2}));
         CHECK(refused(route_choose_grammar(list, 7, forbidden, of_u8[i]), 6, 2, 0));
+        CHECK(gives_two(route_accepts(constant, 5, forbidden, of_u8[i]), 0, 0));
         CHECK(refused(route_import_xdr(constant, 5, forbidden, of_u8[i], u64, 4, out, 8), 6, 2, 0));
         CHECK(
             refused(route_import_xdr(constant, 5, bytes, 0, u64, 4, forbidden, of_u8[i]), 6, 2, 0));
@@ -440,6 +444,8 @@ static void test_longest(void)
     CHECK(gives(route_same_route(grammar, 5, record, ROUTE_MAX_BYTES, other, ROUTE_MAX_BYTES), 0));
     CHECK(gives_two(route_choose_grammar(list, 13, record, ROUTE_MAX_BYTES), 1, 2));
     CHECK(refused(route_choose_grammar(list, 13, record, ROUTE_MAX_BYTES - 1), 22, 2, 0));
+    CHECK(gives_two(route_accepts(grammar, 5, record, ROUTE_MAX_BYTES), 1, 1));
+    CHECK(gives_two(route_accepts(grammar, 5, record, ROUTE_MAX_BYTES - 1), 0, 1));
 }
 
 /* The longest XDR, of bytes that are not all the same, and a byte more. Its record is too long to
@@ -515,6 +521,8 @@ static void test_rows(void)
     CHECK(equal(route_same_route(grammar, 9, most, 8, more, 8), (route_answer){8, 2, 0, 0, 2}));
     CHECK(gives_two(route_choose_grammar(list, 11, most, 8), 0, ROUTE_MAX_ROWS));
     CHECK(refused(route_choose_grammar(list, 11, more, 8), 22, 2, 0));
+    CHECK(gives_two(route_accepts(grammar, 9, most, 8), 1, ROUTE_MAX_ROWS));
+    CHECK(gives_two(route_accepts(grammar, 9, more, 8), 0, 1));
 
     static const uint8_t most_xdr[] = {0, 0, 0x0f, 0xff}, more_xdr[] = {0, 0, 0x10, 0};
     static uint64_t rows[ROUTE_ROW_WORDS * (ROUTE_MAX_ROWS + 1)];
@@ -544,6 +552,10 @@ static void test_overlapping(void)
     subject = "a list and a record that overlap";
     CHECK(gives_two(route_choose_grammar(list, 7, (const uint8_t *)list, 4), 0, 1));
     CHECK(refused(route_choose_grammar(list, 7, (const uint8_t *)list, sizeof list), 22, 2, 0));
+
+    subject = "a grammar and a record that overlap";
+    CHECK(gives_two(route_accepts(list + 2, 5, (const uint8_t *)list, 4), 1, 1));
+    CHECK(gives_two(route_accepts(list + 2, 5, (const uint8_t *)(list + 2), 3), 0, 0));
 
     subject = "a store and an output that overlap";
     CHECK(gives_two(route_preview(bytes, 5, row, 4, 1, record, 10, record, 10, 0), 10, 0));
