@@ -37,12 +37,16 @@ impl Program for Bincode {
     }
 }
 
-/// The call of bincode on a record of a type. It has no check, no preview, no same route, no choice
-/// of a grammar and no XDR.
+/// The call of bincode on a record of a type. It has no check, no preview, no same route, no yes or no
+/// to a record, no choice of a grammar and no XDR.
 fn contender<'a, T>(call: Call, record: &'a [u8]) -> Option<Contender<'a>>
 where
     T: Deserialize<'a> + Serialize + 'a,
 {
+    // The record of any other call need not be one of the type.
+    if !matches!(call, Call::Read | Call::Write | Call::Size) {
+        return None;
+    }
     let value: T = fixed_int()
         .deserialize(record)
         .expect("a record of the type");

@@ -93,6 +93,10 @@ pub fn of_rust(case: &Case) -> Outcome {
                 (of_rust, _) => of_rust,
             }
         }
+        Case::Accepts { grammar, record } => {
+            let verdict = peer::accepts(grammar, record);
+            answer(verdict.map(|verdict| [verdict.accepted.into(), verdict.begun as u64]))
+        }
         Case::ChooseGrammar { list, record } => {
             let chosen = peer::choose_grammar(list, record);
             answer(chosen.map(|chosen| [chosen.number as u64, chosen.begun as u64]))
@@ -179,6 +183,7 @@ pub fn case_of(call: Call, input: &Input) -> Case {
             first: record,
             second: input.other.clone(),
         },
+        Call::Accepts => Case::Accepts { grammar, record },
         Call::Choose => Case::ChooseGrammar {
             list: input.list.clone(),
             record,

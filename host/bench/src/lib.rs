@@ -17,13 +17,13 @@ mod table;
 use std::process::ExitCode;
 use std::{env, fs};
 
-use program::{Copy, Library, Model, Program, Rust};
+use program::{Check, Copy, Library, Model, Program, Rust};
 use report::Report;
 
-/// Measures the library beside safe Rust, the model, the copying of the record and one more program,
-/// if there is one, and prints the tables. Answers that differ end it with an error; with
-/// `--strict` a figure above its limit does so too. `--svg FILE` writes the picture of time against
-/// rows.
+/// Measures the library beside safe Rust, the model, the copying of the record, its own check and one
+/// more program, if there is one, and prints the tables. Answers that differ end it with an error;
+/// with `--strict` a figure above its limit does so too. `--svg FILE` writes the picture of time
+/// against rows.
 pub fn run(more: Option<&dyn Program>) -> ExitCode {
     let (mut strict, mut picture) = (false, None);
     let mut arguments = env::args().skip(1);
@@ -37,7 +37,7 @@ pub fn run(more: Option<&dyn Program>) -> ExitCode {
             }
         }
     }
-    let programs: [&dyn Program; 4] = [&Library, &Rust, &Model, &Copy];
+    let programs: [&dyn Program; 5] = [&Library, &Rust, &Model, &Copy, &Check];
     let programs: Vec<_> = programs.into_iter().chain(more).collect();
     let mut report = Report::new(programs.iter().map(|program| program.name()).collect());
     table::calls(&mut report, &programs);

@@ -7,7 +7,7 @@ use route_record::MAX_ROWS;
 use crate::measure::Contender;
 use crate::records::{Input, WORDS};
 
-/// What is measured of a record that is accepted whole.
+/// What is measured of a record that is accepted whole; `Accepts` also of one that is not.
 #[derive(Clone, Copy, Debug, PartialEq, Eq)]
 pub enum Call {
     /// The check of the grammar, which the other calls make first, but for the size, unpacking and
@@ -27,6 +27,8 @@ pub enum Call {
     Size,
     /// Whether the record and the input's other one are the same route.
     SameRoute,
+    /// Whether the record is accepted.
+    Accepts,
     /// Which grammar of the input's list is the first that accepts the record.
     Choose,
     /// Unpacking the numbers of a record that is a uint32 array.
@@ -50,6 +52,7 @@ impl Call {
             Call::Preview => "preview",
             Call::Size => "size",
             Call::SameRoute => "same route",
+            Call::Accepts => "accepts",
             Call::Choose => "choose",
             Call::Unpack => "unpack",
             Call::Pack => "pack",
@@ -129,6 +132,9 @@ macro_rules! contender {
             Call::SameRoute => Contender::new(|| {
                 calls::same_route(black_box(grammar), black_box(record), black_box(other))
             }),
+            Call::Accepts => {
+                Contender::new(|| calls::accepts(black_box(grammar), black_box(record)))
+            }
             Call::Choose => {
                 Contender::new(|| calls::choose_grammar(black_box(list), black_box(record)))
             }
@@ -201,7 +207,7 @@ impl Program for Rust {
 
 /// The model's calls with the library's parameters.
 mod of_model {
-    pub use model::{check_grammar, check_whole, check_whole_with, choose_grammar};
+    pub use model::{accepts, check_grammar, check_whole, check_whole_with, choose_grammar};
     pub use model::{compute_size_of, export_xdr, marshall, preview, same_route};
     use model::{Importing, Reading, Refusal};
 
@@ -271,5 +277,22 @@ impl Program for Copy {
             let out = black_box(&mut buffer[start..][..size]);
             out.copy_from_slice(black_box(&input.record[..size]));
         }))
+    }
+}
+
+/// The library's check with capacity 4,096, beside which its yes is held: that reading is what yes
+/// takes, the least lengths aside.
+pub struct Check;
+
+impl Program for Check {
+    fn name(&self) -> &'static str {
+        "check"
+    }
+
+    fn contender<'a>(&self, call: Call, input: &'a Input) -> Option<Contender<'a>> {
+        match call {
+            Call::Accepts => Library.contender(Call::CheckMost, input),
+            _ => None,
+        }
     }
 }

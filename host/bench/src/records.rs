@@ -118,6 +118,11 @@ pub fn mixed(rows: usize) -> Input {
     Input::new(table(&nodes, &children), record)
 }
 
+/// Three bytes under the grammar of the mix, which has no value so short.
+pub fn stray() -> Input {
+    Input::new(mixed(1).grammar, vec![7; 3])
+}
+
 /// The grammar of a serial number and the mix.
 const WITH_SERIAL: &str = "n = u32; w = u64; b = bytes
     tuple(n, array(union(n, tuple(n, w, b, u32s), array(n), tuple(b, w))))";

@@ -13,6 +13,9 @@ use crate::report::{Limit, Report};
 /// The most that the library's time may be, divided by safe Rust's or by that of copying.
 const RATIO: f64 = 1.5;
 
+/// The most that a yes may take, divided by the time of the library's check.
+const RATIO_TO_CHECK: f64 = 1.2;
+
 /// What "at once" is, in milliseconds.
 const AT_ONCE: f64 = 1.0;
 
@@ -62,6 +65,21 @@ pub fn calls(report: &mut Report, programs: &[&dyn Program]) {
     }
     let input = ("a serial and 300 rows", records::with_serial(300));
     line(report, programs, Call::SameRoute, input, beside_rust);
+    for (name, input) in [
+        ("a stray of 3 bytes, nine nodes", records::stray()),
+        (
+            "a stray of 3 bytes, 256 nodes",
+            records::shared_children(1, vec![7; 3]),
+        ),
+    ] {
+        line(report, programs, Call::Accepts, (name, input), beside_rust);
+    }
+    let input = ("300 rows", records::mixed(300));
+    let beside_both = [
+        Limit::Beside("Rust", RATIO),
+        Limit::Beside("check", RATIO_TO_CHECK),
+    ];
+    line(report, programs, Call::Accepts, input, &beside_both);
     let input = (
         "five grammars, the last accepts 300 rows",
         records::five_grammars(300),

@@ -61,6 +61,8 @@ fn assert_accepted(input: &Input, rows: usize) {
     let given = vec![size, size / 64];
     assert_eq!(answer(Call::Preview, input), Answer::Accepted(given));
     assert_eq!(answer(Call::SameRoute, input), Answer::Accepted(vec![1]));
+    let given = vec![1, rows as u64];
+    assert_eq!(answer(Call::Accepts, input), Answer::Accepted(given));
     let given = vec![0, rows as u64];
     assert_eq!(answer(Call::Choose, input), Answer::Accepted(given));
     let given = vec![xdr_size(input)];
@@ -106,6 +108,19 @@ fn what_the_bench_accepts() {
     assert_accepted(&records::long_array(), 1);
     assert_eq!(records::long_array().record.len(), MAX_BYTES);
     assert_eq!(records::long_array().xdr().len(), MAX_BYTES - 4);
+}
+
+/// The strays are not read: they are shorter than every value.
+#[test]
+fn what_the_bench_does_not_read() {
+    for (input, nodes) in [
+        (records::stray(), 9),
+        (records::shared_children(1, vec![7; 3]), 256),
+    ] {
+        assert_eq!((input.record.len(), input.grammar[0]), (3, nodes));
+        let given = vec![0, 0];
+        assert_eq!(answer(Call::Accepts, &input), Answer::Accepted(given));
+    }
 }
 
 /// The values begun are the uint64 array; the array of uint32 and as many elements as the mix has

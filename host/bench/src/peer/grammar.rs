@@ -2,7 +2,7 @@
 
 use super::Refusal;
 
-const MOST_NODES: usize = 256;
+pub const MOST_NODES: usize = 256;
 const MOST_CHILD_WORDS: usize = 1_024;
 
 /// Checks the words of a grammar table.
@@ -66,6 +66,11 @@ impl<'a> Grammar<'a> {
             return Err(Refusal::at_word(4, 2 + 3 * k));
         }
         Ok(())
+    }
+
+    /// N, the number of nodes.
+    pub fn node_count(&self) -> usize {
+        self.nodes.len()
     }
 
     /// Kind, first and count of node k, which is below N.

@@ -1,6 +1,7 @@
 //! The library's calls in safe Rust: the same algorithm, written as a Rust program is, with slices,
 //! `Result` and `?`. Beside these the library's times are measured; nothing else uses them.
 
+mod accepting;
 mod choosing;
 mod exporting;
 mod grammar;
@@ -12,6 +13,7 @@ mod rows;
 mod writing;
 mod xdr;
 
+pub use accepting::{accepts, Verdict};
 pub use choosing::{choose_grammar, Chosen};
 pub use exporting::export_xdr;
 pub use grammar::check_grammar;
