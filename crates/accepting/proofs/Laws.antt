@@ -9,7 +9,7 @@ use native.Mathlib.Omega.{arith}
 use lib.ListN.{length}
 use lib.Dec.{ltb}
 use borrow.Author.Tests.{lt-ltb, ltb-true}
-use Rattle.refusal.specs.Outcome.{Outcome, accepted, refused, map, Reason}
+use Rattle.refusal.specs.Outcome.{accepted, refused, map, Reason}
 use Rattle.refusal.proofs.Outcome.{map-accepted, map-refused}
 use Rattle.refusal.proofs.Tests.{refuted}
 use Rattle.value.specs.Tree.{Val}
@@ -21,7 +21,7 @@ use Rattle.grammar.specs.Tree.{treeOf}
 use Rattle.readers.specs.Root.{readRoot}
 use Rattle.reading.proofs.Calls.{try-whole}
 use Rattle.least.specs.Least.{leastOf}
-use Rattle.accepting.specs.Accepts.{Verdict, unread, verdict, unless, decided, acceptsOf}
+use Rattle.accepting.specs.Accepts.{Verdict, unread, verdict, decided, acceptsOf}
 use Rattle.accepting.specs.Rule.{NoWalk, tooLong, noValue, tooShort}
 
 -- a try by its answer

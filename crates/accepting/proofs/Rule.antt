@@ -14,7 +14,7 @@ use Rattle.packed.specs.Packed.{Bytes, Below}
 use Rattle.value.specs.Tree.{Val}
 use Rattle.value.specs.Step.{Step}
 use Rattle.value.specs.Reading.{State, Reading, begunOf, readWhole}
-use Rattle.value.specs.Least.{least, short}
+use Rattle.value.specs.Least.{short}
 use Rattle.value.proofs.Begun.{begun-whole}
 use Rattle.value.proofs.Least.{short-refused}
 use Rattle.grammar.specs.Check.{checkGrammar}

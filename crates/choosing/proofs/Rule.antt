@@ -9,10 +9,10 @@ use native.Mathlib.Omega.{arith}
 use lib.ListN.{length}
 use Rattle.refusal.specs.Outcome.{Outcome, accepted, refused, bind, word, byte, Reason, reason}
 use Rattle.refusal.proofs.Tests.{reflects-eqb}
-use Rattle.refusal.proofs.Outcome.{Post, holds, fails, post-bind, post-weaken, post-accepted, post-refused, test-true, clash}
+use Rattle.refusal.proofs.Outcome.{Post, holds, fails, post-bind, post-weaken, post-accepted, test-true, clash}
 use Rattle.value.specs.Tree.{Val}
 use Rattle.value.specs.Step.{Step}
-use Rattle.value.specs.Reading.{State, Stop, Reading, begunOf}
+use Rattle.value.specs.Reading.{State, Stop, Reading}
 use Rattle.value.proofs.Begun.{begins-whole, begun-whole}
 use Rattle.grammar.specs.Check.{checkGrammar}
 use Rattle.grammar.specs.Tree.{treeOf}

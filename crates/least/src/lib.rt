@@ -1,7 +1,5 @@
 // The least length of the records of a grammar, worked out for each of its nodes from the last back to the root.
 ghost use mathlib.Core.Path.{_≡_};
-ghost use Prim.Native.Nat.{ℕ, suc, _<_};
-ghost use lib.ListN.{getD};
 ghost use Rattle.value.specs.Least.{addLeast, minLeast, least, foldLeast};
 ghost use Rattle.tables.specs.Grammar.{firstWord, countWord};
 ghost use Rattle.grammar.specs.Rule.{Passes};

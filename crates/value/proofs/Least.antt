@@ -1,9 +1,9 @@
 -- What the least length of a grammar is: no value is shorter, and one is of that length.
-use mathlib.Core.Path.{_≡_, refl, sym, _∙_}
+use mathlib.Core.Path.{_≡_, refl}
 use mathlib.Core.Bool.{true}
-use mathlib.Core.Option.{Option, none, some, Option·some-injective}
+use mathlib.Core.Option.{Option, none, some}
 use mathlib.Core.List.{List, []}
-use Prim.Native.Nat.{ℕ, zero, suc, _+_, _^_, _≤_, _<_, min}
+use Prim.Native.Nat.{ℕ, zero, suc, _+_, _≤_, _<_, min}
 use native.Mathlib.Omega.{arith}
 use native.Mathlib.Decide.{decLe}
 use lib.ListN.{length}
@@ -12,7 +12,7 @@ use Rattle.refusal.specs.Outcome.{accepted}
 use Rattle.packed.specs.Packed.{Bytes}
 use Rattle.packed.proofs.Laws.{pow-256}
 use Rattle.value.specs.Kinds.{width}
-use Rattle.value.specs.Tree.{G, Gs, GConstant, GNumber, GArray, GTuple, GNumberArray, GTaggedUnion, gnil, gcons, seqG, caseAt, Val, Vals, VConstant, VNumber, VArray, VTuple, VNumberArray, VCase, vnil, vcons, ValInGrammar, AllInGrammar, EachInGrammar, inConstant, inNumber, inArray, inTuple, inNumberArray, inCase, allNil, eachNil, eachCons, ValidGrammar, ValidGrammars, ValidVal, TypedVal, ValueOf, FieldsOf, SizeOfV, SeqSum}
+use Rattle.value.specs.Tree.{G, Gs, GConstant, GNumber, GArray, GTuple, GNumberArray, GTaggedUnion, gnil, gcons, seqG, caseAt, Val, Vals, VConstant, VNumber, VArray, VTuple, VNumberArray, VCase, vnil, vcons, ValInGrammar, EachInGrammar, inConstant, inNumber, inArray, inTuple, inNumberArray, inCase, allNil, eachNil, eachCons, ValidGrammar, ValidGrammars, ValidVal, TypedVal, ValueOf, FieldsOf, SizeOfV, SeqSum}
 use Rattle.value.specs.Step.{Step}
 use Rattle.value.specs.Reading.{State, readWhole}
 use Rattle.value.specs.Least.{addLeast, minLeast, least, foldLeast, short, LeastLength}

@@ -1,4 +1,4 @@
-use mathlib.Core.Path.{ap, sym, _∙_}
+use mathlib.Core.Path.{ap, sym}
 use Rattle.refusal.specs.Outcome.{map}
 use Rattle.refusal.proofs.Meaning.{done, stopped}
 use Rattle.value.specs.Least.{least}

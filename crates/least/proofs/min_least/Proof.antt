@@ -1,6 +1,5 @@
 use native.Mathlib.Omega.{arith}
 use Rattle.least.proofs.Laws.{min-plain}
-use borrow.Author.Needs.{needs}
 use Rattle.least.proofs.min_least.Statement.{statement}
 use Rattle.least.proofs.min_least.Tie as tie
 

@@ -1,4 +1,4 @@
-use mathlib.Core.Path.{refl, ap, sym, _∙_}
+use mathlib.Core.Path.{refl, ap, _∙_}
 use mathlib.Core.Option.{some}
 use Prim.Native.Nat.{suc}
 use native.Mathlib.Omega.{arith}

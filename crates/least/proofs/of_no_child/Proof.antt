@@ -1,5 +1,4 @@
 use Rattle.least.specs.Least.{lengthOf}
-use borrow.Author.Needs.{needs}
 use Rattle.least.proofs.of_no_child.Statement.{statement}
 use Rattle.least.proofs.of_no_child.Tie as tie
 
