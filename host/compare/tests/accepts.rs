@@ -19,7 +19,7 @@ fn verdict(grammar: &[u32], record: &[u8]) -> (bool, usize) {
         panic!("refused: {grammar:?}");
     };
     let (yes, begun) = (given[0] == 1, given[1] as usize);
-    assert_eq!(given, [u64::from(yes), begun as u64]);
+    assert_eq!(given, [u64::from(yes), begun as u64]); // 1 or 0, and no third number
     let is_read = is_read(&grammar, &record);
     assert_eq!(begun > 0, is_read);
     assert!(begun <= MAX_ROWS + usize::from(!yes));
@@ -198,7 +198,7 @@ fn at_each_length(random: &mut Random, record: &[u8]) -> Vec<Vec<u8>> {
 fn each_length_up_to_the_least() {
     let mut random = Random::new(91);
     let (mut grammars, mut roots) = (0, BTreeSet::new());
-    let mut begun = BTreeSet::new();
+    let mut answers = BTreeSet::new();
     while grammars < 250 {
         let table = any_table(&mut random);
         let grammar = table.words();
@@ -221,12 +221,13 @@ fn each_length_up_to_the_least() {
                 assert_eq!(values > 0, bytes.len() >= record.len());
                 roots.insert((root_kinds(&grammar).0, yes));
             }
-            begun.insert((yes, values > 0));
+            answers.insert((yes, if values > 0 { "read" } else { "not read" }));
         }
     }
     let all_roots = (0..=10).flat_map(|kind| [(kind, NO), (kind, YES)]);
     assert_eq!(roots, all_roots.collect());
-    assert_eq!(begun, BTreeSet::from([(NO, NO), (NO, true), (YES, true)]));
+    let all_answers = [(NO, "not read"), (NO, "read"), (YES, "read")];
+    assert_eq!(answers, BTreeSet::from(all_answers));
 }
 
 /// A sound record of any length is a yes, and no shorter than the least length.

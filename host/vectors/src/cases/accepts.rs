@@ -163,7 +163,7 @@ fn examples(list: &mut List) {
     );
 }
 
-/// Each kind: a table, its least length, and a record of that length, which is accepted.
+/// Each kind: a table, and an accepted record of its least length.
 fn kinds() -> [(&'static str, Table, Vec<u8>); 11] {
     let leaf = |kind| Table {
         nodes: vec![[kind, 0, 0]],
@@ -426,11 +426,12 @@ fn depths(list: &mut List) {
 /// Sums near powers of two, of a tuple, of a union of it and of a union of that, and sums that no number
 /// of 32 or of 64 bits holds.
 fn sums(list: &mut List) {
-    for power in [1 << 7, 1 << 8, 1 << 15, 1 << 16] {
+    for power in [1usize << 7, 1 << 8, 1 << 15, 1 << 16] {
         for bytes in [power - 4, power, power + 4] {
             let grammar = of_length(bytes as u32);
             let name = format!("a tuple of {bytes} bytes");
-            let lengths = [bytes - power.min(bytes), bytes - 1, bytes];
+            let wrapped = bytes.saturating_sub(power);
+            let lengths = [wrapped, bytes - 1, bytes];
             add_lengths(list, &name, &grammar.words(), &[], lengths);
             let union = grammar.below(8, &[0]);
             let name = format!("a union of a tuple of {bytes} bytes");
