@@ -7,9 +7,6 @@ use crate::reading::try_whole;
 use crate::refusal::Refusal;
 use crate::rows::check_length;
 
-/// Where the length of a value stops growing: one byte more than a record may have.
-const MOST_LENGTH: u64 = 1_048_577;
-
 /// Whether a record is accepted, yes or no.
 #[derive(Clone, Copy, Debug, PartialEq, Eq)]
 pub struct Verdict {
@@ -20,20 +17,20 @@ pub struct Verdict {
 }
 
 /// The length of the shortest value of a node, or none where it has no value; `behind` has those of
-/// the nodes behind it, the next one first.
+/// the nodes behind it, the next one first. Lengths stop growing at one byte more than a record has.
 fn node_length(grammar: &[u32], number: u32, behind: &[Option<u64>]) -> Option<u64> {
     let (kind, children) = node(grammar, number);
     let place = |child: u32| (child - number - 1) as usize;
     let lengths = children.iter().map(|&child| behind[place(child)]);
+    // The others are a number of 8 bytes, or the count of an array without elements.
     let length: Option<u64> = match kind {
         0 => Some(0),
         1 | 9 => Some(4),
-        2 | 10 => Some(8),
         4 => lengths.sum(),
         8 => lengths.flatten().min().map(|least| 8 + least),
         _ => Some(8),
     };
-    length.map(|length| length.min(MOST_LENGTH))
+    length.map(|length| length.min(1_048_577))
 }
 
 /// The least lengths of the nodes of a checked table from this one on.

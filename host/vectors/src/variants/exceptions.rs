@@ -26,6 +26,7 @@ struct Exception {
 }
 
 const BYTES: u64 = 1_048_577;
+const LEAST: u64 = 1_048_578;
 const ROWS: u64 = 4_097;
 const BEGUN: u64 = 4_098;
 const LIST_WORDS: u64 = 28_722;
@@ -34,7 +35,49 @@ const LIST_WORDS: u64 = 28_722;
 pub const LONG: &str = "only a slice of 2^31 or more elements can tell";
 
 /// The bounds. A number that is written down is below the next one; those are not listed.
-const BOUNDS: [Bound; 84] = [
+const BOUNDS: [Bound; 90] = [
+    Bound {
+        file: "accepts.rs",
+        functions: &["node_length"],
+        texts: &["number", "child"],
+        below: 256,
+        why: "a node's number",
+    },
+    Bound {
+        file: "accepts.rs",
+        functions: &["node_length"],
+        texts: &["kind"],
+        below: 11,
+        why: "a kind of a checked table",
+    },
+    Bound {
+        file: "accepts.rs",
+        functions: &["node_length", "accepts"],
+        texts: &["least"],
+        below: LEAST,
+        why: "lengths stop growing at 1,048,577",
+    },
+    Bound {
+        file: "accepts.rs",
+        functions: &["lengths_from"],
+        texts: &["number", "grammar[0]"],
+        below: 257,
+        why: "the number of a node, or of all nodes",
+    },
+    Bound {
+        file: "accepts.rs",
+        functions: &["lengths_from"],
+        texts: &["number#1", "number#2"],
+        below: 256,
+        why: "a node's number",
+    },
+    Bound {
+        file: "accepts.rs",
+        functions: &["accepts"],
+        texts: &["begun"],
+        below: BEGUN,
+        why: "the values begun by a try",
+    },
     Bound {
         file: "choosing.rs",
         functions: &["grammars"],
@@ -693,7 +736,28 @@ const BOUNDS: [Bound; 84] = [
 ];
 
 /// The exceptions.
-const EXCEPTIONS: [Exception; 89] = [
+const EXCEPTIONS: [Exception; 92] = [
+    Exception {
+        file: "accepts.rs",
+        functions: &["node_length"],
+        texts: &["1_048_577"],
+        ways: &["+1"],
+        why: "no record of 1,048,577 bytes or more is read",
+    },
+    Exception {
+        file: "accepts.rs",
+        functions: &["lengths_from"],
+        texts: &["number == grammar[0]"],
+        ways: &[">="],
+        why: "a number is never above that of all nodes",
+    },
+    Exception {
+        file: "accepts.rs",
+        functions: &["accepts"],
+        texts: &["record.len() as u64 >= least", "record.len()"],
+        ways: &["left32", "signed", "cut32", "extend32"],
+        why: "a record of 2^31 bytes or more is too long and not read",
+    },
     Exception {
         file: "choosing.rs",
         functions: &["grammars"],
@@ -1353,7 +1417,7 @@ const EXCEPTIONS: [Exception; 89] = [
 ];
 
 /// Variants by hand: file, pieces of its text with what stands for each, what is broken.
-pub(super) const BY_HAND: [(&str, &[(&str, &str)], &str); 91] = [
+pub(super) const BY_HAND: [(&str, &[(&str, &str)], &str); 122] = [
     (
         "rows.rs",
         &[
@@ -2373,6 +2437,363 @@ pub(super) const BY_HAND: [(&str, &[(&str, &str)], &str); 91] = [
             ),
         ],
         "8 of the case value before 10",
+    ),
+    (
+        "accepts.rs",
+        &[
+            (
+                "        8 => lengths.flatten().min().map(|least| 8 + least),",
+                "        8 => lengths.flatten().min(),",
+            ),
+        ],
+        "a union has no tag",
+    ),
+    (
+        "accepts.rs",
+        &[
+            (
+                "        8 => lengths.flatten().min().map(|least| 8 + least),",
+                "        8 => lengths.flatten().max().map(|greatest| 8 + greatest),",
+            ),
+        ],
+        "a union is as long as its longest case",
+    ),
+    (
+        "accepts.rs",
+        &[
+            (
+                "        8 => lengths.flatten().min().map(|least| 8 + least),",
+                "        8 => lengths.flatten().next().map(|first| 8 + first),",
+            ),
+        ],
+        "a union is as long as its first case with a value",
+    ),
+    (
+        "accepts.rs",
+        &[
+            (
+                "        8 => lengths.flatten().min().map(|least| 8 + least),",
+                "        8 => lengths.flatten().last().map(|last| 8 + last),",
+            ),
+        ],
+        "a union is as long as its last case with a value",
+    ),
+    (
+        "accepts.rs",
+        &[
+            (
+                "        8 => lengths.flatten().min().map(|least| 8 + least),",
+                "        8 => lengths.min().flatten().map(|least| 8 + least),",
+            ),
+        ],
+        "a union has no value where a case has none",
+    ),
+    (
+        "accepts.rs",
+        &[
+            (
+                "        8 => lengths.flatten().min().map(|least| 8 + least),",
+                "        8 => Some(8 + lengths.flatten().min().unwrap_or(0)),",
+            ),
+        ],
+        "a union without values has a length of 8",
+    ),
+    (
+        "accepts.rs",
+        &[
+            (
+                "        8 => lengths.flatten().min().map(|least| 8 + least),",
+                "        8 if children.is_empty() => Some(8),
+        8 => lengths.flatten().min().map(|least| 8 + least),",
+            ),
+        ],
+        "a union without cases has a length of 8",
+    ),
+    (
+        "accepts.rs",
+        &[
+            (
+                "        8 => lengths.flatten().min().map(|least| 8 + least),",
+                "        8 => lengths.map(|least| least.unwrap_or(0)).min().map(|least| 8 + least),",
+            ),
+        ],
+        "a case without a value has a length of 0",
+    ),
+    (
+        "accepts.rs",
+        &[
+            (
+                "        8 => lengths.flatten().min().map(|least| 8 + least),",
+                "        8 => lengths.map(|least| least.unwrap_or(u64::MAX)).min().map(|least| least.wrapping_add(8)),",
+            ),
+        ],
+        "a case without a value has a length of 2^64-1, to which 8 are added",
+    ),
+    (
+        "accepts.rs",
+        &[
+            (
+                "        4 => lengths.sum(),",
+                "        4 => Some(lengths.flatten().sum()),",
+            ),
+        ],
+        "a field without a value is left out",
+    ),
+    (
+        "accepts.rs",
+        &[
+            (
+                "        4 => lengths.sum(),",
+                "        4 if children.len() > 1 => lengths.take(children.len() - 1).sum(),
+        4 => lengths.sum(),",
+            ),
+        ],
+        "the last of several fields is left out",
+    ),
+    (
+        "accepts.rs",
+        &[
+            (
+                "        4 => lengths.sum(),",
+                "        4 => lengths.collect::<Option<Vec<u64>>>().map(|all| all.into_iter().min().unwrap_or(0)),",
+            ),
+        ],
+        "a tuple is as long as its shortest field",
+    ),
+    (
+        "accepts.rs",
+        &[
+            (
+                "        4 => lengths.sum(),",
+                "        4 => lengths.collect::<Option<Vec<u64>>>().map(|all| all.into_iter().max().unwrap_or(0)),",
+            ),
+        ],
+        "a tuple is as long as its longest field",
+    ),
+    (
+        "accepts.rs",
+        &[
+            (
+                "        4 => lengths.sum(),",
+                "        4 => {
+            let mut nodes = children.to_vec();
+            nodes.sort();
+            nodes.dedup();
+            nodes.into_iter().map(|child| behind[place(child)]).sum()
+        }",
+            ),
+        ],
+        "a node that a tuple names twice is counted once",
+    ),
+    (
+        "accepts.rs",
+        &[
+            (
+                "        4 => lengths.sum(),",
+                "        4 if children.is_empty() => None,
+        4 => lengths.sum(),",
+            ),
+        ],
+        "a tuple without fields has no value",
+    ),
+    (
+        "accepts.rs",
+        &[
+            (
+                "        _ => Some(8),
+    };
+    length.map",
+                "        3 => lengths.sum::<Option<u64>>().map(|element| 8 + element),
+        _ => Some(8),
+    };
+    length.map",
+            ),
+        ],
+        "an array has an element",
+    ),
+    (
+        "accepts.rs",
+        &[
+            (
+                "        _ => Some(8),
+    };
+    length.map",
+                "        3 => lengths.sum::<Option<u64>>().and(Some(8)),
+        _ => Some(8),
+    };
+    length.map",
+            ),
+        ],
+        "an array whose elements do not exist has no value",
+    ),
+    (
+        "accepts.rs",
+        &[
+            (
+                "    length.map(|length| length.min(1_048_577))",
+                "    length.map(|length| length % (1 << 32))",
+            ),
+        ],
+        "sums of lengths wrap in 32 bits",
+    ),
+    (
+        "accepts.rs",
+        &[
+            (
+                "        4 => lengths.sum(),",
+                "        4 => lengths.fold(Some(0u64), |sum, length| Some(sum?.wrapping_add(length?))),",
+            ),
+            (
+                "        8 => lengths.flatten().min().map(|least| 8 + least),",
+                "        8 => lengths.flatten().min().map(|least| least.wrapping_add(8)),",
+            ),
+            (
+                "    length.map(|length| length.min(1_048_577))",
+                "    length",
+            ),
+        ],
+        "sums of lengths wrap in 64 bits",
+    ),
+    (
+        "accepts.rs",
+        &[
+            (
+                "    Ok(lengths_from(grammar, 0)[0])",
+                "    Ok(lengths_from(grammar, 0)[1.min(grammar[0] as usize - 1)])",
+            ),
+        ],
+        "the length of node 1 is taken",
+    ),
+    (
+        "accepts.rs",
+        &[
+            (
+                "    let is_read = check_length(record).is_ok() && is_long_enough;",
+                "    check_length(record)?;
+    let is_read = is_long_enough;",
+            ),
+        ],
+        "a record that is too long is refused",
+    ),
+    (
+        "accepts.rs",
+        &[
+            (
+                "    let is_read = check_length(record).is_ok() && is_long_enough;",
+                "    let is_read = is_long_enough;",
+            ),
+        ],
+        "a record that is too long is read",
+    ),
+    (
+        "accepts.rs",
+        &[
+            (
+                "    let is_read = check_length(record).is_ok() && is_long_enough;",
+                "    let is_read = check_length(record).is_ok() && (is_long_enough || least.is_none());",
+            ),
+        ],
+        "a record is read under a root without values",
+    ),
+    (
+        "accepts.rs",
+        &[
+            (
+                "    let is_read = check_length(record).is_ok() && is_long_enough;",
+                "    let is_read = check_length(record).is_ok() || is_long_enough;",
+            ),
+        ],
+        "a record is read unless it is too long",
+    ),
+    (
+        "accepts.rs",
+        &[
+            (
+                "    let least = least_length(grammar)?;",
+                "    let (accepted, begun) = (false, 0);
+    if check_length(record).is_err() {
+        return Ok(Verdict { accepted, begun });
+    }
+    let least = least_length(grammar)?;",
+            ),
+        ],
+        "a record that is too long is answered before the grammar is checked",
+    ),
+    (
+        "accepts.rs",
+        &[
+            (
+                "    let least = least_length(grammar)?;",
+                "    let (accepted, begun) = (false, 0);
+    if record.is_empty() && check_grammar(grammar).is_err() {
+        return Ok(Verdict { accepted, begun });
+    }
+    let least = least_length(grammar)?;",
+            ),
+        ],
+        "an empty record is answered before the grammar is checked",
+    ),
+    (
+        "accepts.rs",
+        &[
+            (
+                "        true => try_whole(grammar, record),",
+                "        true => (true, try_whole(grammar, record).1),",
+            ),
+        ],
+        "a record that is long enough is accepted",
+    ),
+    (
+        "accepts.rs",
+        &[
+            (
+                "        true => try_whole(grammar, record),",
+                "        true => match try_whole(grammar, record) {
+            (true, begun) => (true, begun),
+            _ => (false, 0),
+        },",
+            ),
+        ],
+        "with no nothing is counted",
+    ),
+    (
+        "accepts.rs",
+        &[
+            (
+                "        true => try_whole(grammar, record),",
+                "        true => {
+            let is_accepted = crate::reading::check_whole(grammar, record).is_ok();
+            (is_accepted, try_whole(grammar, record).1)
+        }",
+            ),
+        ],
+        "a record is read with the rows of a check",
+    ),
+    (
+        "accepts.rs",
+        &[
+            (
+                "        true => try_whole(grammar, record),",
+                "        true => match try_whole(grammar, record) {
+            (false, 4_097) => (false, 0),
+            tried => tried,
+        },",
+            ),
+        ],
+        "a value of too many rows counts as not read",
+    ),
+    (
+        "accepts.rs",
+        &[
+            (
+                "        true => try_whole(grammar, record),",
+                "        true => match try_whole(grammar, record) {
+            (false, 4_097) => (false, 4_096),
+            tried => tried,
+        },",
+            ),
+        ],
+        "the rows taken are counted with no",
     ),
 ];
 
