@@ -15,7 +15,7 @@ use Rattle.refusal.proofs.Tests.{refuted}
 use Rattle.value.specs.Tree.{Val}
 use Rattle.value.specs.Step.{Step}
 use Rattle.value.specs.Reading.{State, Stop, Reading, readWhole}
-use Rattle.value.specs.Least.{least, short}
+use Rattle.value.specs.Least.{least, belowLeast}
 use Rattle.grammar.specs.Check.{checkGrammar}
 use Rattle.grammar.specs.Tree.{treeOf}
 use Rattle.readers.specs.Root.{readRoot}
@@ -23,6 +23,9 @@ use Rattle.reading.proofs.Calls.{try-whole}
 use Rattle.least.specs.Least.{leastOf}
 use Rattle.accepting.specs.Accepts.{Verdict, unread, verdict, decided, acceptsOf}
 use Rattle.accepting.specs.Rule.{NoWalk, tooLong, noValue, tooShort}
+
+pub yes-is-not-no : {P : Type 0} → true ≡ false → P
+yes-is-not-no e = let z : _≡_ {A = ℕ} 0 1 = cc in absurd (omega arith)
 
 -- a try by its answer
 pub verdict-accepted : (x : Reading Val) {s : State} → accepted s ≡ map (λ t. t .state) x → _≡_ {A = Verdict} (record { yes = true; begun = s .begun }) (verdict x)
@@ -35,7 +38,7 @@ verdict-refused x h = rw (map-refused (λ (t : Step State Val). t .state) x (sym
 
 module _ (g d : List ℕ) where
   pub reflects-decided : NoWalk g d ↔ (decided g d ≡ true)
-  unfolding short
+  unfolding belowLeast
   reflects-decided = (to, λ h. from (least (treeOf g 0)) refl (ltb 1048576 (length d)) refl h)
     where
       either : (b : Bool) → (b || true) ≡ true
@@ -47,7 +50,7 @@ module _ (g d : List ℕ) where
       to (noValue e) = rw e (either (ltb 1048576 (length d)))
       to (tooShort l e h) = rw (e, lt-ltb (length d) l h) (either (ltb 1048576 (length d)))
 
-      from : (o : Option ℕ) → least (treeOf g 0) ≡ o → (b : Bool) → ltb 1048576 (length d) ≡ b → (b || short o (length d)) ≡ true → NoWalk g d
+      from : (o : Option ℕ) → least (treeOf g 0) ≡ o → (b : Bool) → ltb 1048576 (length d) ≡ b → (b || belowLeast o (length d)) ≡ true → NoWalk g d
       from o e true q h = tooLong (ltb-true 1048576 (length d) q)
       from none e false q h = noValue e
       from (some l) e false q h = tooShort l e (ltb-true (length d) l h)

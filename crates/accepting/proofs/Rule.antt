@@ -14,9 +14,9 @@ use Rattle.packed.specs.Packed.{Bytes, Below}
 use Rattle.value.specs.Tree.{Val}
 use Rattle.value.specs.Step.{Step}
 use Rattle.value.specs.Reading.{State, Reading, begunOf, readWhole}
-use Rattle.value.specs.Least.{short}
+use Rattle.value.specs.Least.{belowLeast}
 use Rattle.value.proofs.Begun.{begun-whole}
-use Rattle.value.proofs.Least.{short-refused}
+use Rattle.value.proofs.Least.{below-least-refused}
 use Rattle.grammar.specs.Check.{checkGrammar}
 use Rattle.grammar.specs.Tree.{treeOf}
 use Rattle.grammar.proofs.Rule.{accepted-exactly}
@@ -27,7 +27,7 @@ use Rattle.reading.proofs.Calls.{withoutState-accepted, whole-accepted, parse-a
 use Rattle.choosing.specs.Choose.{grammarOf}
 use Rattle.accepting.specs.Accepts.{Verdict, unread, verdict, unless, decided, acceptsOf}
 use Rattle.accepting.specs.Rule.{NoWalk, tooLong, noValue, tooShort, YesExactly, NoExactly, Counted, AcceptsRule}
-use Rattle.accepting.proofs.Laws.{reflects-decided, not-walked, walked}
+use Rattle.accepting.proofs.Laws.{yes-is-not-no, reflects-decided, not-walked, walked}
 
 -- an accepted verdict has passed the grammar's check
 passed : (g d : List ℕ) {v : Verdict} → acceptsOf g d ≡ accepted v → checkGrammar g ≡ accepted tt
@@ -55,12 +55,12 @@ came g d v h = go (decided g d) refl
 -- ---- yes and no
 
 no-is-not-yes : {n : ℕ} {v : Verdict} → v ≡ unread → _≡_ {A = Verdict} (record { yes = true; begun = n }) v → ⊥
-no-is-not-yes e h = let b : true ≡ false = ap (λ (x : Verdict). x .yes) (h ∙ e) in let z : _≡_ {A = ℕ} 0 1 = cc in omega arith
+no-is-not-yes e h = yes-is-not-no (ap (λ (x : Verdict). x .yes) (h ∙ e))
 
 -- a yes is of an accepted reading
 verdict-yes : {n : ℕ} (x : Reading Val) → _≡_ {A = Verdict} (record { yes = true; begun = n }) (verdict x) → (t : Step State Val) × (x ≡ accepted t) × (t .state .begun ≡ n)
 verdict-yes (accepted t) h = (t, refl, sym (ap (λ (x : Verdict). x .begun) h))
-verdict-yes (refused e) h = let b : true ≡ false = ap (λ (x : Verdict). x .yes) h in let z : _≡_ {A = ℕ} 0 1 = cc in absurd (omega arith)
+verdict-yes (refused e) h = yes-is-not-no (ap (λ (x : Verdict). x .yes) h)
 
 module _ (g d : List ℕ) where
   not-above : ¬ (NoWalk g d) → length d ≤ 1048576
@@ -80,7 +80,7 @@ module _ (g d : List ℕ) where
   module _ (u : Below (2 ^ 32) g) (b : Bytes d) where
     -- the other way: an accepted record is neither too long nor shorter than every value
     accepted-yes : (t : Step State Val) → demarshallOf g d 4096 ≡ accepted t → acceptsOf g d ≡ accepted (record { yes = true; begun = t .state .begun })
-    unfolding short
+    unfolding belowLeast
     accepted-yes t h =
         let a = parse-accepted g d 0 4096 t (whole-accepted g d 4096 t h) .0 in
         let x = admitted g d 0 a in
@@ -90,8 +90,8 @@ module _ (g d : List ℕ) where
       where
         walks : readWhole 4096 d (treeOf g 0) ≡ accepted t → length d ≤ 1048576 → ¬ (NoWalk g d)
         walks r l (tooLong k) = omega arith
-        walks r l (noValue e) = short-refused 4096 d (treeOf g 0) (tree-valid g u 0) b (rw e) t r
-        walks r l (tooShort m e k) = short-refused 4096 d (treeOf g 0) (tree-valid g u 0) b (rw e (lt-ltb (length d) m k)) t r
+        walks r l (noValue e) = below-least-refused 4096 d (treeOf g 0) (tree-valid g u 0) b (rw e) t r
+        walks r l (tooShort m e k) = below-least-refused 4096 d (treeOf g 0) (tree-valid g u 0) b (rw e (lt-ltb (length d) m k)) t r
 
     yes-exactly : YesExactly g d
     yes-exactly n = (yes-accepted n, λ x. accepted-yes (x .0) (x .1) ∙ ap (λ (m : ℕ). accepted (record { yes = true; begun = m })) (x .2))
@@ -101,7 +101,7 @@ module _ (g d : List ℕ) where
       where
         go : (o : Outcome Reason (Step State Val)) → demarshallOf g d 4096 ≡ o → (e : Reason) × (demarshallOf g d 4096 ≡ refused e)
         go (refused e) q = (e, q)
-        go (accepted t) q = let f : true ≡ false = ap (λ (x : Verdict). x .yes) (same (sym (accepted-yes t q) ∙ h)) in let z : _≡_ {A = ℕ} 0 1 = cc in absurd (omega arith)
+        go (accepted t) q = yes-is-not-no (ap (λ (x : Verdict). x .yes) (same (sym (accepted-yes t q) ∙ h)))
 
     refused-no : (e : Reason) → checkGrammar g ≡ accepted tt → demarshallOf g d 4096 ≡ refused e → (n : ℕ) × (acceptsOf g d ≡ accepted (record { yes = false; begun = n }))
     unfolding acceptsOf
@@ -144,4 +144,4 @@ counted g d v h = go (came g d v h)
         }
 
 pub accepts-rule : AcceptsRule
-accepts-rule = record { yes = yes-exactly; no = no-exactly; count = counted; asATry = λ l d j v h n. counted (grammarOf l j) d v h .walked n }
+accepts-rule = record { unwalked = λ g d p n. sym (not-walked g d (sym p) n); yes = yes-exactly; no = no-exactly; count = counted; asATry = λ l d j v h n. counted (grammarOf l j) d v h .walked n }

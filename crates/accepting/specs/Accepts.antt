@@ -8,7 +8,7 @@ use Rattle.refusal.specs.Outcome.{Outcome, accepted, refused, map, Reason}
 use Rattle.refusal.specs.Meaning.{reasonOf}
 use Rattle.value.specs.Tree.{Val}
 use Rattle.value.specs.Reading.{Reading, readWhole}
-use Rattle.value.specs.Least.{least, short}
+use Rattle.value.specs.Least.{least, belowLeast}
 use Rattle.grammar.specs.Check.{checkGrammar}
 use Rattle.grammar.specs.Tree.{treeOf}
 use Rattle.accepting.specs.declared.YesOrNo.{YesOrNo}
@@ -40,7 +40,7 @@ unless false walk = walk tt
 
 -- whether the length decides: a record above 1,048,576 bytes, a root without a least length, or a record below it
 abbrev pub decided : List ℕ → List ℕ → Bool
-decided g d = ltb 1048576 (length d) || short (least (treeOf g 0)) (length d)
+decided g d = ltb 1048576 (length d) || belowLeast (least (treeOf g 0)) (length d)
 
 -- 1 to 5 of the grammar; then, where the length does not decide, the whole reading of capacity 4,096
 unfoldable pub acceptsOf : List ℕ → List ℕ → Outcome Reason Verdict

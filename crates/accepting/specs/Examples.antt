@@ -100,7 +100,7 @@ examples =
     ∷ record { grammar = tupleOfArrays; bytes = zeros 16; expected = yes 4 }
     -- a value of no bytes and 8,191 rows
     ∷ record { grammar = grammarW; bytes = []; expected = no 4097 }
-    -- 1 to 5 before the length
+    -- 1 to 5, whatever the record: of the fourth grammar no record so short could be accepted
     ∷ record { grammar = []; bytes = []; expected = refused (reason 1 (word 0)) }
     ∷ record { grammar = 1 ∷ []; bytes = []; expected = refused (reason 2 (word 4)) }
     ∷ record { grammar = leaf 11; bytes = []; expected = refused (reason 3 (word 1)) }

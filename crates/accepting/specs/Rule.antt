@@ -16,7 +16,7 @@ use Rattle.grammar.specs.Check.{checkGrammar}
 use Rattle.grammar.specs.Tree.{treeOf}
 use Rattle.reading.specs.Calls.{demarshallOf}
 use Rattle.choosing.specs.Choose.{grammarOf, tryOf}
-use Rattle.accepting.specs.Accepts.{Verdict, acceptsOf}
+use Rattle.accepting.specs.Accepts.{Verdict, unread, acceptsOf}
 
 -- "yes comes exactly when the full check at capacity 4,096 accepts", and then its count is that of the rows
 abbrev pub YesExactly : List ℕ → List ℕ → Type 0
@@ -41,7 +41,8 @@ pub record Counted (g d : List ℕ) (v : Verdict) : Type 0 where
   pub most : v .begun ≤ 4097
 
 pub record AcceptsRule : Type 0 where
-  -- that words are u32s and bytes are bytes is asked where accepted bytes must be those of a value
+  pub unwalked : (g d : List ℕ) → checkGrammar g ≡ accepted tt → NoWalk g d → acceptsOf g d ≡ accepted unread
+  -- where the length does not decide, what is accepted must be the bytes of a value: so words are u32s here, and bytes bytes
   pub yes : (g d : List ℕ) → Below (2 ^ 32) g → Bytes d → YesExactly g d
   pub no : (g d : List ℕ) → Below (2 ^ 32) g → Bytes d → NoExactly g d
   pub count : (g d : List ℕ) (v : Verdict) → acceptsOf g d ≡ accepted v → Counted g d v

@@ -34,10 +34,10 @@ pub fn accepts(grammar: &[u32], record: &[u8]) -> YesOrNo
     match least::least_length(grammar) {
         LeastLength::Refused(r) => YesOrNo::Refused(r),
         LeastLength::NoValue => YesOrNo::No(0),
-        LeastLength::Bytes(least) => match admission::check_length(record) {
+        LeastLength::Bytes(length) => match admission::check_length(record) {
             Answer::Refused(_) => YesOrNo::No(0),
             Answer::Accepted => {
-                if (record.len() as u64) < least {
+                if (record.len() as u64) < length {
                     YesOrNo::No(0)
                 } else {
                     walk(grammar, record)

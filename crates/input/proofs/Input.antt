@@ -11,16 +11,10 @@ use borrow.Author.Tests.{le-leb, lt-leb, leb-true, eq-eqb, ne-eqb, eqb-true}
 use Rattle.refusal.specs.Outcome.{Outcome, accepted, refused, bind, test, map, Reason, reason, byte}
 use Rattle.refusal.proofs.Outcome.{bind-inverse, test-true, test-false, test-passed}
 use Rattle.refusal.proofs.Meaning.{reason-injective}
-use Rattle.packed.specs.declared.UnpackedU32.{UnpackedU32}
-use Rattle.packed.specs.Meaning.{unpackedU32}
 use Rattle.packed.specs.Packed.{unpackLittleEndian, present, unpackAt}
 use Rattle.input.specs.declared.Layout.{Layout}
 use Rattle.input.specs.declared.Layout.the-variants as L
 use Rattle.input.specs.Input.{Parts, mostInput, mostWords, notLaidOut, countAt, recordAfter, layoutOf, LaidOut, partsOf}
-
--- an answer that was matched
-pub matched : {o : Outcome Reason ℕ} {p q : UnpackedU32} → p ≡ q → unpackedU32 p ≡ o → unpackedU32 q ≡ o
-matched e h = ap unpackedU32 (sym e) ∙ h
 
 -- every refusal replaced by one
 abbrev withReason : {A : Type 0} → Reason → Outcome Reason A → Outcome Reason A

@@ -4,11 +4,11 @@ use mathlib.Core.Bool.{Bool}
 use mathlib.Core.Logic.{_⊎_, inl, inr}
 use mathlib.Core.Option.{Option, none, some}
 use mathlib.Core.List.{List}
-use Prim.Native.Nat.{ℕ, suc, _+_, _-_, _*_, _≤_, _<_, min}
+use Prim.Native.Nat.{ℕ, zero, suc, _+_, _-_, _*_, _≤_, _<_, min}
 use native.Mathlib.Nat.{eq-or-lt-of-le}
 use native.Mathlib.Decide.{decLe}
 use native.Mathlib.Omega.{arith}
-use lib.ListN.{length, getD, set, length-set}
+use lib.ListN.{length, getD, set, replicate, length-set}
 use lib.Seq.{getD-set-same, getD-set-other}
 use borrow.Author.Tests.{ne-eqb}
 use Rattle.refusal.specs.Outcome.{accepted}
@@ -122,12 +122,17 @@ last-childless g p = go (decLe 1 (countWord g k)) (ap (λ (n : ℕ). getD g n 0)
 pub node-entry : {k : ℕ} {g lengths : List ℕ} → Ready k g lengths → {kind : ℕ} → kind ≡ kindWord g k → (key n : ℕ) → kind ≡ key → lengthOf n ≡ least (nodeTree (kindOf key) (childTrees g (treeOf g) (firstWord g k) (countWord g k))) → lengthOf n ≡ least (treeOf g k)
 node-entry {k} {g} r w key n h e = e ∙ rw (sym h, w) (ap least (sym (tree-node g (r .passes) k (r .below))))
 
-pub filled-none : (g lengths : List ℕ) (k : ℕ) → k ≡ nodeCount g → length lengths ≡ 256 → FilledFrom k g lengths
-filled-none g lengths k h l = record { size = l; entry = λ j p q. absurd (omega arith) }
+pub all-zero : (n x : ℕ) → x ≡ 0 → (j : ℕ) → getD (replicate n x) j 0 ≡ 0
+all-zero zero x h j = refl
+all-zero (suc n) x h zero = h
+all-zero (suc n) x h (suc j) = all-zero n x h j
+
+pub filled-none : (g lengths : List ℕ) (k : ℕ) → k ≡ nodeCount g → length lengths ≡ 256 → ((j : ℕ) → getD lengths j 0 ≡ 0) → FilledFrom k g lengths
+filled-none g lengths k h l z = record { size = l; entry = λ j p q. absurd (omega arith); rest = λ j _. z j }
 
 module _ {g lengths : List ℕ} (k : ℕ) (p : 0 < k) (h : k ≤ nodeCount g) (f : FilledFrom k g lengths) where
   pub ready : Passes g → Ready (k - 1) g lengths
-  ready x = record { passes = x; below = omega arith; behind = record { size = f .size; entry = λ j l q. f .entry j (omega arith) q } }
+  ready x = record { passes = x; below = omega arith; behind = record { size = f .size; entry = λ j l q. f .entry j (omega arith) q; rest = f .rest } }
 
   -- with the entry of the node before
   pub filled-more : (n : ℕ) → k ≤ 256 → lengthOf n ≡ least (treeOf g (k - 1)) → FilledFrom (k - 1) g (set lengths (k - 1) n)
@@ -135,6 +140,7 @@ module _ {g lengths : List ℕ} (k : ℕ) (p : 0 < k) (h : k ≤ nodeCount g) (f
       record {
         size = length-set lengths (k - 1) n ∙ f .size;
         entry = λ j l q. go j q (eq-or-lt-of-le l);
+        rest = λ j l. getD-set-other lengths (k - 1) j n 0 (λ y. omega arith) ∙ f .rest j l;
       }
     where
       go : (j : ℕ) → j < nodeCount g → (k - 1 ≡ j) ⊎ (k - 1 < j) → lengthOf (getD (set lengths (k - 1) n) j 0) ≡ least (treeOf g j)

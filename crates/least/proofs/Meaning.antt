@@ -1,9 +1,8 @@
 -- An answer is determined by what it means, so a contract through the meaning fixes the answer.
-use mathlib.Core.Path.{_≡_, refl, ap, sym, _∙_}
+use mathlib.Core.Path.{_≡_, refl, ap, sym}
 use mathlib.Core.Option.{Option, some, Option·some-injective}
 use Prim.Native.Nat.{ℕ}
 use native.Mathlib.Omega.{arith}
-use Rattle.refusal.specs.Outcome.{Outcome, Reason}
 use Rattle.refusal.proofs.Outcome.{clash}
 use Rattle.refusal.proofs.Meaning.{reason-injective}
 use Rattle.least.specs.declared.LeastLength.{LeastLength}
@@ -20,7 +19,3 @@ leastLengthOf-injective L.NoValue (L.Refused s) h = clash (sym h)
 leastLengthOf-injective (L.Refused r) (L.Bytes n) h = clash h
 leastLengthOf-injective (L.Refused r) L.NoValue h = clash h
 leastLengthOf-injective (L.Refused r) (L.Refused s) h = ap L.Refused (reason-injective r s (cc))
-
--- an answer that was matched
-pub least-matched : {o : Outcome Reason (Option ℕ)} {a b : LeastLength} → a ≡ b → leastLengthOf a ≡ o → leastLengthOf b ≡ o
-least-matched e h = ap leastLengthOf (sym e) ∙ h

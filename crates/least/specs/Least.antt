@@ -29,10 +29,11 @@ abbrev pub ofNoChild : Bool → Option ℕ
 ofNoChild true = some 0
 ofNoChild false = none
 
--- the entries of node k and the nodes behind it are their least lengths
+-- the entries of node k and the nodes behind it are their least lengths, and behind them all is 0
 pub record FilledFrom (k : ℕ) (g lengths : List ℕ) : Type 0 where
   pub size : length lengths ≡ 256
   pub entry : (j : ℕ) → k ≤ j → j < nodeCount g → lengthOf (getD lengths j 0) ≡ least (treeOf g j)
+  pub rest : (j : ℕ) → nodeCount g ≤ j → getD lengths j 0 ≡ 0
 
 -- what a node's entry is made from: the table passes, and the entries of the nodes behind it are there
 pub record Ready (k : ℕ) (g lengths : List ℕ) : Type 0 where

@@ -12,7 +12,12 @@ use refusal::Refusal;
 const NO_VALUE: u64 = 18446744073709551615;
 
 // Where a sum stops growing: one byte more than the longest record has.
-const MOST_LENGTH: u64 = 1048577;
+const LARGEST_SUM: u64 = 1048577;
+
+// How the entries of a node's children are joined: a tuple's are added, of a union's the least is taken.
+const SUM: bool = true;
+
+const LEAST: bool = false;
 
 // The answer of `least_length`: the bytes, or that the grammar has no value.
 pub enum LeastLength {
@@ -31,11 +36,11 @@ fn add_least(a: u64, b: u64) -> u64
     if b == NO_VALUE {
         return NO_VALUE;
     }
-    if MOST_LENGTH < a {
-        return MOST_LENGTH;
+    if LARGEST_SUM < a {
+        return LARGEST_SUM;
     }
-    if MOST_LENGTH - a < b {
-        return MOST_LENGTH;
+    if LARGEST_SUM - a < b {
+        return LARGEST_SUM;
     }
     a + b
 }
@@ -89,11 +94,11 @@ fn node_length(grammar: &[u32], k: usize, lengths: &[u64; 256]) -> u64
         1 => 4,
         2 => 8,
         3 => 8,
-        4 => join_children(grammar, k, true, lengths),
+        4 => join_children(grammar, k, SUM, lengths),
         5 => 8,
         6 => 8,
         7 => 8,
-        8 => add_least(8, join_children(grammar, k, false, lengths)),
+        8 => add_least(8, join_children(grammar, k, LEAST, lengths)),
         9 => 4,
         10 => 8,
         // not met in a table that passes
@@ -101,7 +106,7 @@ fn node_length(grammar: &[u32], k: usize, lengths: &[u64; 256]) -> u64
     }
 }
 
-// The count of the last node's children: 0, since their numbers would be above its own.
+// Word 3N, the count of the last node's children: 0, since their numbers would be above its own.
 fn last_count(grammar: &[u32]) -> u64
     requires { ⌜ Passes (now grammar) ⌝ }
     ensures { λ r. ⌜ r ≡ 0 ⌝ }
@@ -109,8 +114,8 @@ fn last_count(grammar: &[u32]) -> u64
     tables::word(grammar, 3 * tables::word(grammar, 0)) as u64
 }
 
-// The entries of all nodes, filled from the last node to the root. They start as 0, which is read: of a 0 that it knows the compiler makes a
-// call of the C library's memset, and the archive calls no other library.
+// The entries of all nodes, filled from the last node to the root; the others stay 0. With a written 0 the compiler calls memset of the C
+// library, which the archive must not need, so the 0 is read from the table.
 fn fill(grammar: &[u32]) -> [u64; 256]
     requires { ⌜ Passes (now grammar) ⌝ }
     ensures { λ r. ⌜ FilledFrom 0 (now (grammar .entry)) r ⌝ }

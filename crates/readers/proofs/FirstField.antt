@@ -11,6 +11,7 @@ use lib.Dec.{ltb}
 use borrow.Author.Tests.{ltb-true}
 use Rattle.refusal.specs.declared.Refusal.{Refusal}
 use Rattle.refusal.specs.Outcome.{Outcome, accepted, refused, bind, map}
+use Rattle.refusal.proofs.Meaning.{matched}
 use Rattle.refusal.proofs.Outcome.{bind-inverse, map-accepted, test-true, test-passed}
 use Rattle.packed.specs.Packed.{Bytes, Below}
 use Rattle.value.specs.Kinds.{Kind, kindOf, tuple}
@@ -30,7 +31,6 @@ use Rattle.readers.specs.declared.Step.{Step as CodeStep}
 use Rattle.readers.specs.declared.Step.the-variants.{Next, Stopped}
 use Rattle.readers.specs.Meaning.{stepOf, StepKeeps}
 use Rattle.readers.specs.Root.{capacityWithin, readRoot, FillsRows, Admitted, behindFirstField, firstFieldOf, ReadsFirstField}
-use Rattle.readers.proofs.Meaning.{step-matched}
 use Rattle.readers.proofs.Cycle.{give-accepted}
 use Rattle.readers.proofs.Root.{within-none, root-admitted, root-accepted}
 
@@ -124,14 +124,14 @@ module _ (g d : List ℕ) (named : ℕ) {r : CodeStep} {entry exit : List ℕ} (
 
   -- the whole reading stopped
   pub field-stopped : (u : CodeState) (q : Refusal) → r ≡ Stopped u q → (stepOf (Stopped u q) ≡ firstFieldOf g d (inForce named)) × (u .capacity ≡ inForce named)
-  field-stopped u q e = let k = whole-check .1 in (refusal-stays (readRoot g d 0 (inForce named) true) (step-matched e (whole-check .0)), rw e at k)
+  field-stopped u q e = let k = whole-check .1 in (refusal-stays (readRoot g d 0 (inForce named) true) (matched stepOf e (whole-check .0)), rw e at k)
 
   module _ (u : CodeState) (e : r ≡ Next u) where
     in-force : u .capacity ≡ inForce named
     in-force = let k = whole-check .1 in rw e at k
 
     whole-read : (t : Step State Val) × (readRoot g d 0 (inForce named) true ≡ accepted t)
-    whole-read = let m = map-accepted (λ (t : Step State Val). t .state) (readRoot g d 0 (inForce named) true) (sym (step-matched e (whole-check .0))) in (m .0, m .1)
+    whole-read = let m = map-accepted (λ (t : Step State Val). t .state) (readRoot g d 0 (inForce named) true) (sym (matched stepOf e (whole-check .0))) in (m .0, m .1)
 
     -- the whole reading went on, so the first field may be read
     pub field-admitted : Below (2 ^ 32) g → Bytes d → Admitted g d [] 0 (u .capacity) × (0 < u .capacity)

@@ -2,7 +2,6 @@
 use mathlib.Core.Path.{_≡_, ap, sym, _∙_}
 use Prim.Native.Nat.{ℕ}
 use native.Mathlib.Omega.{arith}
-use Rattle.refusal.specs.Outcome.{Outcome}
 use Rattle.refusal.specs.Meaning.{reasonOf}
 use Rattle.refusal.proofs.Meaning.{reason-injective}
 use Rattle.value.specs.Reading.{State, Stop}
@@ -25,10 +24,6 @@ stepOf-injective capacity (Step.Stopped s q) (Step.Stopped t r) h c d =
     let f : s ≡ t = stateOf-injective s t (ap (λ (u : Stop). u .state) e) (c ∙ sym d) in
     let g : q ≡ r = reason-injective q r (ap (λ (u : Stop). u .why) e) in
     rw (f, g)
-
--- an answer that was matched
-pub step-matched : {o : Outcome Stop State} {p q : CodeStep} → p ≡ q → stepOf p ≡ o → stepOf q ≡ o
-step-matched e h = ap stepOf (sym e) ∙ h
 
 pub bodyOf-injective : (a b : Body) → bodyOf a ≡ bodyOf b → a ≡ b
 bodyOf-injective (Body.Bytes m) (Body.Bytes n) h = ap Body.Bytes (cc)

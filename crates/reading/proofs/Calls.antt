@@ -30,16 +30,12 @@ use Rattle.readers.specs.Root.{capacityWithin, beforeStart, readRoot, FillsRows
 use Rattle.readers.proofs.Root.{within-none, root-few}
 use Rattle.reading.specs.declared.Parsed.{Parsed}
 use Rattle.reading.specs.declared.Parsed.the-variants.{Refused}
-use Rattle.reading.specs.Meaning.{Counts, parsedOf}
+use Rattle.reading.specs.Meaning.{parsedOf}
 use Rattle.reading.specs.Calls.{withoutState, parseValOf, demarshallOf, countsOf, parsedStep, Parses, SameOr8}
 
 pub withoutState-accepted : (x : Reading Val) (t : Step State Val) → withoutState x ≡ accepted t → x ≡ accepted t
 withoutState-accepted (accepted s) t h = let q : s ≡ t = cc in ap accepted q
 withoutState-accepted (refused e) t h = let z : _≡_ {A = ℕ} 0 1 = cc in absurd (omega arith)
-
--- an answer that was matched
-pub parsed-matched : {o : Outcome Reason Counts} {p q : Parsed} → p ≡ q → parsedOf p ≡ o → parsedOf q ≡ o
-parsed-matched e h = ap parsedOf (sym e) ∙ h
 
 module _ (g d : List ℕ) (index : ℕ) where
   -- the reading waits for 1 to 7

@@ -35,9 +35,13 @@ outcome-injective Accepted (Refused s) h = let z : _≡_ {A = ℕ} 0 1 = cc in a
 outcome-injective (Refused r) Accepted h = let z : _≡_ {A = ℕ} 0 1 = cc in absurd (omega arith)
 outcome-injective (Refused r) (Refused s) h = ap Refused (reason-injective r s (cc))
 
--- what a matched answer says of the outcome that it means
+-- what an answer that was matched means
+pub matched : {A B : Type 0} (meaning : A → B) {o : B} {p q : A} → p ≡ q → meaning p ≡ o → meaning q ≡ o
+matched meaning e h = ap meaning (sym e) ∙ h
+
+-- of an `Answer`
 pub done : {r : Answer} {o : Outcome Reason (Unit {0})} → r ≡ Accepted → outcomeOf r ≡ o → accepted tt ≡ o
-done p h = ap outcomeOf (sym p) ∙ h
+done p h = matched outcomeOf p h
 
 pub stopped : {r : Answer} {x : Refusal} {o : Outcome Reason (Unit {0})} → r ≡ Refused x → outcomeOf r ≡ o → refused (reasonOf x) ≡ o
-stopped p h = ap outcomeOf (sym p) ∙ h
+stopped p h = matched outcomeOf p h

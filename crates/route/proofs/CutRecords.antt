@@ -21,13 +21,13 @@ use Rattle.admission.proofs.Admission.{admitted}
 use Rattle.reading.specs.Meaning.{parsedOf}
 use Rattle.reading.specs.Calls.{withoutState, parseValOf, demarshallOf, countsOf, Parses}
 use Rattle.reading.specs.declared.Parsed.{Parsed}
-use Rattle.reading.proofs.Calls.{withoutState-accepted, parse-accepted, whole-accepted}
+use Rattle.reading.proofs.Calls.{withoutState-accepted, parse-accepted, whole-accepted, checked}
 use Rattle.answer_c.specs.Answer.{answerOf, countValues}
 use Rattle.answer_c.specs.declared.RouteAnswer.{RouteAnswer}
 use Rattle.route.specs.Bench.{grammarA, recordA, grammarD}
 use Rattle.route.specs.Accepted.{IsAccepted, isAccepted}
 use Rattle.route.specs.CutRecords.{ProperFrontPart, RefusedWith9, CutReading, CutRecords, NotClaimed}
-use Rattle.route.proofs.Reading.{demarshall-read, rows-kept}
+use Rattle.route.proofs.Reading.{rows-kept}
 use Rattle.route.proofs.Examples.{reading-A}
 use Rattle.route.proofs.Accepted.{number-zero}
 
@@ -37,10 +37,10 @@ reading g d part capacity t h p =
     let k : ℕ = p .front .count in
     let a = admitted g d 0 (parse-accepted g d 0 capacity t (whole-accepted g d capacity t h) .0) in
     let passes : checkGrammar g ≡ accepted tt = accepted-exactly g .1 (a .0) in
-    let w : readWhole capacity d (treeOf g 0) ≡ accepted t = withoutState-accepted _ t (sym (demarshall-read g d capacity passes (a .1)) ∙ h) in
+    let w : readWhole capacity d (treeOf g 0) ≡ accepted t = withoutState-accepted _ t (sym (checked g d capacity passes (a .1)) ∙ h) in
     let c = whole-cut capacity d (treeOf g 0) t w k (omega (arith, p .less)) in
     let l : length (take k d) ≤ 1048576 = omega (arith, length-take-le k d (p .front .most), p .less, a .1) in
-    (c .0 .at, ap (λ (b : List ℕ). demarshallOf g b capacity) (p .front .first) ∙ demarshall-read g (take k d) capacity passes l ∙ ap withoutState (c .1))
+    (c .0 .at, ap (λ (b : List ℕ). demarshallOf g b capacity) (p .front .first) ∙ checked g (take k d) capacity passes l ∙ ap withoutState (c .1))
 
 -- an answer that is the outcome's
 answered : {o : Outcome Reason (Step State Val)} (q : Parsed) → parsedOf q ≡ map countsOf o → RefusedWith9 o → RefusedWith9 (parsedOf q)

@@ -26,10 +26,11 @@ use Rattle.rows.specs.Walk.{rowValue, checkRow, walkChildren, walkTo, walk}
 use Rattle.sizing.specs.Writes.{Writes}
 use Rattle.admission.specs.Admission.{capacityOf}
 use Rattle.reading.specs.Calls.{withoutState, demarshallOf, countsOf}
+use Rattle.reading.proofs.Calls.{checked}
 use Rattle.reading.specs.declared.Parsed.the-variants as P
 use Rattle.route.specs.Demands.{Grammar, ValueOfGrammar, RecordOf, WholeReading}
 use Rattle.route.specs.Bench.{grammarA, recordA, valueA, grammarC}
-use Rattle.route.proofs.Reading.{value-of, demarshall-read}
+use Rattle.route.proofs.Reading.{value-of}
 
 -- a list whose elements are tested one by one
 abbrev allBelow : ℕ → List ℕ → Bool
@@ -142,7 +143,7 @@ reading-C rows =
     let d = bytesOf v in
     let short : length d ≤ 1048576 = omega (arith, length-C 4096) in
     let s = whole-short (capacityOf (length rows)) (treeOf grammarC 0) v (value-of grammar-C (record-C 4096 (lit< tt) .value)) (rows-C (length rows)) in
-    let e : demarshallOf grammarC d (capacityOf (length rows)) ≡ refused (reason 8 (byte (s .0 .at))) = demarshall-read grammarC d (capacityOf (length rows)) (grammar-C .passes) short ∙ ap withoutState (s .1) in (
+    let e : demarshallOf grammarC d (capacityOf (length rows)) ≡ refused (reason 8 (byte (s .0 .at))) = checked grammarC d (capacityOf (length rows)) (grammar-C .passes) short ∙ ap withoutState (s .1) in (
       s .0 .at,
       record {
         grammar = grammar-C;

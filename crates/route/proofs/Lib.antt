@@ -11,3 +11,4 @@ pub mod Demand3
 pub mod Accepted
 pub mod CutRecords
 pub mod Xdr
+pub mod YesOrNo

@@ -6,10 +6,8 @@ use native.Mathlib.Nat.{zero-add}
 use native.Mathlib.Omega.{arith}
 use lib.ListN.{length, take, drop}
 use lib.Seq.{take-all, take-at, drop-at}
-use lib.Dec.{leb}
-use borrow.Author.Tests.{le-leb}
-use Rattle.refusal.specs.Outcome.{Outcome, accepted, refused, bind, test, map, contents, Reason, reason, byte}
-use Rattle.refusal.proofs.Outcome.{test-true, map-accepted}
+use Rattle.refusal.specs.Outcome.{Outcome, accepted, refused, map, contents, Reason, reason, byte}
+use Rattle.refusal.proofs.Outcome.{map-accepted}
 use Rattle.packed.specs.Packed.{put}
 use Rattle.packed.proofs.Put.{length-put}
 use Rattle.value.specs.Tree.{Val, Vals, VConstant, VNumber, VArray, VTuple, VNumberArray, VCase, vnil, vcons, ValidVal, ValidVals, CountsBelow, CountsBelowAll, ValueOf, SizeOfV, rowCount}
@@ -18,7 +16,6 @@ use Rattle.value.specs.Step.{Step}
 use Rattle.value.specs.Reading.{State, stop, start, readWhole, readTo}
 use Rattle.value.proofs.Laws.{valid-counts, length-bytesOf}
 use Rattle.value.proofs.Reading.{whole-fits, whole-short, whole-accepted}
-use Rattle.grammar.specs.Check.{checkGrammar}
 use Rattle.grammar.specs.Tree.{treeOf}
 use Rattle.grammar.proofs.Tree.{tree-valid}
 use Rattle.tables.specs.Row.{rowWidth}
@@ -29,7 +26,7 @@ use Rattle.reading.specs.Meaning.{Counts, parsedOf}
 use Rattle.admission.specs.Admission.{capacityOf}
 use Rattle.reading.specs.Calls.{withoutState, demarshallOf, countsOf, Parses}
 use Rattle.reading.specs.declared.Parsed.{Parsed}
-use Rattle.reading.proofs.Calls.{withoutState-accepted}
+use Rattle.reading.proofs.Calls.{withoutState-accepted, checked}
 use Rattle.route.specs.Demands.{Grammar, ValueOfGrammar, RecordOf, WholeReading}
 
 -- ---- values
@@ -67,13 +64,6 @@ module _ {o : Outcome Reason (Step State Val)} {index : ℕ} {r : Parsed} {rows 
 
 -- ---- the whole reading
 
--- 1 to 6 are not given
-pub demarshall-read : (g d : List ℕ) (capacity : ℕ) → checkGrammar g ≡ accepted tt → length d ≤ 1048576 → demarshallOf g d capacity ≡ withoutState (readWhole capacity d (treeOf g 0))
-unfolding demarshallOf
-demarshall-read g d capacity h l =
-    ap (λ (o : Outcome Reason (Unit {0})). bind o (λ _. test (leb (length d) 1048576) (reason 6 (byte 0)) (λ _. withoutState (readWhole capacity d (treeOf g 0))))) h
-    ∙ test-true _ _ (le-leb (length d) 1048576 l)
-
 -- what is known of an accepted reading
 pub record ReadOut (g d rows : List ℕ) (k : Counts) (exit : List ℕ) (v : Val) : Type 0 where
   pub ofRecord : RecordOf g d v
@@ -92,7 +82,7 @@ module _ {g d rows exit : List ℕ} {r : Parsed} (h : WholeReading g d rows r ex
   read-out k e =
       let y = map-accepted countsOf (demarshallOf g d capacity) (sym (h .call .answers) ∙ e) in
       let t = y .0 in
-      let x = whole-accepted capacity d (treeOf g 0) (tree-valid g (h .grammar .words) 0) (h .bytes) t (withoutState-accepted _ t (sym (demarshall-read g d capacity (h .grammar .passes) (h .short)) ∙ y .1)) in
+      let x = whole-accepted capacity d (treeOf g 0) (tree-valid g (h .grammar .words) 0) (h .bytes) t (withoutState-accepted _ t (sym (checked g d capacity (h .grammar .passes) (h .short)) ∙ y .1)) in
       let n : k ≡ countsOf (readTo (t .value) (start 0)) = y .2 ∙ ap countsOf (x .3) in (
         t .value,
         record {
@@ -113,14 +103,14 @@ module _ {g d rows exit : List ℕ} {r : Parsed} (h : WholeReading g d rows r ex
     unfolding capacity
     read-fits l =
         let e : readWhole capacity d (treeOf g 0) ≡ accepted (readTo v (start 0)) = rw (o .bytes) (whole-fits capacity (treeOf g 0) v of-theory l) in
-        (_, h .call .answers ∙ ap (map countsOf) (demarshall-read g d capacity (h .grammar .passes) (h .short) ∙ ap withoutState e))
+        (_, h .call .answers ∙ ap (map countsOf) (checked g d capacity (h .grammar .passes) (h .short) ∙ ap withoutState e))
 
     pub read-short : capacityOf (length rows) < rowCount v → (place : ℕ) × (parsedOf r ≡ refused (reason 8 (byte place))) × (exit ≡ rows)
     unfolding capacity
     read-short l =
         let s = whole-short capacity (treeOf g 0) v of-theory l in
         let q : readWhole capacity d (treeOf g 0) ≡ refused (stop 8 (s .0)) = ap (λ (b : List ℕ). readWhole capacity b (treeOf g 0)) (o .bytes) ∙ s .1 in
-        let e : demarshallOf g d capacity ≡ refused (reason 8 (byte (s .0 .at))) = demarshall-read g d capacity (h .grammar .passes) (h .short) ∙ ap withoutState q in
+        let e : demarshallOf g d capacity ≡ refused (reason 8 (byte (s .0 .at))) = checked g d capacity (h .grammar .passes) (h .short) ∙ ap withoutState q in
         (s .0 .at, h .call .answers ∙ ap (map countsOf) e, rows-kept (h .call) e)
 
 -- ---- the rows at exit

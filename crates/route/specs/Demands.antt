@@ -1,6 +1,6 @@
--- The three demands of 00-demands.md, with document 02's signed numbers, preview, chooser, named capacities, XDR and yes or no, as statements over the
--- definitions that the contracts of the public calls cite. Above each part stand the words that it says, and what would leave it empty;
--- proofs/Demand1.antt to Demand3.antt prove them.
+-- The three demands of 00-demands.md, with document 02's signed numbers, preview, chooser, named capacities, XDR and yes or no, as statements
+-- over the definitions that the contracts of the public calls cite. Above each part stand the words that it says, and what would leave it
+-- empty; proofs/Demand1.antt to Demand3.antt prove them.
 use mathlib.Core.Path.{_≡_}
 use mathlib.Core.Logic.{_↔_}
 use mathlib.Core.Option.{none, some}
@@ -79,7 +79,7 @@ pub record Demand1 : Type 0 where
   pub route : AtMostOneAnswer sameRouteOf
   pub chosen : AtMostOneAnswer chosenOf
   pub imported : AtMostOneAnswer importedOf
-  pub leastLength : AtMostOneAnswer leastLengthOf
+  pub leastFound : AtMostOneAnswer leastLengthOf
   pub verdicts : AtMostOneAnswer verdictOf
   -- `check_grammar`
   pub grammar : (g : List ℕ) → Refuses (FirstRefusal g) (checkGrammar g)
@@ -102,7 +102,7 @@ pub record Demand1 : Type 0 where
   pub signed : (t : List ℕ) (n : ℕ) (s : List ℕ) (i : ℕ) → Refuses (SignedRefused t n s i) (signedNumberOf t n s i)
   -- `parse_val`, `check_val`, `check_val_with`
   pub reading : (g d : List ℕ) (index capacity : ℕ) → Refuses (ReadingRefused g d index capacity) (parseValOf g d index capacity)
-  -- `demarshall`, `check_whole`, `check_whole_with`
+  -- `demarshall`, `check_whole`, `check_whole_with`, and `try_whole`, which gives the state with the refusal
   pub wholeReading : (g d : List ℕ) (capacity : ℕ) → Refuses (WholeRefused g d capacity) (demarshallOf g d capacity)
   -- `marshall_val`, `marshall`
   pub writing : (g t : List ℕ) (n : ℕ) (s : List ℕ) (len index : ℕ) → Refuses (WritingRefused SizeOfV g t n s len index) (marshallValOf g t n s len index)

@@ -5,3 +5,4 @@ pub mod Bench
 pub mod Accepted
 pub mod CutRecords
 pub mod Xdr
+pub mod YesOrNo

@@ -1,5 +1,5 @@
 -- What the least length of a grammar is: no value is shorter, and one is of that length.
-use mathlib.Core.Path.{_≡_, refl}
+use mathlib.Core.Path.{_≡_, refl, ap, _∙_}
 use mathlib.Core.Bool.{true}
 use mathlib.Core.Option.{Option, none, some}
 use mathlib.Core.List.{List, []}
@@ -15,7 +15,7 @@ use Rattle.value.specs.Kinds.{width}
 use Rattle.value.specs.Tree.{G, Gs, GConstant, GNumber, GArray, GTuple, GNumberArray, GTaggedUnion, gnil, gcons, seqG, caseAt, Val, Vals, VConstant, VNumber, VArray, VTuple, VNumberArray, VCase, vnil, vcons, ValInGrammar, EachInGrammar, inConstant, inNumber, inArray, inTuple, inNumberArray, inCase, allNil, eachNil, eachCons, ValidGrammar, ValidGrammars, ValidVal, TypedVal, ValueOf, FieldsOf, SizeOfV, SeqSum}
 use Rattle.value.specs.Step.{Step}
 use Rattle.value.specs.Reading.{State, readWhole}
-use Rattle.value.specs.Least.{addLeast, minLeast, least, foldLeast, short, LeastLength}
+use Rattle.value.specs.Least.{addLeast, minLeast, least, foldLeast, belowLeast, IsLeastLength}
 use Rattle.value.proofs.KindLaws.{width-most}
 use Rattle.value.proofs.Laws.{length-bytesOf, each-length}
 use Rattle.value.proofs.Reading.{whole-accepted}
@@ -127,7 +127,7 @@ mutual
   cases-reached gnil w = without
   cases-reached (gcons g gs) w = reaches-min g gs (least g) (foldLeast minLeast none gs) (least-reached g (w .0)) (cases-reached gs (w .1))
 
-pub least-length : (g : G) → LeastLength g
+pub least-length : (g : G) → IsLeastLength g
 least-length g =
     record {
       absent = λ e v i. rw e at (least-value i);
@@ -141,12 +141,16 @@ least-length g =
 -- ---- a record that is shorter is not accepted
 
 module _ (capacity : ℕ) (d : List ℕ) (g : G) (w : ValidGrammar g) (b : Bytes d) where
-  pub short-refused : short (least g) (length d) ≡ true → (t : Step State Val) → ¬ (readWhole capacity d g ≡ accepted t)
-  unfolding short
-  short-refused h t e =
-      let x = whole-accepted capacity d g w b t e in
-      go (least g) (SizeOfV (t .value)) (least-value (x .0 .inGrammar)) (rw (x .1, length-bytesOf (t .value)) at h)
+  pub below-least-refused : belowLeast (least g) (length d) ≡ true → (t : Step State Val) → ¬ (readWhole capacity d g ≡ accepted t)
+  unfolding belowLeast
+  below-least-refused h t e = go (least g) refl h
     where
-      go : (o : Option ℕ) (n : ℕ) → AtMost o n → short o n ≡ true → ⊥
-      go none n k q = k
-      go (some l) n k q = omega (arith, ltb-true n l q)
+      value : ValInGrammar (t .value) g
+      value = whole-accepted capacity d g w b t e .0 .inGrammar
+
+      size : length d ≡ SizeOfV (t .value)
+      size = ap length (whole-accepted capacity d g w b t e .1) ∙ length-bytesOf (t .value)
+
+      go : (o : Option ℕ) → least g ≡ o → belowLeast o (length d) ≡ true → ⊥
+      go none q k = least-length g .absent q (t .value) value
+      go (some l) q k = omega (arith, ltb-true (length d) l k, size, least-length g .below l q (t .value) value)

@@ -35,13 +35,13 @@ unfoldable mutual
   foldLeast join end (gcons g gs) = join (least g) (foldLeast join end gs)
 
 -- whether n bytes are fewer than the least length, or there is none
-unfoldable pub short : Option ℕ → ℕ → Bool
-short none n = true
-short (some l) n = ltb n l
+unfoldable pub belowLeast : Option ℕ → ℕ → Bool
+belowLeast none n = true
+belowLeast (some l) n = ltb n l
 
 -- what the least length of a grammar is, in the terms of its values: without one no value exists; no value is shorter; and one has exactly
 -- this length or, where it is 1,048,577, at least that
-pub record LeastLength (g : G) : Type 0 where
+pub record IsLeastLength (g : G) : Type 0 where
   pub absent : least g ≡ none → (v : Val) → ¬ (ValInGrammar v g)
   pub below : (l : ℕ) → least g ≡ some l → (v : Val) → ValInGrammar v g → l ≤ SizeOfV v
   pub reached : (l : ℕ) → least g ≡ some l → ValidGrammar g → (v : Val) × ValueOf g v × (l ≡ min 1048577 (SizeOfV v))

@@ -1,9 +1,9 @@
 use mathlib.Core.Path.{sym, _∙_}
 use native.Mathlib.Omega.{arith}
-use Rattle.refusal.proofs.Meaning.{done, stopped}
+use Rattle.refusal.proofs.Meaning.{matched, done, stopped}
 use Rattle.refusal.proofs.Outcome.{post-accepted, post-refused}
 use Rattle.admission.proofs.Admission.{length-post}
-use Rattle.least.proofs.Meaning.{least-matched}
+use Rattle.least.specs.Least.{leastLengthOf}
 use Rattle.accepting.specs.Rule.{tooLong, noValue, tooShort}
 use Rattle.accepting.proofs.Laws.{accepts-refused, least-known, not-walked, tried, walks}
 use borrow.Author.Needs.{needs}
@@ -19,8 +19,8 @@ enum-known-r c = search needs
 enum-told : tie.Need-enum-told
 enum-told c = search needs
 
-enum-known-least : tie.Need-enum-known-least
-enum-known-least c = search needs
+enum-known-length : tie.Need-enum-known-length
+enum-known-length c = search needs
 
 check-length-requires : tie.Need-check-length-requires
 check-length-requires c κs = search needs
@@ -38,13 +38,13 @@ returns : tie.Need-returns
 returns c =
     let x = c .before .before .before in
     let a = x .before .before .before .args in
-    accepts-refused (a .grammar .now) (a .«record» .now) (least-matched (c .before .r .given .1) (x .least-length .ensures))
+    accepts-refused (a .grammar .now) (a .«record» .now) (matched leastLengthOf (c .before .r .given .1) (x .least-length .ensures))
 
 returns-2 : tie.Need-returns-2
 returns-2 c =
     let x = c .before .before in
     let a = x .before .before .before .args in
-    let k = least-known (a .grammar .now) (a .«record» .now) (least-matched (c .enum-told .given .1) (x .least-length .ensures)) in
+    let k = least-known (a .grammar .now) (a .«record» .now) (matched leastLengthOf (c .enum-told .given .1) (x .least-length .ensures)) in
     not-walked (a .grammar .now) (a .«record» .now) (k .0) (noValue (k .1))
 
 returns-3 : tie.Need-returns-3
@@ -52,7 +52,7 @@ returns-3 c =
     let y = c .before .before in
     let x = y .before .before .before .before in
     let a = x .before .before .before .args in
-    let k = least-known (a .grammar .now) (a .«record» .now) (least-matched (y .before .before .least .given .1) (x .least-length .ensures)) in
+    let k = least-known (a .grammar .now) (a .«record» .now) (matched leastLengthOf (y .before .before .length .given .1) (x .least-length .ensures)) in
     not-walked (a .grammar .now) (a .«record» .now) (k .0) (tooLong (post-refused (rw (sym (stopped (c .enum-told2 .given .1) (y .check-length .ensures))) at (length-post (a .«record» .now))) .1))
 
 returns-4 : tie.Need-returns-4
@@ -60,15 +60,15 @@ returns-4 c =
     let y = c .before .before .before in
     let x = y .before .before .before .before in
     let a = x .before .before .before .args in
-    let k = least-known (a .grammar .now) (a .«record» .now) (least-matched (y .before .before .least .given .1) (x .least-length .ensures)) in
-    not-walked (a .grammar .now) (a .«record» .now) (k .0) (tooShort (y .before .before .least .given .0 .0) (k .1) (c .if1 .taken))
+    let k = least-known (a .grammar .now) (a .«record» .now) (matched leastLengthOf (y .before .before .length .given .1) (x .least-length .ensures)) in
+    not-walked (a .grammar .now) (a .«record» .now) (k .0) (tooShort (y .before .before .length .given .0 .0) (k .1) (c .if1 .taken))
 
 returns-5 : tie.Need-returns-5
 returns-5 c =
     let y = c .before .before .before .before in
     let x = y .before .before .before .before in
     let a = x .before .before .before .args in
-    let k = least-known (a .grammar .now) (a .«record» .now) (least-matched (y .before .before .least .given .1) (x .least-length .ensures)) in
+    let k = least-known (a .grammar .now) (a .«record» .now) (matched leastLengthOf (y .before .before .length .given .1) (x .least-length .ensures)) in
     let h = post-accepted (rw (sym (done (c .before .before .enum-told3 .given .1) (y .check-length .ensures))) at (length-post (a .«record» .now))) in
     c .walk .ensures ∙ tried (a .grammar .now) (a .«record» .now) (k .0) (walks (a .grammar .now) (a .«record» .now) (k .1) h (omega (arith, c .before .if1 .left))) h
 
@@ -79,7 +79,7 @@ accepts-spec =
     least-length-requires
     enum-known-r
     enum-told
-    enum-known-least
+    enum-known-length
     check-length-requires
     enum-told-2
     enum-told-3

@@ -4,7 +4,8 @@ use native.Mathlib.Nat.{sub-zero}
 use native.Mathlib.Omega.{arith}
 use lib.ListN.{length, take, drop}
 use Rattle.refusal.specs.Outcome.{refused}
-use Rattle.readers.proofs.Meaning.{step-matched}
+use Rattle.refusal.proofs.Meaning.{matched}
+use Rattle.readers.specs.Meaning.{stepOf}
 use Rattle.choosing.specs.Choose.{listCount, countAt, tryGrammars}
 use Rattle.choosing.proofs.Laws.{count-first, next-at, next-inside, part-grammar, within, rule-ends, tries-none, Trying, accepted-most, try-accepted, refused-most, try-refused}
 use borrow.Author.Needs.{needs}
@@ -78,13 +79,13 @@ add-total : tie.Need-add-total Inv-loop μ-loop
 add-total c =
     let x = c .before .before .before .before in
     let v = x .before .before .before .before .loop in
-    omega (arith, accepted-most (trying x) (step-matched (c .before .before .t .given .1) (x .try-whole .ensures .0)), v .inv .4)
+    omega (arith, accepted-most (trying x) (matched stepOf (c .before .before .t .given .1) (x .try-whole .ensures .0)), v .inv .4)
 
 returns : tie.Need-returns Inv-loop μ-loop
 returns c =
     let x = c .before .before .before .before in
     let v = x .before .before .before .before .loop in
-    try-accepted (trying x) (step-matched (c .before .before .t .given .1) (x .try-whole .ensures .0)) (v .begun) ∙ v .inv .5
+    try-accepted (trying x) (matched stepOf (c .before .before .t .given .1) (x .try-whole .ensures .0)) (v .begun) ∙ v .inv .5
 
 enum-known-t-2 : tie.Need-enum-known-t-2 Inv-loop μ-loop
 enum-known-t-2 c = search needs
@@ -93,7 +94,7 @@ add-begun : tie.Need-add-begun Inv-loop μ-loop
 add-begun c =
     let x = c .before .before .before .before in
     let v = x .before .before .before .before .loop in
-    omega (arith, refused-most (trying x) (step-matched (c .before .before .t2 .given .1) (x .try-whole .ensures .0)), v .inv .4)
+    omega (arith, refused-most (trying x) (matched stepOf (c .before .before .t2 .given .1) (x .try-whole .ensures .0)), v .inv .4)
 
 add-j : tie.Need-add-j Inv-loop μ-loop
 add-j c = search needs
@@ -109,7 +110,7 @@ loop-again c =
     let l = s .args .list .now in
     let v = y .loop in
     let n = x .before .before .next-count in
-    let r = step-matched (c .before .before .t2 .given .1) (x .try-whole .ensures .0) in
+    let r = matched stepOf (c .before .before .t2 .given .1) (x .try-whole .ensures .0) in
     (v .inv .0, omega arith, next-at l (v .j) (v .at) (n .result) (v .inv .2) (n .ensures), next-inside l (v .j) (v .at) (n .result) (v .inv .2) (n .ensures) (rule-ends l (s .pre .0 .rule)) (omega (arith, v .inv .0)), omega (arith, refused-most (trying x) r, v .inv .4), try-refused (trying x) r (v .begun) ∙ v .inv .5)
 
 at-byte-requires : tie.Need-at-byte-requires Inv-loop μ-loop

@@ -2,9 +2,9 @@ use Prim.Native.Nat.{_≤_}
 use native.Mathlib.Omega.{arith}
 use lib.ListN.{length}
 use Rattle.refusal.specs.Outcome.{accepted}
-use Rattle.refusal.proofs.Meaning.{done, stopped}
+use Rattle.refusal.proofs.Meaning.{matched, done, stopped}
 use Rattle.comparing.specs.SameRoute.{Compares}
-use Rattle.readers.proofs.Meaning.{step-matched}
+use Rattle.readers.specs.Meaning.{stepOf}
 use Rattle.comparing.proofs.Comparing.{field-within, grammar-refused, first-refused, second-refused, compared, with-answer}
 use borrow.Author.Needs.{needs}
 use Rattle.comparing.proofs.same_route.Statement.{statement}
@@ -48,8 +48,8 @@ inside c =
     let y = c .before .before .before .before .before in
     let s = y .before .before .before .before .before .before in
     let a = s .before .before .before .args in (
-      field-within (a .grammar .now) (a .first .now) (step-matched (y .t .given .1) (y .before .before .check-first-field .ensures .0)) (λ j l. s .before .before .shared-slice-known .given j .fits) (λ j. s .before .shared-slice-known2 .given j .fits),
-      field-within (a .grammar .now) (a .second .now) (step-matched (c .before .u .given .1) (c .before .before .before .check-first-field2 .ensures .0)) (λ j l. s .before .before .shared-slice-known .given j .fits) (λ j. s .shared-slice-known3 .given j .fits),
+      field-within (a .grammar .now) (a .first .now) (matched stepOf (y .t .given .1) (y .before .before .check-first-field .ensures .0)) (λ j l. s .before .before .shared-slice-known .given j .fits) (λ j. s .before .shared-slice-known2 .given j .fits),
+      field-within (a .grammar .now) (a .second .now) (matched stepOf (c .before .u .given .1) (c .before .before .before .check-first-field2 .ensures .0)) (λ j l. s .before .before .shared-slice-known .given j .fits) (λ j. s .shared-slice-known3 .given j .fits),
     )
 
 sub-same-bytes : tie.Need-sub-same-bytes
@@ -83,7 +83,7 @@ returns-2 c =
     let x = c .before .before .before .before in
     let a = x .before .before .before .before .before .before .args in
     first-refused (a .grammar .now) (a .first .now) (a .second .now) (done (x .enum-told .given .1) (x .before .before .check-grammar .ensures))
-    (step-matched (c .before .r2 .given .1) (c .before .before .before .check-first-field .ensures .0))
+    (matched stepOf (c .before .r2 .given .1) (c .before .before .before .check-first-field .ensures .0))
 
 returns-3 : tie.Need-returns-3
 returns-3 c =
@@ -91,8 +91,8 @@ returns-3 c =
     let x = y .before .before .before in
     let a = x .before .before .before .before .before .before .args in
     second-refused (a .grammar .now) (a .first .now) (a .second .now) (done (x .enum-told .given .1) (x .before .before .check-grammar .ensures))
-    (step-matched (y .t .given .1) (y .before .before .check-first-field .ensures .0))
-    (step-matched (c .before .r3 .given .1) (c .before .before .before .check-first-field2 .ensures .0))
+    (matched stepOf (y .t .given .1) (y .before .before .check-first-field .ensures .0))
+    (matched stepOf (c .before .r3 .given .1) (c .before .before .before .check-first-field2 .ensures .0))
 
 -- their bytes behind the first fields are compared
 answered : (c : lts.After-same-bytes (check-grammar-reads.Asked, check-grammar-reads.Learnt, check-first-field-reads.Asked, check-first-field-reads.Learnt, same-bytes-reads.Asked, same-bytes-reads.Learnt) reads.Pre reads.Post) → let a = c .before .before .before .before .before .before .before .before .before .before .before .before .before .before .before .before .before .args in Compares (a .grammar .now) (a .first .now) (a .second .now) (accepted (c .same-bytes .result))
@@ -103,8 +103,8 @@ answered c =
     let s = x .before .before .before in
     let a = s .before .before .before .args in
     compared (a .grammar .now) (a .first .now) (a .second .now) (done (x .enum-told .given .1) (x .before .before .check-grammar .ensures))
-    (step-matched (y .t .given .1) (y .before .before .check-first-field .ensures .0))
-    (step-matched (z .u .given .1) (z .before .before .check-first-field2 .ensures .0))
+    (matched stepOf (y .t .given .1) (y .before .before .check-first-field .ensures .0))
+    (matched stepOf (z .u .given .1) (z .before .before .check-first-field2 .ensures .0))
     (λ j l. s .before .before .shared-slice-known .given j .fits) (λ j. s .before .shared-slice-known2 .given j .fits) (λ j. s .shared-slice-known3 .given j .fits) (c .same-bytes .ensures)
 
 returns-4 : tie.Need-returns-4

@@ -1,6 +1,8 @@
 use mathlib.Core.Path.{ap, _∙_}
 use Rattle.refusal.specs.Outcome.{refused}
-use Rattle.input.proofs.Input.{matched, layout-long, layout-short, layout-many, layout-record}
+use Rattle.refusal.proofs.Meaning.{matched}
+use Rattle.packed.specs.Meaning.{unpackedU32}
+use Rattle.input.proofs.Input.{layout-long, layout-short, layout-many, layout-record}
 use borrow.Author.Needs.{needs}
 use Rattle.input.proofs.lay_out.Statement.{statement}
 use Rattle.input.proofs.lay_out.Tie as tie
@@ -29,18 +31,18 @@ not-laid-out-requires-2 c κs = search needs
 returns-2 : tie.Need-returns-2
 returns-2 c =
     ap refused (c .not-laid-out2 .ensures)
-    ∙ layout-many (c .before .before .before .before .before .before .before .before .args .input .now) (c .before .before .before .before .before .before .if1 .left) (matched (c .before .before .before .n .given .1) (c .before .before .before .before .before .count-at .ensures)) (c .before .if2 .taken)
+    ∙ layout-many (c .before .before .before .before .before .before .before .before .args .input .now) (c .before .before .before .before .before .before .if1 .left) (matched unpackedU32 (c .before .before .before .n .given .1) (c .before .before .before .before .before .count-at .ensures)) (c .before .if2 .taken)
 
 record-after-requires : tie.Need-record-after-requires
 record-after-requires c κs = search needs
 
 returns-3 : tie.Need-returns-3
-returns-3 c = layout-short (c .before .before .before .before .before .before .args .input .now) (c .before .before .before .before .if1 .left) (matched (c .before .r .given .1) (c .before .before .before .count-at .ensures))
+returns-3 c = layout-short (c .before .before .before .before .before .before .args .input .now) (c .before .before .before .before .if1 .left) (matched unpackedU32 (c .before .r .given .1) (c .before .before .before .count-at .ensures))
 
 returns-4 : tie.Need-returns-4
 returns-4 c =
     c .record-after .ensures
-    ∙ layout-record (c .before .before .before .before .before .before .before .before .args .input .now) (c .before .before .before .before .before .before .if1 .left) (matched (c .before .before .before .n .given .1) (c .before .before .before .before .before .count-at .ensures)) (c .before .if2 .left)
+    ∙ layout-record (c .before .before .before .before .before .before .before .before .args .input .now) (c .before .before .before .before .before .before .if1 .left) (matched unpackedU32 (c .before .before .before .n .given .1) (c .before .before .before .before .before .count-at .ensures)) (c .before .if2 .left)
 
 pub lay-out-spec : {M : Type 1} → statement M
 lay-out-spec =

@@ -1,6 +1,8 @@
 use mathlib.Core.Path.{ap, _∙_}
 use Rattle.refusal.specs.Outcome.{refused}
-use Rattle.input.proofs.Input.{matched, record-short, record-ends, record-not-ends}
+use Rattle.refusal.proofs.Meaning.{matched}
+use Rattle.packed.specs.Meaning.{unpackedU32}
+use Rattle.input.proofs.Input.{record-short, record-ends, record-not-ends}
 use borrow.Author.Needs.{needs}
 use Rattle.input.proofs.record_after.Statement.{statement}
 use Rattle.input.proofs.record_after.Tie as tie
@@ -38,17 +40,17 @@ not-laid-out-requires c κs = search needs
 returns : tie.Need-returns
 returns c =
     let a = c .before .before .before .before .before .args in
-    record-short (a .input .now) (a .words) (matched (c .before .r .given .1) (c .before .before .before .count-at .ensures))
+    record-short (a .input .now) (a .words) (matched unpackedU32 (c .before .r .given .1) (c .before .before .before .count-at .ensures))
 
 returns-2 : tie.Need-returns-2
 returns-2 c =
     let a = c .before .before .before .before .before .before .args in
-    record-ends (a .input .now) (a .words) (matched (c .before .before .n .given .1) (c .before .before .before .before .count-at .ensures)) (c .if1 .taken)
+    record-ends (a .input .now) (a .words) (matched unpackedU32 (c .before .before .n .given .1) (c .before .before .before .before .count-at .ensures)) (c .if1 .taken)
 
 returns-3 : tie.Need-returns-3
 returns-3 c =
     let a = c .before .before .before .before .before .before .before .args in
-    ap refused (c .not-laid-out .ensures) ∙ record-not-ends (a .input .now) (a .words) (matched (c .before .before .before .n .given .1) (c .before .before .before .before .before .count-at .ensures)) (c .before .if1 .left)
+    ap refused (c .not-laid-out .ensures) ∙ record-not-ends (a .input .now) (a .words) (matched unpackedU32 (c .before .before .before .n .given .1) (c .before .before .before .before .before .count-at .ensures)) (c .before .if1 .left)
 
 pub record-after-spec : {M : Type 1} → statement M
 record-after-spec =

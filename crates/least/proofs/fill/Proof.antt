@@ -4,7 +4,7 @@ use Prim.Native.Nat.{_≤_}
 use native.Mathlib.Omega.{arith}
 use Rattle.tables.specs.Grammar.{nodeCount}
 use Rattle.least.specs.Least.{FilledFrom}
-use Rattle.least.proofs.Laws.{filled-none, ready, filled-more}
+use Rattle.least.proofs.Laws.{all-zero, filled-none, ready, filled-more}
 use borrow.Author.Needs.{needs}
 use Rattle.least.proofs.fill.Statement.{statement}
 use Rattle.least.proofs.fill.Tie as tie
@@ -22,7 +22,7 @@ word-requires : tie.Need-word-requires Inv-loop μ-loop
 word-requires c κs = search needs
 
 loop-holds : tie.Need-loop-holds Inv-loop μ-loop
-loop-holds c = (omega (arith, c .word .ensures .0), filled-none (c .before .before .before .args .grammar .now) _ (c .word .result) (c .word .ensures .0) refl)
+loop-holds c = (omega (arith, c .word .ensures .0), filled-none (c .before .before .before .args .grammar .now) _ (c .word .result) (c .word .ensures .0) refl (all-zero 256 (c .before .last-count .result) (c .before .last-count .ensures)))
 
 sub-k : tie.Need-sub-k Inv-loop μ-loop
 sub-k c = search needs
@@ -51,7 +51,7 @@ loop-again c =
 returns : tie.Need-returns Inv-loop μ-loop
 returns c =
     let v = c .before .loop in
-    record { size = v .inv .1 .size; entry = λ j p q. v .inv .1 .entry j (omega (arith, c .loop-test .left)) q }
+    record { size = v .inv .1 .size; entry = λ j p q. v .inv .1 .entry j (omega (arith, c .loop-test .left)) q; rest = v .inv .1 .rest }
 
 pub fill-spec : {M : Type 1} → statement M
 fill-spec =
