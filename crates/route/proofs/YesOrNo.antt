@@ -28,13 +28,13 @@ module _ (g d : List ℕ) (w : Grammar g) (b : Bytes d) (s : length d ≤ 104857
       let t = x .0 in
       let r : readWhole 4096 d (treeOf g 0) ≡ accepted t = withoutState-accepted (readWhole 4096 d (treeOf g 0)) t (sym (checked g d 4096 (w .passes) s) ∙ x .1) in
       let y = whole-accepted 4096 d (treeOf g 0) (tree-valid g (w .words) 0) b t r in
-      let q : rowCount (t .value) ≡ n = sym (ap (λ (u : Step State Val). u .state .begun) (y .3)) ∙ x .2 in
+      let q : rowCount (t .value) ≡ n = omega (arith, ap (λ (u : Step State Val). u .state .begun) (y .3), x .2) in
       (t .value, record { value = of-value (y .0); bytes = y .1 }, q, omega (arith, y .2))
 
   record-yes : (v : Val) → RecordOf g d v → rowCount v ≡ n → n ≤ 4096 → acceptsOf g d ≡ accepted (record { yes = true; begun = n })
   record-yes v o q l =
       let r : readWhole 4096 d (treeOf g 0) ≡ accepted (readTo v (start 0)) = rw (o .bytes) (whole-fits 4096 (treeOf g 0) v (value-of w (o .value)) (omega arith)) in
-      accepts-rule .yes g d (w .words) b n .1 (readTo v (start 0), checked g d 4096 (w .passes) s ∙ ap withoutState r, q)
+      accepts-rule .yes g d (w .words) b n .1 (readTo v (start 0), checked g d 4096 (w .passes) s ∙ ap withoutState r, omega arith)
 
 pub yes-of-records : YesOfRecords
 yes-of-records g d w b s n = (yes-record g d w b s n, λ x. record-yes g d w b s n (x .0) (x .1) (x .2) (x .3))
