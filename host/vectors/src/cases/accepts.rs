@@ -228,7 +228,8 @@ fn each_kind(list: &mut List) {
     }
 }
 
-/// Tuples and unions with a part that has no value at each place, or with the shortest there.
+/// Tuples and unions with a part that has no value at each of three places, or with the shortest there,
+/// and a union whose shortest case is among longer ones of two lengths.
 fn parts(list: &mut List) {
     let nodes = |root| [root, [8, 0, 0], [1, 0, 0], [2, 0, 0]];
     let (none, short, long) = (1, 2, 3);
@@ -269,6 +270,10 @@ fn parts(list: &mut List) {
             add_lengths(list, &name, &union, &record, lengths);
         }
     }
+    let nodes = [[8, 0, 6], [0, 0, 0], [1, 0, 0], [2, 0, 0]];
+    let union = table(&nodes, &[3, 2, 3, 1, 3, 2]);
+    let name = "a union of 8, 4, 8, 0, 8 and 4, tag 3";
+    add_lengths(list, name, &union, &counted(3, &[]), [8]);
 }
 
 /// Parts that have no value, at each depth: in a union that has no other case, in one that has, in a
@@ -421,10 +426,25 @@ fn depths(list: &mut List) {
         let name = format!("a tuple of 1,023 {what} and a uint32");
         add_lengths(list, &name, &fields, &[], [4_096, 8_187, 8_188]);
     }
+    let nodes = [[4, 0, 1_024], [0, 0, 0], [8, 0, 0]];
+    let fields = table(&nodes, &[vec![1; 1_023], vec![2]].concat());
+    let name = "a tuple of 1,023 constants and a union without cases";
+    add_lengths(list, name, &fields, &[], [0]);
+    // The child words before the first are those of a constant.
+    let children = [vec![1; 512], vec![2]].concat();
+    for (what, kind, length) in [("tuple", 4, 3), ("union", 8, 8)] {
+        let grammar = table(&[[kind, 512, 1], [0, 0, 0], [1, 0, 0]], &children);
+        let name = format!("a {what} of a uint32 whose first is 512");
+        add_lengths(list, &name, &grammar, &[], [length]);
+    }
+    let mut grammar = chain(4);
+    grammar[1 + 3 * 255..][..3].copy_from_slice(&[4, 255, 0]);
+    let name = "256 levels of tuples, the last without fields";
+    add_lengths(list, name, &grammar, &[], [0]);
 }
 
-/// Sums near powers of two, of a tuple, of a union of it and of a union of that, and sums that no number
-/// of 32 or of 64 bits holds.
+/// Sums near powers of two, of a tuple, of a union of it and of a union of that, sums that no number of
+/// 32 or of 64 bits holds, and an array of values that are too long.
 fn sums(list: &mut List) {
     for power in [1usize << 7, 1 << 8, 1 << 15, 1 << 16] {
         for bytes in [power - 4, power, power + 4] {
@@ -492,6 +512,16 @@ fn sums(list: &mut List) {
             add_lengths(list, &name, &doubling(nodes, kind), &[], [MAX_BYTES]);
         }
     }
+    let tuples = (0..19).map(|k| [4, 1 + 2 * k, 2]);
+    let nodes: Vec<[u32; 3]> = [[3, 0, 1]]
+        .into_iter()
+        .chain(tuples)
+        .chain([[2, 0, 0]])
+        .collect();
+    let twice = (2..=20).flat_map(|k| [k, k]);
+    let children: Vec<u32> = [1].into_iter().chain(twice).collect();
+    let name = "an array of values of 4,194,304 bytes, count 0";
+    add_lengths(list, name, &table(&nodes, &children), &[], [8]);
 }
 
 /// Records of every length: of a record with unions and an array, of numbers of each width, and of arrays
@@ -547,6 +577,35 @@ fn lengths(list: &mut List) {
     }
 }
 
+/// Elements that are missing, before a constant and in an array of values, and the most rows behind
+/// fields that are arrays and signed numbers.
+fn elements(list: &mut List) {
+    let before_constant = |kind| table(&[[4, 0, 2], [kind, 0, 0], [0, 0, 0]], &[1, 2]);
+    for (what, kind, width) in [("byte", 5, 1), ("uint32", 6, 4), ("uint64", 7, 8)] {
+        let record = counted(1, &vec![0; width - 1]);
+        let name = format!("a {what} array whose element lacks a byte, before a constant");
+        add_words(list, &name, before_constant(kind), &record);
+    }
+    let name = "a byte array of 2^32 elements that are missing, before a constant";
+    add_words(list, name, before_constant(5), &counted(1 << 32, &[]));
+    let array_of = |kind| table(&[[3, 0, 1], [kind, 0, 0]], &[1]);
+    for (what, kind, width) in [("uint64", 2, 8), ("int32", 9, 4), ("int64", 10, 8)] {
+        let record = counted(3, &vec![0; width]);
+        let name = format!("an array of {what}, count 3, one element there");
+        add_words(list, &name, array_of(kind), &record);
+    }
+    for (what, kind) in [("uint32", 6), ("uint64", 7)] {
+        let name = format!("an array of {what} arrays, count 1, no element there");
+        add_words(list, &name, array_of(kind), &counted(1, &[]));
+    }
+    let grammar = "8, 4 0 6, 5 0 0, 6 0 0, 7 0 0, 9 0 0, 10 0 0, 3 6 1, 0 0 0, 7, 1 2 3 4 5 6 7";
+    for (rows, constants) in [("4,096", 4_089), ("4,097", 4_090)] {
+        let record = [vec![0; 36], counted(constants, &[])].concat();
+        let name = format!("constants behind three arrays, an int32 and an int64, {rows} rows");
+        add(list, &name, grammar, &record);
+    }
+}
+
 /// Records that are too long: under grammars that would accept them, or their first bytes, and under
 /// others.
 fn too_long(list: &mut List) {
@@ -573,7 +632,8 @@ fn too_long(list: &mut List) {
 }
 
 /// Grammars that are refused, under records that would be too short, too long, read and refused, or
-/// accepted if the fault were not there.
+/// accepted if the fault were not there; among them a constant with both words wrong, and child words
+/// that have the lowest 8, 16 or 31 bits of the one of example C.
 fn refused_grammars(list: &mut List) {
     for (number, grammar) in REFUSED_GRAMMARS {
         for (what, length) in [
@@ -605,6 +665,17 @@ fn refused_grammars(list: &mut List) {
             add(list, &name, grammar, &vec![0; length]);
         }
     }
+    let name = "a constant with first 1 and count 1, no bytes";
+    add(list, name, "1, 0 1 1, 2, 0 0", &[]);
+    for (what, child) in [
+        ("2^8 + 1", 257),
+        ("2^16 + 1", 65_537),
+        ("2^31 + 1", 2_147_483_649),
+    ] {
+        let grammar = table(&[[3, 0, 1], [0, 0, 0]], &[child]);
+        let name = format!("an array with child {what} of 2 nodes, no bytes");
+        add_words(list, &name, grammar, &[]);
+    }
 }
 
 /// Each grammar of the chooser's lists with its record.
@@ -634,6 +705,7 @@ pub fn accepts() -> Cases {
     depths(&mut list);
     sums(&mut list);
     lengths(&mut list);
+    elements(&mut list);
     too_long(&mut list);
     refused_grammars(&mut list);
     tries(&mut list);
