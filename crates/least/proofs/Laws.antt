@@ -25,7 +25,7 @@ use Rattle.least.specs.Least.{lengthOf, joining, ofNoChild, FilledFrom, 
 -- ---- the mark
 
 abbrev mark : ℕ
-mark = 18446744073709551615
+mark = 4294967295
 
 pub plain : (n : ℕ) → (n ≡ mark → ⊥) → lengthOf n ≡ some n
 unfolding lengthOf

@@ -16,9 +16,9 @@ use Rattle.grammar.specs.Tree.{treeOf}
 use Rattle.least.specs.declared.LeastLength.{LeastLength}
 use Rattle.least.specs.declared.LeastLength.the-variants as L
 
--- the least length that an entry of the array holds; 2^64 − 1 is the mark
+-- the least length that an entry of the array holds; 2^32 − 1 is the mark
 unfoldable pub lengthOf : ℕ → Option ℕ
-lengthOf n = cond (eqb n 18446744073709551615) none (some n)
+lengthOf n = cond (eqb n 4294967295) none (some n)
 
 -- how the least lengths of a node's children are joined, and what no child gives: a tuple's are added, of a union's the least is taken
 abbrev pub joining : Bool → Option ℕ → Option ℕ → Option ℕ

@@ -9,10 +9,10 @@ use refusal::Answer;
 use refusal::Refusal;
 
 // The mark of a node that has no value.
-const NO_VALUE: u64 = 18446744073709551615;
+const NO_VALUE: u32 = 4294967295;
 
 // Where a sum stops growing: one byte more than the longest record has.
-const LARGEST_SUM: u64 = 1048577;
+const LARGEST_SUM: u32 = 1048577;
 
 // How the entries of a node's children are joined: a tuple's are added, of a union's the least is taken.
 const SUM: bool = true;
@@ -27,7 +27,7 @@ pub enum LeastLength {
 }
 
 // The sum. No addition wraps.
-fn add_least(a: u64, b: u64) -> u64
+fn add_least(a: u32, b: u32) -> u32
     ensures { λ r. ⌜ lengthOf r ≡ addLeast (lengthOf a) (lengthOf b) ⌝ }
 {
     if a == NO_VALUE {
@@ -46,13 +46,13 @@ fn add_least(a: u64, b: u64) -> u64
 }
 
 // The lesser. The mark is above every length.
-fn min_least(a: u64, b: u64) -> u64
+fn min_least(a: u32, b: u32) -> u32
     ensures { λ r. ⌜ lengthOf r ≡ minLeast (lengthOf a) (lengthOf b) ⌝ }
 {
     if b < a { b } else { a }
 }
 
-fn join(sum: bool, a: u64, b: u64) -> u64
+fn join(sum: bool, a: u32, b: u32) -> u32
     ensures { λ r. ⌜ lengthOf r ≡ joining sum (lengthOf a) (lengthOf b) ⌝ }
 {
     if sum {
@@ -62,14 +62,14 @@ fn join(sum: bool, a: u64, b: u64) -> u64
     }
 }
 
-fn of_no_child(sum: bool) -> u64
+fn of_no_child(sum: bool) -> u32
     ensures { λ r. ⌜ lengthOf r ≡ ofNoChild sum ⌝ }
 {
     if sum { 0 } else { NO_VALUE }
 }
 
 // The entries of node k's children, joined from the last child to the first: their sum, or the least of them.
-fn join_children(grammar: &[u32], k: usize, sum: bool, lengths: &[u64; 256]) -> u64
+fn join_children(grammar: &[u32], k: usize, sum: bool, lengths: &[u32; 256]) -> u32
     requires { ⌜ Ready k (now grammar) (now lengths) ⌝ }
     ensures { λ r. ⌜ lengthOf r ≡ foldLeast (joining sum) (ofNoChild sum) (childTrees (now (grammar .entry)) (treeOf (now (grammar .entry))) (firstWord (now (grammar .entry)) k) (countWord (now (grammar .entry)) k)) ⌝ }
 {
@@ -84,7 +84,7 @@ fn join_children(grammar: &[u32], k: usize, sum: bool, lengths: &[u64; 256]) -> 
 }
 
 // Node k's entry, from those of its children.
-fn node_length(grammar: &[u32], k: usize, lengths: &[u64; 256]) -> u64
+fn node_length(grammar: &[u32], k: usize, lengths: &[u32; 256]) -> u32
     requires { ⌜ Ready k (now grammar) (now lengths) ⌝ }
     ensures { λ r. ⌜ lengthOf r ≡ least (treeOf (now (grammar .entry)) k) ⌝ }
 {
@@ -107,16 +107,16 @@ fn node_length(grammar: &[u32], k: usize, lengths: &[u64; 256]) -> u64
 }
 
 // Word 3N, the count of the last node's children: 0, since their numbers would be above its own.
-fn last_count(grammar: &[u32]) -> u64
+fn last_count(grammar: &[u32]) -> u32
     requires { ⌜ Passes (now grammar) ⌝ }
     ensures { λ r. ⌜ r ≡ 0 ⌝ }
 {
-    tables::word(grammar, 3 * tables::word(grammar, 0)) as u64
+    tables::word(grammar, 3 * tables::word(grammar, 0)) as u32
 }
 
 // The entries of all nodes, filled from the last node to the root; the others stay 0. With a written 0 the compiler calls memset of the C
 // library, which the archive must not need, so the 0 is read from the table.
-fn fill(grammar: &[u32]) -> [u64; 256]
+fn fill(grammar: &[u32]) -> [u32; 256]
     requires { ⌜ Passes (now grammar) ⌝ }
     ensures { λ r. ⌜ FilledFrom 0 (now (grammar .entry)) r ⌝ }
 {
@@ -143,7 +143,8 @@ pub fn least_length(grammar: &[u32]) -> LeastLength
             if root == NO_VALUE {
                 LeastLength::NoValue
             } else {
-                LeastLength::Bytes(root)
+                let bytes = root as u64;
+                LeastLength::Bytes(bytes)
             }
         }
     }

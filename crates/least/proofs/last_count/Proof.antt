@@ -15,6 +15,9 @@ mul-word c = search needs
 word-requires-2 : tie.Need-word-requires-2
 word-requires-2 c κs = search needs
 
+cast-result : tie.Need-cast-result
+cast-result c = search needs
+
 returns : tie.Need-returns
 returns c =
     let s = c .before .before .before in
@@ -22,4 +25,4 @@ returns c =
     c .word2 .ensures .0 ∙ ap (λ (n : ℕ). getD g (3 * n) 0) (c .before .word .ensures .0) ∙ last-childless g (s .pre)
 
 pub last-count-spec : {M : Type 1} → statement M
-last-count-spec = tie.close (tie.spec word-requires mul-word word-requires-2 returns)
+last-count-spec = tie.close (tie.spec word-requires mul-word word-requires-2 cast-result returns)

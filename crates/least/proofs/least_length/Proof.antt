@@ -25,6 +25,9 @@ fill-requires c κs = accepted-exactly _ .0 (sym (done (c .enum-told .given .1) 
 array-read-root : tie.Need-array-read-root
 array-read-root c = search needs
 
+cast-bytes : tie.Need-cast-bytes
+cast-bytes c = search needs
+
 returns : tie.Need-returns
 returns c = ap (map (λ _. least (treeOf (c .before .before .before .before .before .args .grammar .now) 0))) (stopped (c .before .r .given .1) (c .before .before .before .check-grammar .ensures))
 
@@ -48,6 +51,7 @@ least-length-spec =
     enum-told
     fill-requires
     array-read-root
+    cast-bytes
     returns
     returns-2
     returns-3)

@@ -17,16 +17,16 @@ pub struct Verdict {
 }
 
 /// Where a sum stops growing: one more than the bytes of the longest record.
-const MOST: u64 = MAX_BYTES as u64 + 1;
+const MOST: u32 = MAX_BYTES as u32 + 1;
 
 /// The mark of a node without values, above every length.
-const NONE: u64 = u64::MAX;
+const NONE: u32 = u32::MAX;
 
 /// Whether a record is accepted whole, as a value of at most 4,096 rows.
 pub fn accepts(words: &[u32], record: &[u8]) -> Result<Verdict, Refusal> {
     let grammar = Grammar::of(words)?;
     let too_long = record.len() > MAX_BYTES;
-    if too_long || (record.len() as u64) < least_length(grammar) {
+    if too_long || record.len() < least_length(grammar) as usize {
         return Ok(Verdict {
             accepted: false,
             begun: 0,
@@ -37,7 +37,7 @@ pub fn accepts(words: &[u32], record: &[u8]) -> Result<Verdict, Refusal> {
 }
 
 /// The least length of the root, or the mark: those of all nodes, from the last one to the root.
-fn least_length(grammar: Grammar) -> u64 {
+fn least_length(grammar: Grammar) -> u32 {
     let mut least = [0; MOST_NODES];
     for k in (0..grammar.node_count()).rev() {
         let node = grammar.node(k);
@@ -56,7 +56,7 @@ fn least_length(grammar: Grammar) -> u64 {
 }
 
 /// The sum of two lengths, or the mark where one of them is.
-fn sum(a: u64, b: u64) -> u64 {
+fn sum(a: u32, b: u32) -> u32 {
     match (a, b) {
         (NONE, _) | (_, NONE) => NONE,
         _ => MOST.min(a + b),
