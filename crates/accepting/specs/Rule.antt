@@ -42,7 +42,7 @@ pub record Counted (g d : List ℕ) (v : Verdict) : Type 0 where
 
 pub record AcceptsRule : Type 0 where
   pub unwalked : (g d : List ℕ) → checkGrammar g ≡ accepted tt → NoWalk g d → acceptsOf g d ≡ accepted unread
-  -- where the length does not decide, what is accepted must be the bytes of a value: so words are u32s here, and bytes bytes
+  -- what is accepted is the bytes of a value, so it is not below the least length; for this words must be u32s, and bytes bytes
   pub yes : (g d : List ℕ) → Below (2 ^ 32) g → Bytes d → YesExactly g d
   pub no : (g d : List ℕ) → Below (2 ^ 32) g → Bytes d → NoExactly g d
   pub count : (g d : List ℕ) (v : Verdict) → acceptsOf g d ≡ accepted v → Counted g d v
