@@ -36,19 +36,26 @@ verdict-accepted x h =
 pub verdict-refused : (x : Reading Val) {e : Stop} → refused e ≡ map (λ t. t .state) x → _≡_ {A = Verdict} (record { yes = false; begun = e .state .begun }) (verdict x)
 verdict-refused x h = rw (map-refused (λ (t : Step State Val). t .state) x (sym h))
 
+or-first : (a b : Bool) → a ≡ true → (a || b) ≡ true
+or-first a b h = rw h
+
+or-second : (a b : Bool) → b ≡ true → (a || b) ≡ true
+or-second true b h = refl
+or-second false b h = h
+
+-- the check of a grammar whose least length is given
+pub least-known : (g : List ℕ) {x : Option ℕ} → accepted x ≡ leastOf g → (accepted tt ≡ checkGrammar g) × (least (treeOf g 0) ≡ x)
+least-known g h = let a = map-accepted (λ (u : Unit {0}). least (treeOf g 0)) (checkGrammar g) (sym h) in (sym (a .1), sym (a .2))
+
 module _ (g d : List ℕ) where
   pub reflects-decided : NoWalk g d ↔ (decided g d ≡ true)
   unfolding belowLeast
   reflects-decided = (to, λ h. from (least (treeOf g 0)) refl (ltb 1048576 (length d)) refl h)
     where
-      either : (b : Bool) → (b || true) ≡ true
-      either true = refl
-      either false = refl
-
       to : NoWalk g d → decided g d ≡ true
-      to (tooLong h) = rw (lt-ltb 1048576 (length d) h)
-      to (noValue e) = rw e (either (ltb 1048576 (length d)))
-      to (tooShort l e h) = rw (e, lt-ltb (length d) l h) (either (ltb 1048576 (length d)))
+      to (tooLong h) = or-first (ltb 1048576 (length d)) (belowLeast (least (treeOf g 0)) (length d)) (lt-ltb 1048576 (length d) h)
+      to (noValue e) = or-second (ltb 1048576 (length d)) (belowLeast (least (treeOf g 0)) (length d)) (rw e)
+      to (tooShort l e h) = or-second (ltb 1048576 (length d)) (belowLeast (least (treeOf g 0)) (length d)) (rw e (lt-ltb (length d) l h))
 
       from : (o : Option ℕ) → least (treeOf g 0) ≡ o → (b : Bool) → ltb 1048576 (length d) ≡ b → (b || belowLeast o (length d)) ≡ true → NoWalk g d
       from o e true q h = tooLong (ltb-true 1048576 (length d) q)
@@ -58,10 +65,6 @@ module _ (g d : List ℕ) where
   pub accepts-refused : {r : Reason} → refused r ≡ leastOf g → refused r ≡ acceptsOf g d
   unfolding acceptsOf
   accepts-refused h = rw (map-refused (λ (u : Unit {0}). least (treeOf g 0)) (checkGrammar g) (sym h))
-
-  -- the check of a grammar whose least length is given
-  pub least-known : {x : Option ℕ} → accepted x ≡ leastOf g → (accepted tt ≡ checkGrammar g) × (least (treeOf g 0) ≡ x)
-  least-known h = let a = map-accepted (λ (u : Unit {0}). least (treeOf g 0)) (checkGrammar g) (sym h) in (sym (a .1), sym (a .2))
 
   module _ (p : accepted tt ≡ checkGrammar g) where
     pub not-walked : NoWalk g d → accepted unread ≡ acceptsOf g d

@@ -130,7 +130,6 @@ counted g d v h = go (came g d v h)
     go (without w e) =
         record {
           zero = (λ _. w, λ _. ap (λ (x : Verdict). x .begun) e);
-          without = λ _. ap (λ (x : Verdict). x .yes) e;
           walked = λ n. absurd (n w);
           most = omega (arith, ap (λ (x : Verdict). x .begun) e);
         }
@@ -138,7 +137,6 @@ counted g d v h = go (came g d v h)
         let q : v .begun ≡ begunOf (readWhole 4096 d (treeOf g 0)) = ap (λ (x : Verdict). x .begun) e ∙ verdict-begun (readWhole 4096 d (treeOf g 0)) in
         record {
           zero = (λ z. absurd (omega (arith, bounds .0)), λ n. absurd (w n));
-          without = λ n. absurd (w n);
           walked = λ _. q;
           most = omega (arith, bounds .1);
         }

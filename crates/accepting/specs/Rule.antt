@@ -35,7 +35,6 @@ pub data NoWalk (g d : List ℕ) : Type 0 where
 -- "Yes and no carry the number of values begun, counted as the chooser does for a try, 0 exactly when there was no walk"
 pub record Counted (g d : List ℕ) (v : Verdict) : Type 0 where
   pub zero : (v .begun ≡ 0) ↔ NoWalk g d
-  pub without : NoWalk g d → v .yes ≡ false
   pub walked : ¬ (NoWalk g d) → v .begun ≡ begunOf (readWhole 4096 d (treeOf g 0))
   -- a refused walk begins at most one value more than there are rows
   pub most : v .begun ≤ 4097

@@ -1,7 +1,12 @@
-use mathlib.Core.Path.{sym, _∙_}
+use mathlib.Core.Path.{_≡_, sym, _∙_}
+use mathlib.Core.Option.{some}
 use native.Mathlib.Omega.{arith}
+use Rattle.refusal.specs.Outcome.{accepted}
 use Rattle.refusal.proofs.Meaning.{matched, done, stopped}
 use Rattle.refusal.proofs.Outcome.{post-accepted, post-refused}
+use Rattle.value.specs.Least.{least}
+use Rattle.grammar.specs.Check.{checkGrammar}
+use Rattle.grammar.specs.Tree.{treeOf}
 use Rattle.admission.proofs.Admission.{length-post}
 use Rattle.least.specs.Least.{leastLengthOf}
 use Rattle.accepting.specs.Rule.{tooLong, noValue, tooShort}
@@ -44,33 +49,33 @@ returns-2 : tie.Need-returns-2
 returns-2 c =
     let x = c .before .before in
     let a = x .before .before .before .args in
-    let k = least-known (a .grammar .now) (a .«record» .now) (matched leastLengthOf (c .enum-told .given .1) (x .least-length .ensures)) in
+    let k = least-known (a .grammar .now) (matched leastLengthOf (c .enum-told .given .1) (x .least-length .ensures)) in
     not-walked (a .grammar .now) (a .«record» .now) (k .0) (noValue (k .1))
+
+-- the grammar passes, and its least length is the number matched
+known : (c : tie.After-check-length) → let g = c .before .before .before .before .before .before .before .args .grammar .now in (accepted tt ≡ checkGrammar g) × (least (treeOf g 0) ≡ some (c .before .before .length .given .0 .0))
+known c =
+    let x = c .before .before .before .before in
+    least-known (x .before .before .before .args .grammar .now) (matched leastLengthOf (c .before .before .length .given .1) (x .least-length .ensures))
 
 returns-3 : tie.Need-returns-3
 returns-3 c =
     let y = c .before .before in
-    let x = y .before .before .before .before in
-    let a = x .before .before .before .args in
-    let k = least-known (a .grammar .now) (a .«record» .now) (matched leastLengthOf (y .before .before .length .given .1) (x .least-length .ensures)) in
-    not-walked (a .grammar .now) (a .«record» .now) (k .0) (tooLong (post-refused (rw (sym (stopped (c .enum-told2 .given .1) (y .check-length .ensures))) at (length-post (a .«record» .now))) .1))
+    let a = y .before .before .before .before .before .before .before .args in
+    not-walked (a .grammar .now) (a .«record» .now) (known y .0) (tooLong (post-refused (rw (sym (stopped (c .enum-told2 .given .1) (y .check-length .ensures))) at (length-post (a .«record» .now))) .1))
 
 returns-4 : tie.Need-returns-4
 returns-4 c =
     let y = c .before .before .before in
-    let x = y .before .before .before .before in
-    let a = x .before .before .before .args in
-    let k = least-known (a .grammar .now) (a .«record» .now) (matched leastLengthOf (y .before .before .length .given .1) (x .least-length .ensures)) in
-    not-walked (a .grammar .now) (a .«record» .now) (k .0) (tooShort (y .before .before .length .given .0 .0) (k .1) (c .if1 .taken))
+    let a = y .before .before .before .before .before .before .before .args in
+    not-walked (a .grammar .now) (a .«record» .now) (known y .0) (tooShort (y .before .before .length .given .0 .0) (known y .1) (c .if1 .taken))
 
 returns-5 : tie.Need-returns-5
 returns-5 c =
     let y = c .before .before .before .before in
-    let x = y .before .before .before .before in
-    let a = x .before .before .before .args in
-    let k = least-known (a .grammar .now) (a .«record» .now) (matched leastLengthOf (y .before .before .length .given .1) (x .least-length .ensures)) in
+    let a = y .before .before .before .before .before .before .before .args in
     let h = post-accepted (rw (sym (done (c .before .before .enum-told3 .given .1) (y .check-length .ensures))) at (length-post (a .«record» .now))) in
-    c .walk .ensures ∙ tried (a .grammar .now) (a .«record» .now) (k .0) (walks (a .grammar .now) (a .«record» .now) (k .1) h (omega (arith, c .before .if1 .left))) h
+    c .walk .ensures ∙ tried (a .grammar .now) (a .«record» .now) (known y .0) (walks (a .grammar .now) (a .«record» .now) (known y .1) h (omega (arith, c .before .if1 .left))) h
 
 pub accepts-spec : {M : Type 1} → statement M
 accepts-spec =
