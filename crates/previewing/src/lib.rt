@@ -5,7 +5,7 @@ ghost use Prim.Native.Nat.{ℕ, _+_, _*_, _≤_, _<_};
 ghost use lib.ListN.{length, take, drop};
 ghost use Rattle.packed.specs.Packed.{packLittleEndian};
 ghost use Rattle.rows.specs.Rule.{RowHolds};
-ghost use Rattle.rows.specs.Size.{ownBytesAt, sizeAt, bytesFrom, sizeFrom};
+ghost use Rattle.rows.specs.Size.{ownBytesAt, ownSizeAt, bytesFrom, sizeFrom};
 ghost use Rattle.previewing.specs.Preview.{differing, previewOf, previewedOf};
 ghost use Rattle.previewing.specs.Compared.{comparedWith};
 use refusal::Refusal;
@@ -101,7 +101,7 @@ fn compare_elements(
 
 // Compares a row's own bytes, without its children's.
 fn compare_row(rows: &[u64], row: usize, store: &[u8], out: &[u8], before: Compared) -> Compared
-    requires { ⌜ RowHolds (now rows) (now store) row × (before .at + sizeAt (now rows) row ≤ length (now out)) × (before .changed ≤ before .at) ⌝ }
+    requires { ⌜ RowHolds (now rows) (now store) row × (before .at + ownSizeAt (now rows) row ≤ length (now out)) × (before .changed ≤ before .at) ⌝ }
     ensures { λ r. ⌜ r ≡ comparedWith (now (out .entry)) before (ownBytesAt (now (rows .entry)) (now (store .entry)) row) ⌝ }
 {
     let kind = tables::kind_at(rows, row);

@@ -15,7 +15,7 @@ use Rattle.tables.specs.Row.{Row, rowAt}
 use Rattle.rows.specs.Walk.{withinStore, walk}
 use Rattle.rows.specs.Rule.{TableOf}
 use Rattle.rows.specs.Locate.{Part, lookUp, elementsPart, locateArray}
-use Rattle.rows.proofs.Laws.{ends}
+use Rattle.rows.proofs.Laws.{ends, ends-accepted}
 use Rattle.rows.proofs.Rule.{accepted-exactly}
 use Rattle.rows.proofs.Parts.{table-holds}
 
@@ -30,11 +30,6 @@ bind-refused k (refused x) h = let q = h in cc
 
 pub ends-refused : {A : Type 0} (o : Outcome Reason A) {e : Reason} → refused e ≡ o → refused e ≡ ends o
 ends-refused o h = ap ends h
-
--- an accepted outcome has a value
-ends-accepted : {A : Type 0} (o : Outcome Reason A) → accepted tt ≡ ends o → (a : A) × (o ≡ accepted a)
-ends-accepted (accepted a) h = (a, refl)
-ends-accepted (refused e) h = let z : _≡_ {A = ℕ} 0 1 = cc in absurd (omega arith)
 
 pub ends-bind : {A B : Type 0} (o : Outcome Reason A) (k : A → Outcome Reason B) (b : B) → accepted b ≡ bind o k → accepted tt ≡ ends o
 ends-bind (accepted a) k b h = refl

@@ -10,17 +10,22 @@ use lib.ListN.{length}
 use lib.Dec.{leb, ltb, eqb}
 use borrow.Author.Tests.{lt-ltb, le-ltb, ltb-true, ltb-false, le-leb, lt-leb, eq-eqb, ne-eqb}
 use Rattle.refusal.specs.Outcome.{Outcome, accepted, refused, bind, test, map, Reason, reason, byte, row}
-use Rattle.refusal.proofs.Outcome.{Post, holds, fails, post-reflects, post-accepted, map-map, test-true, test-false}
+use Rattle.refusal.proofs.Outcome.{Post, holds, fails, post-bind, post-reflects, post-accepted, map-map, test-true, test-false}
 use Rattle.refusal.proofs.Tests.{and-true, NoneBelow, reflects-leb, reflects-ltb, reflects-eqb, reflects-and}
 use Rattle.value.specs.Kinds.{Number, width, Kind, lastKind, kindOf, number, other}
 use Rattle.value.proofs.KindLaws.{none-of}
 use Rattle.value.specs.Tree.{Val, Vals, vnil, vcons}
 use Rattle.tables.specs.Row.{rowWidth, Row, rowAt}
-use Rattle.rows.specs.Walk.{keepsRule, withinStore, childCount, rowValue, checkRow, walkChildren, walkTo, walkRow, countHolds, walk}
+use Rattle.rows.specs.Walk.{keepsRule, withinStore, childCount, rowValue, checkRow, walkChildren, checkSizeWord, walkTo, walkRow, countHolds, walk}
 
 -- an outcome without its value
 abbrev pub ends : {A : Type 0} → Outcome Reason A → Outcome Reason (Unit {0})
 ends o = map (λ _. tt) o
+
+-- an accepted outcome has a value
+pub ends-accepted : {A : Type 0} (o : Outcome Reason A) → accepted tt ≡ ends o → (a : A) × (o ≡ accepted a)
+ends-accepted (accepted a) h = (a, refl)
+ends-accepted (refused e) h = let z : _≡_ {A = ℕ} 0 1 = cc in absurd (omega arith)
 
 -- P of the value, if there is one
 abbrev pub Gives : {A : Type 0} → (A → Type 0) → Outcome Reason A → Type 0
@@ -41,8 +46,8 @@ bind-same k l (fails e q) h = refl
 
 -- ---- a row by itself
 
-pub row-eq : (r : Row) {k n a b : ℕ} → r .kind ≡ k → r .span ≡ n → r .word2 ≡ a → r .word3 ≡ b → r ≡ record { kind = k; span = n; word2 = a; word3 = b }
-row-eq r p q x y = rw (← p, ← q, ← x, ← y)
+pub row-eq : (r : Row) {k n a b m : ℕ} → r .kind ≡ k → r .span ≡ n → r .word2 ≡ a → r .word3 ≡ b → r .size ≡ m → r ≡ record { kind = k; span = n; word2 = a; word3 = b; size = m }
+row-eq r p q x y z = rw (← p, ← q, ← x, ← y, ← z)
 
 -- the number of a row that keeps its rule
 pub number-below : (k : Number) (r : Row) → keepsRule (number k) r ≡ true → r .word2 < 256 ^ width k
@@ -104,12 +109,16 @@ module _ (t s : List ℕ) where
   children-same f g parent end (suc count) i h =
       test-same (ltb i end) _ _ _ (λ l. rw (h i (omega arith) (ltb-true i end l), children-same f g parent end count (i + rowAt t i .span) (λ j a b. h j (omega arith) b)))
 
+  -- what the values of row i's children make of it
+  abbrev made : ℕ → Outcome Reason Vals → Outcome Reason Val
+  made i o = bind o (λ vs. checkSizeWord (rowAt t i) i (rowValue (kindOf (rowAt t i .kind)) (rowAt t i) s vs))
+
   walk-same : (d e end i : ℕ) → i < end → end ≤ i + d → end ≤ i + e → walkTo t s d end i ≡ walkTo t s e end i
   unfolding walkTo
   walk-same zero e end i h a b = absurd (omega arith)
   walk-same (suc d) zero end i h a b = absurd (omega arith)
   walk-same (suc d) (suc e) end i h a b = bind-same _ _ (row-post (rowAt t i) (length s) i end) (λ count p.
-      ap (map (rowValue (kindOf (rowAt t i .kind)) (rowAt t i) s))
+      ap (made i)
       (children-same _ _ i (i + rowAt t i .span) count (suc i) (λ j l m. walk-same d e (i + rowAt t i .span) j m (omega (arith, p .reach)) (omega (arith, p .reach)))))
 
   -- any depth that holds the rows is deep enough
@@ -125,21 +134,34 @@ module _ (t s : List ℕ) where
   unfolding walkChildren
   children-none parent end i h = test-true _ _ (eq-eqb i end h)
 
-  -- a row, then its children
-  pub walk-row : (end i : ℕ) → i < end → walkRow t s end i ≡ bind (checkRow (rowAt t i) (length s) i end) (λ count. map (rowValue (kindOf (rowAt t i .kind)) (rowAt t i) s) (childrenOf i (i + rowAt t i .span) count (suc i)))
+  -- a row, then its children, then its size
+  pub walk-row : (end i : ℕ) → i < end → walkRow t s end i ≡ bind (checkRow (rowAt t i) (length s) i end) (λ count. made i (childrenOf i (i + rowAt t i .span) count (suc i)))
   unfolding walkTo
   walk-row end i h =
       let e : end - i ≡ suc (end - suc i) = omega arith in
       ap (λ (d : ℕ). walkTo t s d end i) e
       ∙ bind-same _ _ (row-post (rowAt t i) (length s) i end) (λ count p.
-      ap (map (rowValue (kindOf (rowAt t i .kind)) (rowAt t i) s))
+      ap (made i)
       (children-same _ _ i (i + rowAt t i .span) count (suc i) (λ j l m. walk-depth (end - suc i) (i + rowAt t i .span) j m (omega (arith, p .reach)))))
 
   pub row-refused : (end i : ℕ) {e : Reason} → i < end → refused e ≡ checkRow (rowAt t i) (length s) i end → refused e ≡ ends (walkRow t s end i)
   row-refused end i h r = sym (ap ends (walk-row end i h) ∙ rw (← r))
 
-  pub row-accepted : (end i : ℕ) {count : ℕ} → i < end → accepted count ≡ checkRow (rowAt t i) (length s) i end → ends (childrenOf i (i + rowAt t i .span) count (i + 1)) ≡ ends (walkRow t s end i)
-  row-accepted end i {count} h r = sym (ap ends (walk-row end i h) ∙ rw (← r, add-one i) (map-map _ _ (childrenOf i (i + rowAt t i .span) count (suc i))))
+  -- a row that passes by itself
+  module _ (end i : ℕ) {count : ℕ} (h : i < end) (r : accepted count ≡ checkRow (rowAt t i) (length s) i end) where
+    row-made : walkRow t s end i ≡ made i (childrenOf i (i + rowAt t i .span) count (i + 1))
+    row-made = walk-row end i h ∙ rw (← r, add-one i)
+
+    pub children-refused : {e : Reason} → refused e ≡ ends (childrenOf i (i + rowAt t i .span) count (i + 1)) → refused e ≡ ends (walkRow t s end i)
+    children-refused {e} q = sym (ap ends row-made ∙ go (childrenOf i (i + rowAt t i .span) count (i + 1)) q)
+      where
+        go : (o : Outcome Reason Vals) → refused e ≡ ends o → ends (made i o) ≡ refused e
+        go (accepted vs) q = let z : _≡_ {A = ℕ} 0 1 = cc in absurd (omega arith)
+        go (refused f) q = sym q
+
+    -- its children accepted, its size decides
+    pub row-sized : {vs : Vals} → childrenOf i (i + rowAt t i .span) count (i + 1) ≡ accepted vs → walkRow t s end i ≡ checkSizeWord (rowAt t i) i (rowValue (kindOf (rowAt t i .kind)) (rowAt t i) s vs)
+    row-sized e = row-made ∙ ap (made i) e
 
 -- ---- the loop over children: what is left from row i on
 
@@ -168,6 +190,31 @@ module _ (t s : List ℕ) (parent end left i : ℕ) (h : 0 < left) where
         go : (x : Outcome Reason Val) (y : Outcome Reason Vals) → accepted tt ≡ ends x → ends (bind x (λ v. map (vcons v) y)) ≡ ends y
         go (accepted v) y q = map-map _ _ y
         go (refused f) y q = let z : _≡_ {A = ℕ} 0 1 = cc in absurd (omega arith)
+
+-- a row that is accepted ends where it may
+walk-reach : (t s : List ℕ) (end i : ℕ) (v : Val) → i < end → walkRow t s end i ≡ accepted v → i + rowAt t i .span ≤ end
+walk-reach t s end i v l h =
+    let g : Gives (λ _. i + rowAt t i .span ≤ end) (walkRow t s end i) = rw (walk-row t s end i l) (post-bind _ (row-post (rowAt t i) (length s) i end) (λ count p. go (p .reach) (made t s i (childrenOf t s i (i + rowAt t i .span) count (suc i))))) in
+    post-accepted (rw h at g)
+  where
+    go : {R : Type 0} → R → (o : Outcome Reason Val) → Gives (λ _. R) o
+    go r (accepted v) = holds v r
+    go r (refused e) = fails e tt
+
+-- children that are accepted: the first of them, and those behind it
+pub record FirstWalked (t s : List ℕ) (parent end left i : ℕ) : Type 0 where
+  pub reach : i + rowAt t i .span ≤ end
+  pub values : Vals
+  pub walked : childrenOf t s parent end left (i + rowAt t i .span) ≡ accepted values
+
+pub first-walked : (t s : List ℕ) (parent end left i : ℕ) {vs : Vals} → 0 < left → childrenOf t s parent end left i ≡ accepted vs → FirstWalked t s parent end (left - 1) i
+first-walked t s parent end left i {vs} h e = go (ltb i end) (walkRow t s end i) (childrenOf t s parent end (left - 1) (i + rowAt t i .span)) (ltb-true i end) (walk-reach t s end i) refl (sym (next-child t s parent end left i h) ∙ e)
+  where
+    go : (b : Bool) (x : Outcome Reason Val) (y : Outcome Reason Vals) → (b ≡ true → i < end) → ((v : Val) → i < end → x ≡ accepted v → i + rowAt t i .span ≤ end) → childrenOf t s parent end (left - 1) (i + rowAt t i .span) ≡ y → test b (reason 13 (row parent)) (λ _. bind x (λ v. map (vcons v) y)) ≡ accepted vs → FirstWalked t s parent end (left - 1) i
+    go true (accepted v) (accepted us) l r w q = record { reach = r v (l refl) refl; values = us; walked = w }
+    go true (accepted v) (refused f) l r w q = let z : _≡_ {A = ℕ} 0 1 = cc in absurd (omega arith)
+    go true (refused f) y l r w q = let z : _≡_ {A = ℕ} 0 1 = cc in absurd (omega arith)
+    go false x y l r w q = let z : _≡_ {A = ℕ} 0 1 = cc in absurd (omega arith)
 
 or-false : (a b : Bool) → (a || b) ≡ false → (a ≡ false) × (b ≡ false)
 or-false true b h = let z : _≡_ {A = ℕ} 0 1 = cc in absurd (omega arith)

@@ -49,7 +49,7 @@ pub row-there : (t : List ℕ) (i : ℕ) (r : Row) (rest : List ℕ) → drop (r
 row-there t i r rest h =
     let g : (j : ℕ) → getD t (rowWidth * i + j) 0 ≡ getD (rowWords r ++ rest) j 0 = λ j. sym (getD-drop (rowWidth * i) t j 0) ∙ ap (λ (l : List ℕ). getD l j 0) h in
     let z : rowWidth * i + 0 ≡ rowWidth * i = omega arith in
-    rw (rw z at (g 0), g 1, g 2, g 3)
+    rw (rw z at (g 0), g 1, g 2, g 3, g 4)
 
 -- a row knows its place
 own-place : (v : Val) (place : ℕ) → ownRow v place ≡ ownRow v (ownRow v place .word3)

@@ -1,4 +1,5 @@
--- Every row of a value stands for a part of it, so every row of a table keeps its kind's rule and has its array in the store.
+-- Every row of a value stands for a part of it, so every row of a table keeps its kind's rule, has its array in the store and says the size
+-- of its part.
 use mathlib.Core.Path.{_≡_, refl, ap, _∙_}
 use mathlib.Core.Bool.{true}
 use mathlib.Core.List.{List}
@@ -8,13 +9,13 @@ use native.Mathlib.Omega.{arith}
 use lib.ListN.{length}
 use borrow.Author.Tests.{lt-ltb, le-leb}
 use Rattle.value.specs.Kinds.{width, elementWidth, kinds, kindOf}
-use Rattle.value.specs.Tree.{Val, Vals, VConstant, VNumber, VArray, VTuple, VNumberArray, VCase, vnil, vcons, TypedVal, TypedVals, rowCount, rowCounts}
+use Rattle.value.specs.Tree.{Val, Vals, VConstant, VNumber, VArray, VTuple, VNumberArray, VCase, vnil, vcons, TypedVal, TypedVals, SizeOfV, rowCount, rowCounts}
 use Rattle.value.proofs.KindLaws.{number-kind, elements-kind}
 use Rattle.tables.specs.Row.{Row, rowAt}
 use Rattle.rows.specs.Layout.{ownRow}
 use Rattle.rows.specs.Walk.{keepsRule, withinStore}
-use Rattle.rows.specs.Rule.{RowHolds, StandFor, StandForAll, TableOf}
-use Rattle.rows.proofs.Rule.{own-row}
+use Rattle.rows.specs.Rule.{RowHolds, StandFor, StandForAll, Among, here, there, ValueIn, itself, element, field, caseValue, TableOf}
+use Rattle.rows.proofs.Rule.{own-row, row-size}
 
 -- below, or not
 split : {A : Type 0} (j k : ℕ) → (j < k → A) → (k ≤ j → A) → A
@@ -95,3 +96,16 @@ typed-inherited = record { ofArray = λ vs d. d; ofTuple = λ vs d. d; ofCase = 
 module _ (t : List ℕ) (n : ℕ) (s : List ℕ) (v : Val) (h : TableOf t n s v) where
   pub table-holds : (j : ℕ) → j < n → RowHolds t s j
   table-holds j l = let p = table-part t s typed-inherited h (h .typed) j l in record { rule = keeps-rows t s (p .0) j (p .1) (p .2); within = within-rows t s (p .0) j (p .1) }
+
+-- the values in v
+within-inherited : (v : Val) → Inherited (ValueIn v) (λ vs. (u : Val) → Among u vs → ValueIn v u)
+within-inherited v = record {
+  ofArray = λ vs d u a. element d a;
+  ofTuple = λ vs d u a. field d a;
+  ofCase = λ c w d. caseValue d;
+  ofMore = λ w vs d. (d w here, λ u a. d u (there a));
+}
+
+-- each row of a table stands for the value or one in it, and says its size
+pub rows-say : (t : List ℕ) (n : ℕ) (s : List ℕ) (v : Val) → TableOf t n s v → (j : ℕ) → j < n → (u : Val) × ValueIn v u × StandFor t s j u × (rowAt t j .size ≡ SizeOfV u)
+rows-say t n s v h j l = let p = table-part t s (within-inherited v) h itself j l in (p .0, p .2, p .1, row-size t s (p .0) j (p .1))

@@ -15,14 +15,15 @@ use Rattle.refusal.proofs.Tests.{and-true, reflects-leb, reflects-ltb, reflects
 use Rattle.packed.specs.Packed.{Bytes, Below, packLittleEndianSeq, unpackLittleEndianSeq}
 use Rattle.packed.proofs.Laws.{bytes-drop, length-unpackSeq, unpackSeq-take, unpackSeq-packSeq, packSeq-unpackSeq}
 use Rattle.value.specs.Kinds.{width, numberKind, elementWidth, elementsKind, Kind, kinds, kindOf, constant, number, array, tuple, elements, union, other}
-use Rattle.value.specs.Tree.{Val, Vals, VConstant, VNumber, VArray, VTuple, VNumberArray, VCase, vnil, vcons, seqV, ValidVal, ValidVals, TypedVal, TypedVals, rowCount, rowCounts}
+use Rattle.value.specs.Tree.{Val, Vals, VConstant, VNumber, VArray, VTuple, VNumberArray, VCase, vnil, vcons, seqV, ValidVal, ValidVals, TypedVal, TypedVals, SizeOfV, SeqSum, rowCount, rowCounts}
 use Rattle.value.proofs.KindLaws.{number-kind, elements-kind, kind-other}
 use Rattle.value.proofs.Laws.{unpackSeq-below}
 use Rattle.value.proofs.Agreement.{rowCount-positive}
 use Rattle.tables.specs.Row.{rowWidth, Row, rowAt}
 use Rattle.rows.specs.Layout.{ownRow}
-use Rattle.rows.specs.Walk.{keepsRule, withinStore, childCount, rowValue, checkRow, walkChildren, walkTo, walkRow, walk}
+use Rattle.rows.specs.Walk.{keepsRule, withinStore, childCount, rowValue, checkRow, walkChildren, checkSizeWord, walkTo, walkRow, walk}
 use Rattle.rows.specs.Rule.{RowOf, StandFor, StandForAll, TableOf}
+use Rattle.rows.specs.Size.{childSizes}
 use Rattle.rows.proofs.Laws.{Gives, gives-map, row-eq, Passed, row-post, childrenOf, children-none, walk-row, reflects-rows}
 
 -- ---- from the rows to the walk
@@ -35,6 +36,15 @@ own-span (VArray vs) place = refl
 own-span (VTuple vs) place = refl
 own-span (VNumberArray k ns) place = refl
 own-span (VCase c v) place = refl
+
+own-size : (v : Val) (place : ℕ) → ownRow v place .size ≡ SizeOfV v
+unfolding ownRow
+own-size VConstant place = refl
+own-size (VNumber k n) place = refl
+own-size (VArray vs) place = refl
+own-size (VTuple vs) place = refl
+own-size (VNumberArray k ns) place = refl
+own-size (VCase c v) place = refl
 
 module _ (t s : List ℕ) where
   pub own-row : (v : Val) (i : ℕ) → StandFor t s i v → RowOf t i v
@@ -49,40 +59,45 @@ module _ (t s : List ℕ) where
   pub row-span : (v : Val) (i : ℕ) → StandFor t s i v → rowAt t i .span ≡ rowCount v
   row-span v i h = ap (λ (r : Row). r .span) (own-row v i h) ∙ own-span v (rowAt t i .word3)
 
+  -- a row says the size of its value
+  pub row-size : (v : Val) (i : ℕ) → StandFor t s i v → rowAt t i .size ≡ SizeOfV v
+  row-size v i h = ap (λ (r : Row). r .size) (own-row v i h) ∙ own-size v (rowAt t i .word3)
+
   children-more : (parent end count i n : ℕ) (v : Val) (vs : Vals) → i < end → rowAt t i .span ≡ n → walkRow t s end i ≡ accepted v → childrenOf t s parent end count (i + n) ≡ accepted vs → childrenOf t s parent end (suc count) i ≡ accepted (vcons v vs)
   unfolding walkChildren
   children-more parent end count i n v vs h e a b = test-true _ _ (lt-ltb i end h) ∙ rw (a, e, b)
 
   -- what row i comes to where its words are r
   abbrev step : Row → ℕ → ℕ → Outcome Reason Val
-  step r end i = bind (checkRow r (length s) i end) (λ count. map (rowValue (kindOf (r .kind)) r s) (childrenOf t s i (i + r .span) count (suc i)))
+  step r end i = bind (checkRow r (length s) i end) (λ count. bind (childrenOf t s i (i + r .span) count (suc i)) (λ vs. checkSizeWord r i (rowValue (kindOf (r .kind)) r s vs)))
 
-  -- a row that passes by itself and is of class c, and its children
-  passes : (i end : ℕ) {r : Row} {c : Kind} {vs : Vals} → rowAt t i ≡ r → kindOf (r .kind) ≡ c → 1 ≤ r .span → i + r .span ≤ end → keepsRule c r ≡ true → withinStore c r (length s) ≡ true → childrenOf t s i (i + r .span) (childCount c r) (suc i) ≡ accepted vs → walkRow t s end i ≡ accepted (rowValue c r s vs)
-  unfolding checkRow
-  passes i end {r} e k m h p w d =
+  -- a row that passes by itself, is of class c and says its value's size, and its children
+  passes : (i end : ℕ) {r : Row} {c : Kind} {vs : Vals} → rowAt t i ≡ r → kindOf (r .kind) ≡ c → 1 ≤ r .span → i + r .span ≤ end → keepsRule c r ≡ true → withinStore c r (length s) ≡ true → childrenOf t s i (i + r .span) (childCount c r) (suc i) ≡ accepted vs → r .size ≡ SizeOfV (rowValue c r s vs) → walkRow t s end i ≡ accepted (rowValue c r s vs)
+  unfolding checkRow checkSizeWord
+  passes i end {r} {c} {vs} e k m h p w d z =
       let l : rowAt t i .span ≡ r .span = ap (λ (x : Row). x .span) e in
       walk-row t s end i (omega arith) ∙ ap (λ (x : Row). step x end i) e
-      ∙ rw (k, le-leb 1 (r .span) m, le-leb (i + r .span) end h, p, w, d)
+      ∙ rw (k, le-leb 1 (r .span) m, le-leb (i + r .span) end h, p, w, d, eq-eqb (r .size) (SizeOfV (rowValue c r s vs)) z)
 
   mutual
     unfolding StandFor ownRow rowValue rowCount TypedVal kindOf kinds
 
     pub stands-walk : (v : Val) (i end : ℕ) → TypedVal v → i + rowCount v ≤ end → StandFor t s i v → walkRow t s end i ≡ accepted v
-    stands-walk VConstant i end d h st = passes i end {vs = vnil} st refl (omega arith) h refl refl (children-none t s i (i + 1) (suc i) (omega arith))
-    stands-walk (VNumber k n) i end d h st = passes i end {vs = vnil} st (number-kind k) (omega arith) h (rw (lt-ltb n (256 ^ width k) d)) refl (children-none t s i (i + 1) (suc i) (omega arith))
-    stands-walk (VArray vs) i end d h st = passes i end (st .0) refl (omega arith) h refl refl (stands-children vs i (suc i) (i + rowCount (VArray vs)) d (omega arith) (st .1))
-    stands-walk (VTuple vs) i end d h st = passes i end (st .0) refl (omega arith) h refl refl (stands-children vs i (suc i) (i + rowCount (VTuple vs)) d (omega arith) (st .1))
+    stands-walk VConstant i end d h st = passes i end {vs = vnil} st refl (omega arith) h refl refl (children-none t s i (i + 1) (suc i) (omega arith)) refl
+    stands-walk (VNumber k n) i end d h st = passes i end {vs = vnil} st (number-kind k) (omega arith) h (rw (lt-ltb n (256 ^ width k) d)) refl (children-none t s i (i + 1) (suc i) (omega arith)) refl
+    stands-walk (VArray vs) i end d h st = passes i end (st .0) refl (omega arith) h refl refl (stands-children vs i (suc i) (i + rowCount (VArray vs)) d (omega arith) (st .1)) refl
+    stands-walk (VTuple vs) i end d h st = passes i end (st .0) refl (omega arith) h refl refl (stands-children vs i (suc i) (i + rowCount (VTuple vs)) d (omega arith) (st .1)) refl
     stands-walk (VNumberArray k ns) i end d h st =
         let w = elementWidth k in
         let place = rowAt t i .word3 in
         let e : unpackLittleEndianSeq w (take (w * length ns) (drop place s)) (length ns) ≡ ns = ap (λ (l : List ℕ). unpackLittleEndianSeq w l (length ns)) (st .1 .bytes ∙ sym (append-nil (packLittleEndianSeq w ns))) ∙ unpackSeq-packSeq w ns [] d in
-        passes i end {vs = vnil} (st .0) (elements-kind k) (omega arith) h refl (le-leb (place + w * length ns) (length s) (st .1 .within)) (children-none t s i (i + 1) (suc i) (omega arith)) ∙ rw e
+        passes i end {vs = vnil} (st .0) (elements-kind k) (omega arith) h refl (le-leb (place + w * length ns) (length s) (st .1 .within)) (children-none t s i (i + 1) (suc i) (omega arith)) (sym (ap (λ (l : List ℕ). SizeOfV (VNumberArray k l)) e)) ∙ rw e
     stands-walk (VCase c v) i end d h st =
         passes i end (st .0) refl (omega arith) h refl refl
         (children-more i (i + rowCount (VCase c v)) 0 (suc i) (rowCount v) v vnil (omega (arith, rowCount-positive v)) (row-span v (suc i) (st .1))
         (stands-walk v (suc i) (i + rowCount (VCase c v)) (d .1) (omega arith) (st .1))
         (children-none t s i (i + rowCount (VCase c v)) (suc i + rowCount v) (omega arith)))
+        refl
 
     pub stands-children : (vs : Vals) (parent i end : ℕ) → TypedVals vs → i + rowCounts vs ≡ end → StandForAll t s i vs → childrenOf t s parent end (length (seqV vs)) i ≡ accepted vs
     stands-children vnil parent i end d h st = children-none t s parent end i (omega arith)
@@ -150,46 +165,48 @@ pub record WalkedAll (t s : List ℕ) (end count i : ℕ) (vs : Vals) : Type 0 w
   pub typed : TypedVals vs
   pub reach : i + rowCounts vs ≡ end
   pub many : length (seqV vs) ≡ count
+  pub sizes : childSizes t count i ≡ SeqSum vs
 
 module _ (t s : List ℕ) (words : Below (2 ^ 64) t) (bytes : Bytes s) where
-  children-walked : (f : ℕ → Outcome Reason Val) (parent end : ℕ) → ((j : ℕ) → Gives (Walked t s end j) (f j)) → (count i : ℕ) → i ≤ end → Gives (WalkedAll t s end count i) (walkChildren t f parent end count i)
-  unfolding walkChildren StandFor ValidVal TypedVal rowCount
+  pub children-walked : (f : ℕ → Outcome Reason Val) (parent end : ℕ) → ((j : ℕ) → Gives (Walked t s end j) (f j)) → (count i : ℕ) → i ≤ end → Gives (WalkedAll t s end count i) (walkChildren t f parent end count i)
+  unfolding walkChildren StandFor ValidVal TypedVal rowCount childSizes SizeOfV
   children-walked f parent end g zero i h =
-      post-reflects _ _ _ (reflects-eqb i end) (λ e. holds _ (record { rows = tt; valid = tt; typed = tt; reach = omega arith; many = refl })) (λ _. tt)
+      post-reflects _ _ _ (reflects-eqb i end) (λ e. holds _ (record { rows = tt; valid = tt; typed = tt; reach = omega arith; many = refl; sizes = refl })) (λ _. tt)
   children-walked f parent end g (suc count) i h =
       post-reflects _ _ _ (reflects-ltb i end) (λ l. post-bind _ (g i) (λ v p.
       let e : rowAt t i .span ≡ rowCount v = row-span t s v i (p .rows) in
+      let z = row-size t s v i (p .rows) in
       rw e (gives-map (vcons v) (children-walked f parent end g count (i + rowCount v) (p .reach)) (λ vs q.
-      record { rows = (p .rows, q .rows); valid = (p .valid, q .valid); typed = (p .typed, q .typed); reach = omega (arith, q .reach); many = ap suc (q .many) }))))
+      record { rows = (p .rows, q .rows); valid = (p .valid, q .valid); typed = (p .typed, q .typed); reach = omega (arith, q .reach); many = ap suc (q .many); sizes = omega (arith, z, ap (λ (n : ℕ). childSizes t count (i + n)) e, q .sizes) }))))
       (λ _. tt)
 
   -- a row that counts its children
-  counted-row : (c : Kind) (i : ℕ) (vs : Vals) → kindOf (rowAt t i .kind) ≡ c → keepsRule c (rowAt t i) ≡ true → rowAt t i .word3 ≡ 0 → WalkedAll t s (i + rowAt t i .span) (rowAt t i .word2) (suc i) vs → rowAt t i ≡ record { kind = wordOf c; span = 1 + rowCounts vs; word2 = length (seqV vs); word3 = 0 }
-  counted-row c i vs e o z q = row-eq (rowAt t i) (kind-is (rowAt t i) e o) (omega (arith, q .reach)) (sym (q .many)) z
+  counted-row : (c : Kind) (i : ℕ) (vs : Vals) {size : ℕ} → kindOf (rowAt t i .kind) ≡ c → keepsRule c (rowAt t i) ≡ true → rowAt t i .word3 ≡ 0 → WalkedAll t s (i + rowAt t i .span) (rowAt t i .word2) (suc i) vs → rowAt t i .size ≡ size → rowAt t i ≡ record { kind = wordOf c; span = 1 + rowCounts vs; word2 = length (seqV vs); word3 = 0; size = size }
+  counted-row c i vs e o u q z = row-eq (rowAt t i) (kind-is (rowAt t i) e o) (omega (arith, q .reach)) (sym (q .many)) u z
 
   counted-below : (i : ℕ) (vs : Vals) → WalkedAll t s (i + rowAt t i .span) (rowAt t i .word2) (suc i) vs → length (seqV vs) < 2 ^ 64
   counted-below i vs q = rw (q .many) (word-below t words (rowWidth * i + 2))
 
-  -- the value of a row of class c that passes by itself, by its children's
-  row-walked : (c : Kind) (i end : ℕ) (vs : Vals) → kindOf (rowAt t i .kind) ≡ c → Passed (rowAt t i) (length s) i end (childCount c (rowAt t i)) → WalkedAll t s (i + rowAt t i .span) (childCount c (rowAt t i)) (suc i) vs → Walked t s end i (rowValue c (rowAt t i) s vs)
+  -- the value of a row of class c that passes by itself and says its size, by its children's
+  row-walked : (c : Kind) (i end : ℕ) (vs : Vals) → kindOf (rowAt t i .kind) ≡ c → Passed (rowAt t i) (length s) i end (childCount c (rowAt t i)) → WalkedAll t s (i + rowAt t i .span) (childCount c (rowAt t i)) (suc i) vs → rowAt t i .size ≡ SizeOfV (rowValue c (rowAt t i) s vs) → Walked t s end i (rowValue c (rowAt t i) s vs)
   unfolding StandFor ValidVal TypedVal rowCount rowValue ownRow
-  row-walked constant i end vs e p q =
+  row-walked constant i end vs e p q z =
       let r = rowAt t i in
       let o = rw e at (p .rule) in
       let x = reflects-and (reflects-eqb (r .span) 1) (reflects-and (reflects-eqb (r .word2) 0) (reflects-eqb (r .word3) 0)) .1 o in
-      record { rows = row-eq r (kind-is r e o) (x .0) (x .1 .0) (x .1 .1); valid = tt; typed = tt; reach = omega (arith, p .reach, x .0) }
-  row-walked (number k) i end vs e p q =
+      record { rows = row-eq r (kind-is r e o) (x .0) (x .1 .0) (x .1 .1) z; valid = tt; typed = tt; reach = omega (arith, p .reach, x .0) }
+  row-walked (number k) i end vs e p q z =
       let r = rowAt t i in
       let o = rw e at (p .rule) in
       let x = reflects-and (reflects-eqb (r .span) 1) (reflects-and (reflects-ltb (r .word2) (256 ^ width k)) (reflects-eqb (r .word3) 0)) .1 o in
-      record { rows = row-eq r (kind-is r e o) (x .0) refl (x .1 .1); valid = tt; typed = x .1 .0; reach = omega (arith, p .reach, x .0) }
-  row-walked array i end vs e p q =
+      record { rows = row-eq r (kind-is r e o) (x .0) refl (x .1 .1) z; valid = tt; typed = x .1 .0; reach = omega (arith, p .reach, x .0) }
+  row-walked array i end vs e p q z =
       let o = rw e at (p .rule) in
-      record { rows = (counted-row array i vs e o (eqb-true (rowAt t i .word3) 0 o) q, q .rows); valid = (counted-below i vs q, q .valid); typed = q .typed; reach = omega (arith, p .reach, q .reach) }
-  row-walked tuple i end vs e p q =
+      record { rows = (counted-row array i vs e o (eqb-true (rowAt t i .word3) 0 o) q z, q .rows); valid = (counted-below i vs q, q .valid); typed = q .typed; reach = omega (arith, p .reach, q .reach) }
+  row-walked tuple i end vs e p q z =
       let o = rw e at (p .rule) in
-      record { rows = (counted-row tuple i vs e o (eqb-true (rowAt t i .word3) 0 o) q, q .rows); valid = (counted-below i vs q, q .valid); typed = q .typed; reach = omega (arith, p .reach, q .reach) }
-  row-walked (elements k) i end vs e p q =
+      record { rows = (counted-row tuple i vs e o (eqb-true (rowAt t i .word3) 0 o) q z, q .rows); valid = (counted-below i vs q, q .valid); typed = q .typed; reach = omega (arith, p .reach, q .reach) }
+  row-walked (elements k) i end vs e p q z =
       let r = rowAt t i in
       let w = elementWidth k in
       let o = rw e at (p .rule) in
@@ -197,28 +214,30 @@ module _ (t s : List ℕ) (words : Below (2 ^ 64) t) (bytes : Bytes s) where
       let f : r .word3 + w * r .word2 ≤ length s = leb-true (r .word3 + w * r .word2) (length s) (rw e at (p .within)) in
       let u : unpackLittleEndianSeq w (take (w * r .word2) (drop (r .word3) s)) (r .word2) ≡ unpackLittleEndianSeq w (drop (r .word3) s) (r .word2) = unpackSeq-take w (r .word2) (w * r .word2) (drop (r .word3) s) (omega arith) in
       let l : length (unpackLittleEndianSeq w (drop (r .word3) s) (r .word2)) ≡ r .word2 = length-unpackSeq w (drop (r .word3) s) (r .word2) in
+      let y : r .size ≡ SizeOfV (VNumberArray k (unpackLittleEndianSeq w (drop (r .word3) s) (r .word2))) = z ∙ ap (λ (x : List ℕ). SizeOfV (VNumberArray k x)) u in
       rw u (record {
-        rows = (row-eq r (kind-is r e o) n (sym l) refl, record { within = rw l f; bytes = rw l (sym (packSeq-unpackSeq w (r .word2) (drop (r .word3) s) (bytes-drop (r .word3) s bytes) (rw length-drop (omega arith)))) });
+        rows = (row-eq r (kind-is r e o) n (sym l) refl y, record { within = rw l f; bytes = rw l (sym (packSeq-unpackSeq w (r .word2) (drop (r .word3) s) (bytes-drop (r .word3) s bytes) (rw length-drop (omega arith)))) });
         valid = rw l (word-below t words (rowWidth * i + 2));
         typed = unpackSeq-below w (drop (r .word3) s) (r .word2) (bytes-drop (r .word3) s bytes);
         reach = omega (arith, p .reach);
       })
-  row-walked union i end vnil e p q = absurd (omega (arith, q .many))
-  row-walked union i end (vcons v vnil) e p q =
+  row-walked union i end vnil e p q z = absurd (omega (arith, q .many))
+  row-walked union i end (vcons v vnil) e p q z =
       let r = rowAt t i in
       let o = rw e at (p .rule) in
       let n : r .span ≡ 1 + rowCount v = omega (arith, q .reach) in
-      record { rows = (row-eq r (kind-is r e o) n refl (eqb-true (r .word3) 0 o), q .rows .0); valid = q .valid .0; typed = (word-below t words (rowWidth * i + 2), q .typed .0); reach = omega (arith, p .reach) }
-  row-walked union i end (vcons v (vcons u vs)) e p q = absurd (omega (arith, q .many))
-  row-walked other i end vs e p q = let o : false ≡ true = rw e at (p .rule) in let z : _≡_ {A = ℕ} 0 1 = cc in absurd (omega arith)
+      record { rows = (row-eq r (kind-is r e o) n refl (eqb-true (r .word3) 0 o) z, q .rows .0); valid = q .valid .0; typed = (word-below t words (rowWidth * i + 2), q .typed .0); reach = omega (arith, p .reach) }
+  row-walked union i end (vcons v (vcons u vs)) e p q z = absurd (omega (arith, q .many))
+  row-walked other i end vs e p q z = let o : false ≡ true = rw e at (p .rule) in let y : _≡_ {A = ℕ} 0 1 = cc in absurd (omega arith)
 
   pub walk-walked : (depth end i : ℕ) → Gives (Walked t s end i) (walkTo t s depth end i)
-  unfolding walkTo
+  unfolding walkTo checkSizeWord
   walk-walked zero end i = fails _ tt
   walk-walked (suc depth) end i = post-bind _ (row-post (rowAt t i) (length s) i end) (λ count p.
       let e : count ≡ childCount (kindOf (rowAt t i .kind)) (rowAt t i) = p .children in
-      gives-map _ (children-walked (walkTo t s depth (i + rowAt t i .span)) i (i + rowAt t i .span) (walk-walked depth (i + rowAt t i .span)) count (suc i) (omega (arith, p .some))) (λ vs q.
-      row-walked (kindOf (rowAt t i .kind)) i end vs refl (rw e at p) (rw e at q)))
+      post-bind _ (children-walked (walkTo t s depth (i + rowAt t i .span)) i (i + rowAt t i .span) (walk-walked depth (i + rowAt t i .span)) count (suc i) (omega (arith, p .some))) (λ vs q.
+      post-reflects _ _ _ (reflects-eqb (rowAt t i .size) (SizeOfV (rowValue (kindOf (rowAt t i .kind)) (rowAt t i) s vs)))
+      (λ z. holds _ (row-walked (kindOf (rowAt t i .kind)) i end vs refl (rw e at p) (rw e at q) z)) (λ _. tt)))
 
 -- ---- the whole table
 

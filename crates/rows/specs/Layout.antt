@@ -7,14 +7,14 @@ use Rattle.value.specs.Tree.{Val, Vals, VConstant, VNumber, VArray, VTuple, VNu
 use Rattle.tables.specs.Row.{Row, rowWords}
 
 -- the row of v itself. Word 2 is 0 for a constant, the number, of kinds 9 and 10 its pattern, the element count, or the tag; word 3 is the
--- place of the first element for kinds 5 to 7, else 0
+-- place of the first element for kinds 5 to 7, else 0; the fifth word is the size of v
 unfoldable pub ownRow : Val → ℕ → Row
-ownRow VConstant place = record { kind = 0; span = rowCount VConstant; word2 = 0; word3 = 0 }
-ownRow (VNumber k n) place = record { kind = numberKind k; span = rowCount (VNumber k n); word2 = n; word3 = 0 }
-ownRow (VArray vs) place = record { kind = 3; span = rowCount (VArray vs); word2 = length (seqV vs); word3 = 0 }
-ownRow (VTuple vs) place = record { kind = 4; span = rowCount (VTuple vs); word2 = length (seqV vs); word3 = 0 }
-ownRow (VNumberArray k ns) place = record { kind = elementsKind k; span = rowCount (VNumberArray k ns); word2 = length ns; word3 = place }
-ownRow (VCase c v) place = record { kind = 8; span = rowCount (VCase c v); word2 = c; word3 = 0 }
+ownRow VConstant place = record { kind = 0; span = rowCount VConstant; word2 = 0; word3 = 0; size = SizeOfV VConstant }
+ownRow (VNumber k n) place = record { kind = numberKind k; span = rowCount (VNumber k n); word2 = n; word3 = 0; size = SizeOfV (VNumber k n) }
+ownRow (VArray vs) place = record { kind = 3; span = rowCount (VArray vs); word2 = length (seqV vs); word3 = 0; size = SizeOfV (VArray vs) }
+ownRow (VTuple vs) place = record { kind = 4; span = rowCount (VTuple vs); word2 = length (seqV vs); word3 = 0; size = SizeOfV (VTuple vs) }
+ownRow (VNumberArray k ns) place = record { kind = elementsKind k; span = rowCount (VNumberArray k ns); word2 = length ns; word3 = place; size = SizeOfV (VNumberArray k ns) }
+ownRow (VCase c v) place = record { kind = 8; span = rowCount (VCase c v); word2 = c; word3 = 0; size = SizeOfV (VCase c v) }
 
 -- the words of the rows of v, whose bytes start at byte p of the store: its own row, then its children's.
 -- What follows a count or a tag starts 8 bytes on, an array's elements too

@@ -40,6 +40,18 @@ module _ (t s : List ℕ) where
     StandForAll i vnil = Unit {0}
     StandForAll i (vcons v vs) = StandFor i v × StandForAll (i + rowCount v) vs
 
+-- u is one of some values
+pub data Among (u : Val) : Vals → Type 0 where
+  here : {vs : Vals} → Among u (vcons u vs)
+  there : {v : Val} {vs : Vals} → Among u vs → Among u (vcons v vs)
+
+-- u is v itself or an element, a field or a case value in it, at any depth
+pub data ValueIn (v : Val) : Val → Type 0 where
+  itself : ValueIn v v
+  element : {u : Val} {vs : Vals} → ValueIn v (VArray vs) → Among u vs → ValueIn v u
+  field : {u : Val} {vs : Vals} → ValueIn v (VTuple vs) → Among u vs → ValueIn v u
+  caseValue : {c : ℕ} {u : Val} → ValueIn v (VCase c u) → ValueIn v u
+
 -- n rows, with a store, are a table of v
 pub record TableOf (t : List ℕ) (n : ℕ) (s : List ℕ) (v : Val) : Type 0 where
   pub store : length s ≤ 1048576

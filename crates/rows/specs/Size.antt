@@ -1,13 +1,14 @@
--- The bytes of a row by itself, and what the rows come to.
+-- The bytes of a row by itself, what the rows come to, and the sizes that the rows of children say.
+use mathlib.Core.Path.{_≡_}
 use Prim.Native.Nat.{ℕ, zero, suc, _+_, _*_, _≤_}
 use mathlib.Core.List.{List, [], _++_}
 use lib.ListN.{take, drop}
 use Rattle.refusal.specs.Outcome.{Outcome, accepted, refused, map, Reason}
 use Rattle.packed.specs.Packed.{packLittleEndian}
 use Rattle.value.specs.Kinds.{width, elementWidth, Kind, kindOf, constant, number, array, tuple, elements, union, other}
-use Rattle.value.specs.Tree.{SizeOfV}
+use Rattle.value.specs.Tree.{Vals, SizeOfV}
 use Rattle.tables.specs.Row.{Row, rowAt}
-use Rattle.rows.specs.Walk.{walk}
+use Rattle.rows.specs.Walk.{walkChildren, walkRow, walk}
 
 -- what `compute_size_of` answers: the walk's refusal, or GM's `SizeOfV` of the value
 abbrev pub computeSizeOf : List ℕ → ℕ → List ℕ → Outcome Reason ℕ
@@ -69,8 +70,26 @@ ownBytesAt t s i = ownAt ownBytes t s i
 abbrev pub bytesFrom : List ℕ → List ℕ → ℕ → ℕ → List ℕ
 bytesFrom t s i n = ownFrom ownBytes t s i n
 
-abbrev pub sizeAt : List ℕ → ℕ → ℕ
-sizeAt t i = ofRow ownSize t i
+abbrev pub ownSizeAt : List ℕ → ℕ → ℕ
+ownSizeAt t i = ofRow ownSize t i
 
 abbrev pub sizeFrom : List ℕ → ℕ → ℕ → ℕ
 sizeFrom t i n = sumFrom ownSize t i n
+
+-- ---- children, as their rows say
+
+-- the fifth words of so many children from row i on, each behind the rows of the one before, added up
+unfoldable pub childSizes : List ℕ → ℕ → ℕ → ℕ
+childSizes t zero i = 0
+childSizes t (suc count) i = rowAt t i .size + childSizes t count (i + rowAt t i .span)
+
+-- these children passed the walk, in some store and up to some end, and their sizes are those of 4,096 rows at most
+pub record ChildrenHold (t : List ℕ) (count first : ℕ) : Type 0 where
+  pub store : List ℕ
+  pub parent : ℕ
+  pub end : ℕ
+  pub values : Vals
+  pub few : end ≤ 4096
+  pub reach : first ≤ end
+  pub walked : walkChildren t (walkRow t store end) parent end count first ≡ accepted values
+  pub small : childSizes t count first ≤ mostOwnSize * 4096

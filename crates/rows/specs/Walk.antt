@@ -7,7 +7,7 @@ use lib.Dec.{leb, ltb, eqb}
 use Rattle.refusal.specs.Outcome.{Outcome, accepted, refused, bind, test, map, Reason, reason, byte, row}
 use Rattle.packed.specs.Packed.{unpackLittleEndianSeq}
 use Rattle.value.specs.Kinds.{width, elementWidth, Kind, kindOf, constant, number, array, tuple, elements, union, other}
-use Rattle.value.specs.Tree.{Val, Vals, VConstant, VNumber, VArray, VTuple, VNumberArray, VCase, vnil, vcons}
+use Rattle.value.specs.Tree.{Val, Vals, VConstant, VNumber, VArray, VTuple, VNumberArray, VCase, vnil, vcons, SizeOfV}
 use Rattle.tables.specs.Row.{rowWidth, Row, rowAt}
 
 -- a row's words by its kind: no children, so span 1; a number's limit, which every word keeps at width 8; unused words 0
@@ -70,14 +70,18 @@ walkChildren t walk parent end (suc count) i =
     test (ltb i end) (reason 13 (row parent))
     (λ _. bind (walk i) (λ v. map (vcons v) (walkChildren t walk parent end count (i + rowAt t i .span))))
 
+-- row i as a whole, whose value its children have given: 13 where its fifth word is not the value's size
+unfoldable pub checkSizeWord : Row → ℕ → Val → Outcome Reason Val
+checkSizeWord r i v = test (eqb (r .size) (SizeOfV v)) (reason 13 (row i)) (λ _. accepted v)
+
 module _ (t s : List ℕ) where
-  -- row i, which may reach to `end`, and what is in it down to a depth
+  -- row i, which may reach to `end`, and what is in it down to a depth: the row by itself, its children, its size
   unfoldable pub walkTo : ℕ → ℕ → ℕ → Outcome Reason Val
   walkTo zero end i = refused (reason 13 (row i))
   walkTo (suc depth) end i =
       bind (checkRow (rowAt t i) (length s) i end) (λ count.
-      map (rowValue (kindOf (rowAt t i .kind)) (rowAt t i) s)
-      (walkChildren t (walkTo depth (i + rowAt t i .span)) i (i + rowAt t i .span) count (suc i)))
+      bind (walkChildren t (walkTo depth (i + rowAt t i .span)) i (i + rowAt t i .span) count (suc i)) (λ vs.
+      checkSizeWord (rowAt t i) i (rowValue (kindOf (rowAt t i .kind)) (rowAt t i) s vs)))
 
   -- row i, which may reach to `end`. A child is behind its parent, so `end - i` levels are all there are (`walk-depth` of proofs/)
   abbrev pub walkRow : ℕ → ℕ → Outcome Reason Val

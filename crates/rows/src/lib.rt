@@ -3,13 +3,13 @@ ghost use mathlib.Core.Path.{_≡_};
 ghost use mathlib.Core.Bool.{_&&_, _||_};
 ghost use Prim.Native.Nat.{ℕ, _+_, _*_, _≤_, _<_};
 ghost use lib.ListN.{length};
-ghost use lib.Dec.{leb, ltb};
+ghost use lib.Dec.{leb, ltb, eqb};
 ghost use Rattle.refusal.specs.Outcome.{accepted, refused, test, map, reason, row as atRow};
 ghost use Rattle.refusal.specs.Meaning.{outcomeOf};
 ghost use Rattle.value.specs.Kinds.{kindOf};
 ghost use Rattle.tables.specs.Row.{rowAt};
 ghost use Rattle.rows.specs.Walk.{checkRow, walkChildren, walkRow, countHolds, walk};
-ghost use Rattle.rows.specs.Size.{computeSizeOf, AtMost, mostOwnSize, sizeAt, sizeFrom};
+ghost use Rattle.rows.specs.Size.{computeSizeOf, AtMost, mostOwnSize, ownSizeAt, childSizes, ChildrenHold};
 ghost use Rattle.rows.specs.Locate.{lookUp, elementsPart, locateArray, PartOf};
 ghost use Rattle.rows.specs.Meaning.{wanted, sizeOf, located};
 use refusal::Answer;
@@ -108,6 +108,53 @@ fn is_parent(wanted: u64, row: usize, next: usize) -> bool
     row + 1 < next
 }
 
+// A row's own bytes, without its children's.
+fn own_size(rows: &[u64], row: usize) -> u64
+    requires { ⌜ ownSizeAt (now rows) row ≤ mostOwnSize ⌝ }
+    ensures { λ r. ⌜ r ≡ ownSizeAt (now (rows .entry)) row ⌝ }
+{
+    let count = tables::word2_at(rows, row);
+    match tables::kind_at(rows, row) {
+        0 => 0,
+        1 => 4,
+        2 => 8,
+        3 => 8,
+        4 => 0,
+        5 => 8 + count,
+        6 => 8 + 4 * count,
+        7 => 8 + 8 * count,
+        8 => 8,
+        9 => 4,
+        10 => 8,
+        11.. => 0,
+    }
+}
+
+// GM's `ComputeSeqSum`: the sizes of so many children from row `first` on, which have passed, as their rows say.
+fn compute_seq_sum(rows: &[u64], first: usize, count: u64) -> u64
+    requires { ⌜ ChildrenHold (now rows) count first ⌝ }
+    ensures { λ r. ⌜ r ≡ childSizes (now (rows .entry)) count first ⌝ }
+{
+    let mut sum: u64 = 0;
+    let mut i = first;
+    let mut left = count;
+    while 0 < left {
+        sum += tables::size_at(rows, i);
+        i += tables::span_at(rows, i) as usize;
+        left -= 1;
+    }
+    sum
+}
+
+// Whether a row's fifth word is the size of its value: its own bytes and those of its children, which have passed.
+fn size_holds(rows: &[u64], row: usize, count: u64) -> bool
+    requires { ⌜ (ownSizeAt (now rows) row ≤ mostOwnSize) × ChildrenHold (now rows) count (row + 1) ⌝ }
+    ensures { λ r. ⌜ r ≡ eqb (rowAt (now (rows .entry)) row .size) (ownSizeAt (now (rows .entry)) row + childSizes (now (rows .entry)) count (row + 1)) ⌝ }
+{
+    let own = own_size(rows, row);
+    tables::size_at(rows, row) == own + compute_seq_sum(rows, row + 1, count)
+}
+
 // The children that a row wants, from row `first` on, which are to fill the rows up to `end`. A child is called for where it is a
 // parent itself: calls nest once for each level, of which 4,096 rows have 4,096 at most. Its span is read beside its other words,
 // so that one test finds them all.
@@ -119,7 +166,7 @@ fn check_children(
     count: u64,
     end: usize,
 ) -> Answer
-    requires { ⌜ first ≤ end ⌝ }
+    requires { ⌜ (first ≤ end) × (end ≤ 4096) × (length (now store) ≤ 1048576) ⌝ }
     ensures { λ r. ⌜ outcomeOf r ≡ map (λ _. tt) (walkChildren (now (rows .entry)) (walkRow (now (rows .entry)) (now (store .entry)) end) parent end count first) ⌝ }
 {
     let mut i = first;
@@ -137,6 +184,9 @@ fn check_children(
                     if let Answer::Refused(r) = check_children(rows, store, i, i + 1, inner, next) {
                         return Answer::Refused(r);
                     }
+                }
+                if !size_holds(rows, i, inner) {
+                    return Answer::Refused(refusal::at_row(refusal::ROW_MALFORMED, i));
                 }
                 i = next;
             }
@@ -175,49 +225,13 @@ pub fn check_rows(rows: &[u64], n: usize, store: &[u8]) -> Answer
     check_children(rows, store, 0, 0, 1, n)
 }
 
-// A row's own bytes, without its children's.
-fn own_size(rows: &[u64], row: usize) -> u64
-    requires { ⌜ sizeAt (now rows) row ≤ mostOwnSize ⌝ }
-    ensures { λ r. ⌜ r ≡ sizeAt (now (rows .entry)) row ⌝ }
-{
-    let count = tables::word2_at(rows, row);
-    match tables::kind_at(rows, row) {
-        0 => 0,
-        1 => 4,
-        2 => 8,
-        3 => 8,
-        4 => 0,
-        5 => 8 + count,
-        6 => 8 + 4 * count,
-        7 => 8 + 8 * count,
-        8 => 8,
-        9 => 4,
-        10 => 8,
-        11.. => 0,
-    }
-}
-
-// GM's `ComputeSeqSum`, over all rows: a value's bytes are its rows' own, one behind the other.
-fn compute_seq_sum(rows: &[u64], n: usize) -> u64
-    requires { ⌜ (n ≤ 4096) × ((j : ℕ) → j < n → sizeAt (now rows) j ≤ mostOwnSize) ⌝ }
-    ensures { λ r. ⌜ r ≡ sizeFrom (now (rows .entry)) 0 n ⌝ }
-{
-    let mut sum: u64 = 0;
-    let mut i: usize = 0;
-    while i < n {
-        sum += own_size(rows, i);
-        i += 1;
-    }
-    sum
-}
-
-// GM's `ComputeSizeOf`: 6, 12, 13, 14, else `SizeOfV` of the value that the rows stand for.
+// GM's `ComputeSizeOf`: 6, 12, 13, 14, else `SizeOfV` of the value that the rows stand for, which row 0 says.
 pub fn compute_size_of(rows: &[u64], n: usize, store: &[u8]) -> SizeOf
     ensures { λ r. ⌜ (sizeOf r ≡ computeSizeOf (now (rows .entry)) n (now (store .entry))) × AtMost 4293951488 (sizeOf r) ⌝ }
 {
     match check_rows(rows, n, store) {
         Answer::Refused(r) => SizeOf::Refused(r),
-        Answer::Accepted => SizeOf::Size(compute_seq_sum(rows, n)),
+        Answer::Accepted => SizeOf::Size(tables::size_at(rows, 0)),
     }
 }
 
@@ -239,7 +253,7 @@ fn no_elements(row: usize) -> Located
 
 // The elements of a row in the store; 18 where its kind has none.
 fn elements_at(rows: &[u64], row: usize) -> Located
-    requires { ⌜ sizeAt (now rows) row ≤ mostOwnSize ⌝ }
+    requires { ⌜ ownSizeAt (now rows) row ≤ mostOwnSize ⌝ }
     ensures { λ r. ⌜ located r ≡ elementsPart (kindOf (rowAt (now (rows .entry)) row .kind)) (rowAt (now (rows .entry)) row) (reason 18 (atRow row)) ⌝ }
 {
     let count = tables::word2_at(rows, row) as usize;

@@ -7,7 +7,7 @@ ghost use Rattle.tables.specs.Grammar.{firstWord, childWord};
 ghost use Rattle.tables.specs.Row.{rowWidth, rowAt, laid};
 
 // The words of a row.
-pub const ROW_WIDTH: usize = 4;
+pub const ROW_WIDTH: usize = 5;
 
 // The rows of the largest value, and of the largest capacity.
 pub const MOST_ROWS: usize = 4096;
@@ -64,9 +64,24 @@ pub fn word3_at(rows: &[u64], row: usize) -> u64
     row_word(rows, row, 3)
 }
 
+// The size of the row's value, as the row says.
+pub fn size_at(rows: &[u64], row: usize) -> u64
+    ensures { λ r. ⌜ r ≡ rowAt (now (rows .entry)) row .size ⌝ }
+{
+    row_word(rows, row, 4)
+}
+
 // Puts a row where the slice has all its words, else nothing.
-pub fn put_row(rows: &mut [u64], row: usize, kind: u64, span: u64, word2: u64, word3: u64)
-    ensures { λ _. ⌜ now (rows .exit) ≡ laid (now (rows .entry)) row (kind ∷ span ∷ word2 ∷ word3 ∷ []) ⌝ }
+pub fn put_row(
+    rows: &mut [u64],
+    row: usize,
+    kind: u64,
+    span: u64,
+    word2: u64,
+    word3: u64,
+    size: u64,
+)
+    ensures { λ _. ⌜ now (rows .exit) ≡ laid (now (rows .entry)) row (kind ∷ span ∷ word2 ∷ word3 ∷ size ∷ []) ⌝ }
 {
     if row < rows.len() / ROW_WIDTH {
         let at = ROW_WIDTH * row;
@@ -74,6 +89,7 @@ pub fn put_row(rows: &mut [u64], row: usize, kind: u64, span: u64, word2: u64, w
         rows[at + 1] = span;
         rows[at + 2] = word2;
         rows[at + 3] = word3;
+        rows[at + 4] = size;
     }
 }
 

@@ -5,7 +5,7 @@ ghost use Prim.Native.Nat.{ℕ, _+_, _*_, _≤_, _<_};
 ghost use lib.ListN.{length, take, drop};
 ghost use Rattle.packed.specs.Packed.{packLittleEndian, put};
 ghost use Rattle.rows.specs.Rule.{RowHolds};
-ghost use Rattle.rows.specs.Size.{ownBytesAt, sizeAt, bytesFrom, sizeFrom};
+ghost use Rattle.rows.specs.Size.{ownBytesAt, ownSizeAt, bytesFrom, sizeFrom};
 ghost use Rattle.sizing.specs.Writes.{marshallValOf};
 ghost use Rattle.writing.specs.Marshall.{Marshalls};
 use rows::SizeOf;
@@ -50,8 +50,8 @@ fn marshall_elements(
 
 // Puts a row's own bytes, without its children's, and gives the index behind them.
 fn marshall_row(rows: &[u64], row: usize, store: &[u8], out: &mut [u8], index: usize) -> usize
-    requires { ⌜ RowHolds (now rows) (now store) row × (index + sizeAt (now rows) row ≤ length (now out)) ⌝ }
-    ensures { λ r. ⌜ (r ≡ index + sizeAt (now (rows .entry)) row) × (now (out .exit) ≡ put (now (out .entry)) index (ownBytesAt (now (rows .entry)) (now (store .entry)) row)) ⌝ }
+    requires { ⌜ RowHolds (now rows) (now store) row × (index + ownSizeAt (now rows) row ≤ length (now out)) ⌝ }
+    ensures { λ r. ⌜ (r ≡ index + ownSizeAt (now (rows .entry)) row) × (now (out .exit) ≡ put (now (out .entry)) index (ownBytesAt (now (rows .entry)) (now (store .entry)) row)) ⌝ }
 {
     let kind = tables::kind_at(rows, row);
     let word2 = tables::word2_at(rows, row);

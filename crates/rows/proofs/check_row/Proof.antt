@@ -18,7 +18,7 @@ use Rattle.rows.proofs.check_row.Tie as tie
 
 -- the row as read, behind the test of its span, where its kind word is k
 abbrev read : tie.Else1 → ℕ → Row
-read c k = record { kind = k; span = c .before .before .before .before .span-at .result; word2 = c .before .before .before .word2-at .result; word3 = c .before .before .word3-at .result }
+read c k = record { kind = k; span = c .before .before .before .before .span-at .result; word2 = c .before .before .before .word2-at .result; word3 = c .before .before .word3-at .result; size = rowAt (c .before .before .before .before .before .before .before .before .args .rows .now) (c .before .before .before .before .before .before .before .before .args .row) .size }
 
 abbrev len : tie.Else1 → ℕ
 len c = length (c .before .before .before .before .before .before .before .before .args .store .now)
@@ -28,7 +28,7 @@ arm : (c : tie.Else1) (k : ℕ) {kept held : Bool} {count : ℕ} → c .before .
     test kept (reason 13 (row (a .row))) (λ _. test held (reason 14 (row (a .row))) (λ _. accepted count)) ≡ checkRow (rowAt (a .rows .now) (a .row)) (len c) (a .row) (a .end)
 arm c k e p h n =
     let a = c .before .before .before .before .before .before .before .before .args in
-    let r : read c k ≡ rowAt (a .rows .now) (a .row) = sym (row-eq (rowAt (a .rows .now) (a .row)) (sym (c .before .before .before .before .before .kind-at .ensures) ∙ e) (sym (c .before .before .before .before .span-at .ensures)) (sym (c .before .before .before .word2-at .ensures)) (sym (c .before .before .word3-at .ensures))) in
+    let r : read c k ≡ rowAt (a .rows .now) (a .row) = sym (row-eq (rowAt (a .rows .now) (a .row)) (sym (c .before .before .before .before .before .kind-at .ensures) ∙ e) (sym (c .before .before .before .before .span-at .ensures)) (sym (c .before .before .before .word2-at .ensures)) (sym (c .before .before .word3-at .ensures)) refl) in
     row-arm (read c k) (len c) (a .row) (a .end) (sym (c .before .span-holds .ensures) ∙ not-false (c .before .span-holds .result) (c .if1 .left)) p h n ∙ ap (λ (x : Row). checkRow x (len c) (a .row) (a .end)) r
 
 kind-at-requires : tie.Need-kind-at-requires

@@ -51,7 +51,7 @@ returns-3 c =
     ap refused (c .at-row2 .ensures) ∙ root-short (a .rows .now) (a .n) (a .store .now) (c .before .before .before .before .before .if1 .left) (counted (c .before .before .before)) (λ e. omega (arith, c .before .if3 .taken, c .before .before .span-at .ensures, e))
 
 check-children-requires : tie.Need-check-children-requires
-check-children-requires c κs = search needs
+check-children-requires c κs = (omega arith, there (c .before .before) .1 .0, c .before .before .before .before .if1 .left)
 
 returns-4 : tie.Need-returns-4
 returns-4 c =

@@ -1,45 +1,60 @@
--- The loop's invariant: after i rows the sum is that of these i.
-use mathlib.Core.Path.{_≡_, ap, _∙_}
-use Prim.Native.Nat.{_-_, _≤_}
+-- The loop's invariant: the children that are left have passed, and their sizes and the sum are the whole.
+use mathlib.Core.Path.{_≡_, ap, subst}
+use Prim.Native.Nat.{_+_, _-_, _*_, _≤_}
 use native.Mathlib.Omega.{arith}
-use Rattle.rows.specs.Size.{ownSize, mostOwnSize, sizeFrom}
-use Rattle.rows.proofs.Loop.{size-none, size-next, size-below}
+use Rattle.tables.specs.Row.{rowAt}
+use Rattle.rows.specs.Size.{mostOwnSize, childSizes, ChildrenHold}
+use Rattle.rows.proofs.Size.{sizes-next, hold-next, sizes-done}
 use borrow.Author.Needs.{needs}
 use Rattle.rows.proofs.compute_seq_sum.Statement.{statement}
 use Rattle.rows.proofs.compute_seq_sum.Tie as tie
 
 abbrev Inv-loop : tie.InvT-loop
-Inv-loop rows n sum₀ i₀ sum i = (i ≤ n) × (sum ≡ sizeFrom rows 0 i)
+Inv-loop rows first count sum₀ i₀ left₀ sum i left = ChildrenHold rows left i × (sum + childSizes rows left i ≡ childSizes rows count first) × (childSizes rows count first ≤ mostOwnSize * 4096)
 
 abbrev μ-loop : tie.MeasureT-loop
-μ-loop rows n sum₀ i₀ sum i = n - i
+μ-loop rows first count sum₀ i₀ left₀ sum i left = left
 
 loop-holds : tie.Need-loop-holds Inv-loop μ-loop
-loop-holds c = (omega arith, size-none ownSize (c .before .args .rows .now) 0)
+loop-holds c = (c .before .pre, omega arith, c .before .pre .small)
 
-own-size-requires : tie.Need-own-size-requires Inv-loop μ-loop
-own-size-requires c κs = c .before .before .before .pre .1 (c .before .loop .i) (c .loop-test .taken)
+size-at-requires : tie.Need-size-at-requires Inv-loop μ-loop
+size-at-requires c κs = search needs
 
 add-sum : tie.Need-add-sum Inv-loop μ-loop
 add-sum c =
-    let t = c .before .before .before .before .args .rows .now in
-    let small = c .before .before .before .before .pre .1 in
-    let i = c .before .before .loop .i in
-    omega (arith, c .own-size .ensures, small i (c .before .loop-test .taken), size-below ownSize t mostOwnSize (c .before .before .before .before .args .n) i (omega arith) small)
+    let l = c .before .before .loop in
+    omega (arith, c .size-at .ensures, l .inv .1, l .inv .2, sizes-next (c .before .before .before .before .args .rows .now) (l .left) (l .i) (c .before .loop-test .taken))
+
+span-at-requires : tie.Need-span-at-requires Inv-loop μ-loop
+span-at-requires c κs = search needs
 
 add-i : tie.Need-add-i Inv-loop μ-loop
-add-i c = search needs
+add-i c =
+    let l = c .before .before .before .loop in
+    let p = hold-next (c .before .before .before .before .before .args .rows .now) (l .left) (l .i) (c .before .before .loop-test .taken) (l .inv .0) in
+    omega (arith, c .span-at .ensures, p .reach, p .few)
+
+sub-left : tie.Need-sub-left Inv-loop μ-loop
+sub-left c = search needs
 
 loop-less : tie.Need-loop-less Inv-loop μ-loop
 loop-less c = search needs
 
 loop-again : tie.Need-loop-again Inv-loop μ-loop
-loop-again c = (omega arith, omega (arith, c .own-size .ensures, size-next ownSize (c .before .before .before .before .args .rows .now) (c .before .before .loop .i)))
+loop-again c =
+    let t = c .before .before .before .before .before .args .rows .now in
+    let l = c .before .before .before .loop in
+    let n : l .i + rowAt t (l .i) .span ≡ l .i + c .span-at .result = omega (arith, c .span-at .ensures) in (
+      subst (ChildrenHold t (l .left - 1)) n (hold-next t (l .left) (l .i) (c .before .before .loop-test .taken) (l .inv .0)),
+      omega (arith, c .before .size-at .ensures, l .inv .1, sizes-next t (l .left) (l .i) (c .before .before .loop-test .taken), ap (childSizes t (l .left - 1)) n),
+      l .inv .2,
+    )
 
 returns : tie.Need-returns Inv-loop μ-loop
 returns c =
-    let e : c .before .loop .i ≡ c .before .before .before .args .n = omega arith in
-    c .before .loop .inv .1 ∙ ap (sizeFrom (c .before .before .before .args .rows .now) 0) e
+    let l = c .before .loop in
+    omega (arith, l .inv .1, sizes-done (c .before .before .before .args .rows .now) (l .left) (l .i) (c .loop-test .left))
 
 pub compute-seq-sum-spec : {M : Type 1} → statement M
 compute-seq-sum-spec =
@@ -48,9 +63,11 @@ compute-seq-sum-spec =
     Inv-loop
     μ-loop
     loop-holds
-    own-size-requires
+    size-at-requires
     add-sum
+    span-at-requires
     add-i
+    sub-left
     loop-less
     loop-again
     returns)

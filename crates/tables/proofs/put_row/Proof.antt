@@ -5,7 +5,7 @@ use native.Mathlib.Omega.{arith}
 use lib.ListN.{length-set}
 use Rattle.tables.specs.Row.{rowWidth}
 use Rattle.packed.proofs.Fitting.{putWithin-fits, putWithin-short}
-use Rattle.tables.proofs.Laws.{put-four}
+use Rattle.tables.proofs.Laws.{put-five}
 use borrow.Author.Needs.{needs}
 use Rattle.tables.proofs.put_row.Statement.{statement}
 use Rattle.tables.proofs.put_row.Tie as tie
@@ -46,18 +46,27 @@ mul-rows-4 c = search needs
 slice-write-rows-4 : tie.Need-slice-write-rows-4
 slice-write-rows-4 c = simp length-set (omega arith)
 
+add-rows-4 : tie.Need-add-rows-4
+add-rows-4 c = search needs
+
+mul-rows-5 : tie.Need-mul-rows-5
+mul-rows-5 c = search needs
+
+slice-write-rows-5 : tie.Need-slice-write-rows-5
+slice-write-rows-5 c = simp length-set (omega arith)
+
 same-length : tie.Need-same-length
 same-length c = search needs
 
 returns : tie.Need-returns
 returns c =
     let a = c .before .args in
-    put-four (a .rows .now) (rowWidth * a .row) (a .kind) (a .span) (a .word2) (a .word3) (omega arith) ∙ sym (putWithin-fits (a .rows .now) (rowWidth * a .row) (a .kind ∷ a .span ∷ a .word2 ∷ a .word3 ∷ []) (omega arith))
+    put-five (a .rows .now) (rowWidth * a .row) (a .kind) (a .span) (a .word2) (a .word3) (a .size) (omega arith) ∙ sym (putWithin-fits (a .rows .now) (rowWidth * a .row) (a .kind ∷ a .span ∷ a .word2 ∷ a .word3 ∷ a .size ∷ []) (omega arith))
 
 returns-2 : tie.Need-returns-2
 returns-2 c =
     let a = c .before .args in
-    sym (putWithin-short (a .rows .now) (rowWidth * a .row) (a .kind ∷ a .span ∷ a .word2 ∷ a .word3 ∷ []) (omega arith))
+    sym (putWithin-short (a .rows .now) (rowWidth * a .row) (a .kind ∷ a .span ∷ a .word2 ∷ a .word3 ∷ a .size ∷ []) (omega arith))
 
 pub put-row-spec : {M : Type 1} → statement M
 put-row-spec =
@@ -75,6 +84,9 @@ put-row-spec =
     add-rows-3
     mul-rows-4
     slice-write-rows-4
+    add-rows-4
+    mul-rows-5
+    slice-write-rows-5
     same-length
     returns
     returns-2)

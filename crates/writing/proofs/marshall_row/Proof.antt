@@ -9,7 +9,7 @@ use Rattle.packed.specs.Packed.{put}
 use Rattle.packed.proofs.Put.{put-nothing}
 use Rattle.value.specs.Kinds.{Number, uint32, int32, width, Elements, bytes, uint32s, uint64s, elementWidth, Kind, kinds, kindOf, number, elements}
 use Rattle.tables.specs.Row.{Row}
-use Rattle.rows.specs.Size.{ownBytes, ownSize, ownBytesAt, sizeAt}
+use Rattle.rows.specs.Size.{ownBytes, ownSize, ownBytesAt, ownSizeAt}
 use Rattle.rows.proofs.Words.{words, by-words, number-fits, elements-fit}
 use Rattle.value.proofs.KindLaws.{none-of}
 use borrow.Author.Needs.{needs}
@@ -23,7 +23,7 @@ this c =
     words (a .rows .now) (a .row) (c .before .before .kind-at .ensures) (c .before .word2-at .ensures) (c .word3-at .ensures)
 
 -- what is put of a row of class k
-arm : (c : tie.After-word3-at) {k : Kind} {r : ℕ} {exit : List ℕ} → kindOf (this c .kind) ≡ k → let a = c .before .before .before .before .before .before .args in (r ≡ a .index + ownSize k (this c)) × (exit ≡ put (a .out .now) (a .index) (ownBytes k (this c) (a .store .now))) → (r ≡ a .index + sizeAt (a .rows .now) (a .row)) × (exit ≡ put (a .out .now) (a .index) (ownBytesAt (a .rows .now) (a .store .now) (a .row)))
+arm : (c : tie.After-word3-at) {k : Kind} {r : ℕ} {exit : List ℕ} → kindOf (this c .kind) ≡ k → let a = c .before .before .before .before .before .before .args in (r ≡ a .index + ownSize k (this c)) × (exit ≡ put (a .out .now) (a .index) (ownBytes k (this c) (a .store .now))) → (r ≡ a .index + ownSizeAt (a .rows .now) (a .row)) × (exit ≡ put (a .out .now) (a .index) (ownBytesAt (a .rows .now) (a .store .now) (a .row)))
 arm c e h =
     let a = c .before .before .before .before .before .before .args in
     (h .0 ∙ ap (λ (n : ℕ). a .index + n) (by-words (a .rows .now) (a .row) (c .before .before .kind-at .ensures) (c .before .word2-at .ensures) (c .word3-at .ensures) ownSize e), h .1 ∙ ap (put (a .out .now) (a .index)) (by-words (a .rows .now) (a .row) (c .before .before .kind-at .ensures) (c .before .word2-at .ensures) (c .word3-at .ensures) (λ x r. ownBytes x r (a .store .now)) e))
