@@ -32,7 +32,7 @@ abbrev pub recordT : List ℕ
 recordT = 0xff ∷ 0xff ∷ 0xff ∷ 0xff ∷ 2 ∷ 0 ∷ 0 ∷ 0 ∷ 0 ∷ 0 ∷ 0 ∷ 0 ∷ 0x41 ∷ 0x42 ∷ 1 ∷ 0 ∷ 0 ∷ 0 ∷ 0 ∷ 0 ∷ 0 ∷ 0 ∷ 0x78 ∷ 0x56 ∷ 0x34 ∷ 0x12 ∷ []
 
 abbrev pub rowsT : List ℕ
-rowsT = 4 ∷ 4 ∷ 3 ∷ 0 ∷ 9 ∷ 1 ∷ 4294967295 ∷ 0 ∷ 5 ∷ 1 ∷ 2 ∷ 12 ∷ 6 ∷ 1 ∷ 1 ∷ 22 ∷ []
+rowsT = 4 ∷ 4 ∷ 3 ∷ 0 ∷ 26 ∷ 9 ∷ 1 ∷ 4294967295 ∷ 0 ∷ 4 ∷ 5 ∷ 1 ∷ 2 ∷ 12 ∷ 10 ∷ 6 ∷ 1 ∷ 1 ∷ 22 ∷ 12 ∷ []
 
 abbrev pub xdrT : List ℕ
 xdrT = 0xff ∷ 0xff ∷ 0xff ∷ 0xff ∷ 0 ∷ 0 ∷ 0 ∷ 2 ∷ 0x41 ∷ 0x42 ∷ 0 ∷ 0 ∷ 0 ∷ 0 ∷ 0 ∷ 1 ∷ 0x12 ∷ 0x34 ∷ 0x56 ∷ 0x78 ∷ []
@@ -46,7 +46,7 @@ abbrev pub grammarB : List ℕ
 grammarB = 1 ∷ 0 ∷ 0 ∷ 0 ∷ 0 ∷ []
 
 abbrev pub fromB : ℕ → Outcome Reason (List ℕ) → Example
-fromB index expected = record { grammar = grammarB; rows = 0 ∷ 1 ∷ 0 ∷ 0 ∷ []; n = 1; store = []; out = 1 ∷ 2 ∷ []; index = index; expected = expected }
+fromB index expected = record { grammar = grammarB; rows = 0 ∷ 1 ∷ 0 ∷ 0 ∷ 0 ∷ []; n = 1; store = []; out = 1 ∷ 2 ∷ []; index = index; expected = expected }
 
 abbrev pub examples : List Example
 examples =
@@ -56,11 +56,11 @@ examples =
     ∷ fromB 2 (accepted (1 ∷ 2 ∷ []))
     ∷ fromB 3 (refuses 17 (byte 2))
     -- three bytes need one of padding, none need none, and an array of arrays has a count of four bytes
-    ∷ record { grammar = 2 ∷ 3 ∷ 0 ∷ 1 ∷ 5 ∷ 0 ∷ 0 ∷ 1 ∷ 1 ∷ []; rows = 3 ∷ 3 ∷ 2 ∷ 0 ∷ 5 ∷ 1 ∷ 3 ∷ 0 ∷ 5 ∷ 1 ∷ 0 ∷ 3 ∷ []; n = 3; store = 7 ∷ 8 ∷ 9 ∷ []; out = replicate 16 0xee; index = 0; expected = accepted (0 ∷ 0 ∷ 0 ∷ 2 ∷ 0 ∷ 0 ∷ 0 ∷ 3 ∷ 7 ∷ 8 ∷ 9 ∷ 0 ∷ 0 ∷ 0 ∷ 0 ∷ 0 ∷ []) }
+    ∷ record { grammar = 2 ∷ 3 ∷ 0 ∷ 1 ∷ 5 ∷ 0 ∷ 0 ∷ 1 ∷ 1 ∷ []; rows = 3 ∷ 3 ∷ 2 ∷ 0 ∷ 27 ∷ 5 ∷ 1 ∷ 3 ∷ 0 ∷ 11 ∷ 5 ∷ 1 ∷ 0 ∷ 3 ∷ 8 ∷ []; n = 3; store = 7 ∷ 8 ∷ 9 ∷ []; out = replicate 16 0xee; index = 0; expected = accepted (0 ∷ 0 ∷ 0 ∷ 2 ∷ 0 ∷ 0 ∷ 0 ∷ 3 ∷ 7 ∷ 8 ∷ 9 ∷ 0 ∷ 0 ∷ 0 ∷ 0 ∷ 0 ∷ []) }
     -- a case: its tag, then an array of one uint64
-    ∷ record { grammar = 3 ∷ 8 ∷ 0 ∷ 2 ∷ 0 ∷ 0 ∷ 0 ∷ 7 ∷ 0 ∷ 0 ∷ 2 ∷ 1 ∷ 2 ∷ []; rows = 8 ∷ 2 ∷ 1 ∷ 0 ∷ 7 ∷ 1 ∷ 1 ∷ 0 ∷ []; n = 2; store = 1 ∷ 2 ∷ 3 ∷ 4 ∷ 5 ∷ 6 ∷ 7 ∷ 8 ∷ []; out = replicate 16 0xee; index = 0; expected = accepted (0 ∷ 0 ∷ 0 ∷ 1 ∷ 0 ∷ 0 ∷ 0 ∷ 1 ∷ 8 ∷ 7 ∷ 6 ∷ 5 ∷ 4 ∷ 3 ∷ 2 ∷ 1 ∷ []) }
+    ∷ record { grammar = 3 ∷ 8 ∷ 0 ∷ 2 ∷ 0 ∷ 0 ∷ 0 ∷ 7 ∷ 0 ∷ 0 ∷ 2 ∷ 1 ∷ 2 ∷ []; rows = 8 ∷ 2 ∷ 1 ∷ 0 ∷ 24 ∷ 7 ∷ 1 ∷ 1 ∷ 0 ∷ 16 ∷ []; n = 2; store = 1 ∷ 2 ∷ 3 ∷ 4 ∷ 5 ∷ 6 ∷ 7 ∷ 8 ∷ []; out = replicate 16 0xee; index = 0; expected = accepted (0 ∷ 0 ∷ 0 ∷ 1 ∷ 0 ∷ 0 ∷ 0 ∷ 1 ∷ 8 ∷ 7 ∷ 6 ∷ 5 ∷ 4 ∷ 3 ∷ 2 ∷ 1 ∷ []) }
     -- two uint32, in their order
-    ∷ record { grammar = 1 ∷ 6 ∷ 0 ∷ 0 ∷ 0 ∷ []; rows = 6 ∷ 1 ∷ 2 ∷ 0 ∷ []; n = 1; store = 4 ∷ 3 ∷ 2 ∷ 1 ∷ 8 ∷ 7 ∷ 6 ∷ 5 ∷ []; out = replicate 12 0xee; index = 0; expected = accepted (0 ∷ 0 ∷ 0 ∷ 2 ∷ 1 ∷ 2 ∷ 3 ∷ 4 ∷ 5 ∷ 6 ∷ 7 ∷ 8 ∷ []) }
+    ∷ record { grammar = 1 ∷ 6 ∷ 0 ∷ 0 ∷ 0 ∷ []; rows = 6 ∷ 1 ∷ 2 ∷ 0 ∷ 16 ∷ []; n = 1; store = 4 ∷ 3 ∷ 2 ∷ 1 ∷ 8 ∷ 7 ∷ 6 ∷ 5 ∷ []; out = replicate 12 0xee; index = 0; expected = accepted (0 ∷ 0 ∷ 0 ∷ 2 ∷ 1 ∷ 2 ∷ 3 ∷ 4 ∷ 5 ∷ 6 ∷ 7 ∷ 8 ∷ []) }
     -- 15 before 17
     ∷ record { grammar = grammarB; rows = rowsT; n = 4; store = recordT; out = []; index = 0; expected = refuses 15 (row 0) }
     -- 12 before 15

@@ -32,7 +32,7 @@ abbrev pub recordA : ℕ → List ℕ
 recordA last = 0x07 ∷ 0 ∷ 0 ∷ 0 ∷ 0x02 ∷ 0 ∷ 0 ∷ 0 ∷ 0 ∷ 0 ∷ 0 ∷ 0 ∷ 0x41 ∷ last ∷ []
 
 abbrev pub rowsA : ℕ → List ℕ
-rowsA span = 4 ∷ span ∷ 2 ∷ 0 ∷ 1 ∷ 1 ∷ 7 ∷ 0 ∷ 5 ∷ 1 ∷ 2 ∷ 12 ∷ []
+rowsA span = 4 ∷ span ∷ 2 ∷ 0 ∷ 14 ∷ 1 ∷ 1 ∷ 7 ∷ 0 ∷ 4 ∷ 5 ∷ 1 ∷ 2 ∷ 12 ∷ 10 ∷ []
 
 -- case A's rows, with its record as store, over an output
 abbrev pub overA : List ℕ → ℕ → Outcome Reason Preview → Example
@@ -44,7 +44,7 @@ grammarB = 1 ∷ 0 ∷ 0 ∷ 0 ∷ 0 ∷ []
 
 -- over two bytes
 abbrev pub overB : ℕ → Outcome Reason Preview → Example
-overB index expected = record { grammar = grammarB; rows = 0 ∷ 1 ∷ 0 ∷ 0 ∷ []; n = 1; store = []; out = 0 ∷ 0 ∷ []; index = index; expected = expected }
+overB index expected = record { grammar = grammarB; rows = 0 ∷ 1 ∷ 0 ∷ 0 ∷ 0 ∷ []; n = 1; store = []; out = 0 ∷ 0 ∷ []; index = index; expected = expected }
 
 abbrev pub examples : List Example
 examples =
@@ -63,7 +63,7 @@ examples =
     ∷ overB 2 (gives 0 0)
     ∷ overB 3 (refuses 17 (byte 2))
     -- an array of one uint32: of the element's four bytes the output holds the first and the third
-    ∷ record { grammar = 1 ∷ 6 ∷ 0 ∷ 0 ∷ 0 ∷ []; rows = 6 ∷ 1 ∷ 1 ∷ 0 ∷ []; n = 1; store = 0x78 ∷ 0x56 ∷ 0x34 ∷ 0x12 ∷ []; out = 1 ∷ 0 ∷ 0 ∷ 0 ∷ 0 ∷ 0 ∷ 0 ∷ 0 ∷ 0x78 ∷ 0 ∷ 0x34 ∷ 0 ∷ []; index = 0; expected = gives 12 2 }
+    ∷ record { grammar = 1 ∷ 6 ∷ 0 ∷ 0 ∷ 0 ∷ []; rows = 6 ∷ 1 ∷ 1 ∷ 0 ∷ 12 ∷ []; n = 1; store = 0x78 ∷ 0x56 ∷ 0x34 ∷ 0x12 ∷ []; out = 1 ∷ 0 ∷ 0 ∷ 0 ∷ 0 ∷ 0 ∷ 0 ∷ 0 ∷ 0x78 ∷ 0 ∷ 0x34 ∷ 0 ∷ []; index = 0; expected = gives 12 2 }
     ∷ record { grammar = grammarB; rows = rowsA 3; n = 3; store = recordA 0x42; out = replicate 14 0; index = 0; expected = refuses 15 (row 0) }
     -- 13 before 17
     ∷ record { grammar = grammarA; rows = rowsA 2; n = 3; store = recordA 0x42; out = 0 ∷ []; index = 0; expected = refuses 13 (row 0) }
