@@ -19,7 +19,8 @@ fn print_row(rows: &[u64], row: usize) {
     print_number(tables::kind_at(rows, row), b" ");
     print_number(tables::span_at(rows, row), b" ");
     print_number(tables::word2_at(rows, row), b" ");
-    print_number(tables::word3_at(rows, row), b"\n");
+    print_number(tables::word3_at(rows, row), b" ");
+    print_number(tables::size_at(rows, row), b"\n");
 }
 
 fn print_rows(rows: &[u64], n: usize) {
@@ -71,7 +72,7 @@ fn print_written(size: SizeOf, end: &[u8]) {
 fn main() {
     let grammar = [3u32, 4, 0, 2, 1, 0, 0, 5, 0, 0, 2, 1, 2]; // tuple(u32, bytes)
     let record = [7u8, 0, 0, 0, 2, 0, 0, 0, 0, 0, 0, 0, b'A', b'B'];
-    let mut rows = [0u64; 12];
+    let mut rows = [0u64; 15];
     let parsed = reading::demarshall(&grammar, &record, &mut rows);
     print_value(parsed, &rows, &record);
     let mut out = [b'.'; 16];

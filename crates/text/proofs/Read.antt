@@ -80,7 +80,7 @@ lines-same : (t u : List ℕ) (n : ℕ) → ((j : ℕ) → j < rowWidth * n → 
 unfolding linesOf
 lines-same t u zero h = refl
 lines-same t u (suc n) h =
-    let r : rowAt t n ≡ rowAt u n = rw (h (rowWidth * n) (omega arith), h (rowWidth * n + 1) (omega arith), h (rowWidth * n + 2) (omega arith), h (rowWidth * n + 3) (omega arith)) in
+    let r : rowAt t n ≡ rowAt u n = rw (h (rowWidth * n) (omega arith), h (rowWidth * n + 1) (omega arith), h (rowWidth * n + 2) (omega arith), h (rowWidth * n + 3) (omega arith), h (rowWidth * n + 4) (omega arith)) in
     rw (lines-same t u n (λ j l. h j (omega arith)), r)
 
 put-text : (out ws : List ℕ) (n : ℕ) → rowWidth * n ≤ length ws → rowsText (put out 0 ws) n ≡ rowsText ws n

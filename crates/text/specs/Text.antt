@@ -18,9 +18,9 @@ newline = 10
 unfoldable pub numeral : ℕ → ℕ → List ℕ
 numeral n end = digits n ++ (end ∷ [])
 
--- a row's line: kind, span, word 2, word 3
+-- a row's line: kind, span, word 2, word 3, size
 unfoldable pub line : Row → List ℕ
-line r = numeral (r .kind) space ++ (numeral (r .span) space ++ (numeral (r .word2) space ++ numeral (r .word3) newline))
+line r = numeral (r .kind) space ++ (numeral (r .span) space ++ (numeral (r .word2) space ++ (numeral (r .word3) space ++ numeral (r .size) newline)))
 
 -- the lines of rows 0 to n − 1
 unfoldable pub linesOf : List ℕ → ℕ → List ℕ

@@ -16,7 +16,7 @@ use refusal::Place;
 use refusal::Refusal;
 
 // No text has more bytes.
-pub const MOST_TEXT: usize = 86042;
+pub const MOST_TEXT: usize = 107546;
 
 // The capacity with which a record is read.
 const CAPACITY: usize = 1024;
@@ -68,7 +68,8 @@ fn put_line(rows: &[u64], row: usize, out: &mut [u8], index: usize) -> usize
     let at1 = put_number(tables::kind_at(rows, row), b' ', out, index);
     let at2 = put_number(tables::span_at(rows, row), b' ', out, at1);
     let at3 = put_number(tables::word2_at(rows, row), b' ', out, at2);
-    put_number(tables::word3_at(rows, row), b'\n', out, at3)
+    let at4 = put_number(tables::word3_at(rows, row), b' ', out, at3);
+    put_number(tables::size_at(rows, row), b'\n', out, at4)
 }
 
 // Puts the lines of rows 0 to n − 1.

@@ -9,25 +9,31 @@ kind-at-requires : tie.Need-kind-at-requires
 kind-at-requires c κs = search needs
 
 put-number-requires : tie.Need-put-number-requires
-put-number-requires c κs = room-first 21 63 (c .before .before .before .before .pre)
+put-number-requires c κs = room-first 21 84 (c .before .before .before .before .pre)
 
 span-at-requires : tie.Need-span-at-requires
 span-at-requires c κs = search needs
 
 put-number-requires-2 : tie.Need-put-number-requires-2
-put-number-requires-2 c κs = room-first 21 42 (room-then 21 63 (c .before .before .before .before .before .before .before .before .before .pre) (c .before .before .before .before .put-number .ensures))
+put-number-requires-2 c κs = room-first 21 63 (room-then 21 84 (c .before .before .before .before .before .before .before .before .before .pre) (c .before .before .before .before .put-number .ensures))
 
 word2-at-requires : tie.Need-word2-at-requires
 word2-at-requires c κs = search needs
 
 put-number-requires-3 : tie.Need-put-number-requires-3
-put-number-requires-3 c κs = room-first 21 21 (room-then 21 42 (room-then 21 63 (c .before .before .before .before .before .before .before .before .before .before .before .before .before .before .pre) (c .before .before .before .before .before .before .before .before .before .put-number .ensures)) (c .before .before .before .before .put-number2 .ensures))
+put-number-requires-3 c κs = room-first 21 42 (room-then 21 63 (room-then 21 84 (c .before .before .before .before .before .before .before .before .before .before .before .before .before .before .pre) (c .before .before .before .before .before .before .before .before .before .put-number .ensures)) (c .before .before .before .before .put-number2 .ensures))
 
 word3-at-requires : tie.Need-word3-at-requires
 word3-at-requires c κs = search needs
 
 put-number-requires-4 : tie.Need-put-number-requires-4
-put-number-requires-4 c κs = room-then 21 21 (room-then 21 42 (room-then 21 63 (c .before .before .before .before .before .before .before .before .before .before .before .before .before .before .before .before .before .before .before .pre) (c .before .before .before .before .before .before .before .before .before .before .before .before .before .before .put-number .ensures)) (c .before .before .before .before .before .before .before .before .before .put-number2 .ensures)) (c .before .before .before .before .put-number3 .ensures)
+put-number-requires-4 c κs = room-first 21 21 (room-then 21 42 (room-then 21 63 (room-then 21 84 (c .before .before .before .before .before .before .before .before .before .before .before .before .before .before .before .before .before .before .before .pre) (c .before .before .before .before .before .before .before .before .before .before .before .before .before .before .put-number .ensures)) (c .before .before .before .before .before .before .before .before .before .put-number2 .ensures)) (c .before .before .before .before .put-number3 .ensures))
+
+size-at-requires : tie.Need-size-at-requires
+size-at-requires c κs = search needs
+
+put-number-requires-5 : tie.Need-put-number-requires-5
+put-number-requires-5 c κs = room-then 21 21 (room-then 21 42 (room-then 21 63 (room-then 21 84 (c .before .before .before .before .before .before .before .before .before .before .before .before .before .before .before .before .before .before .before .before .before .before .before .before .pre) (c .before .before .before .before .before .before .before .before .before .before .before .before .before .before .before .before .before .before .before .put-number .ensures)) (c .before .before .before .before .before .before .before .before .before .before .before .before .before .before .put-number2 .ensures)) (c .before .before .before .before .before .before .before .before .before .put-number3 .ensures)) (c .before .before .before .before .put-number4 .ensures)
 
 same-length : tie.Need-same-length
 same-length c = search needs
@@ -35,12 +41,14 @@ same-length c = search needs
 returns : tie.Need-returns
 unfolding line
 returns c =
-    let p1 = c .before .before .before .before .before .before .before .before .before .before .before .before .before .before .before .before .before .put-number .ensures in
-    let p2 = c .before .before .before .before .before .before .before .before .before .before .before .before .put-number2 .ensures in
-    let h1 = c .before .before .before .before .before .before .before .before .before .before .before .before .before .before .before .before .before .before .before .before .before .before .pre in
-    let h2 = room-then 21 63 h1 p1 in
-    rw (sym (c .before .before .before .before .before .before .before .before .before .before .before .before .before .before .before .before .before .before .before .kind-at .ensures), sym (c .before .before .before .before .before .before .before .before .before .before .before .before .before .before .span-at .ensures), sym (c .before .before .before .before .before .before .before .before .before .word2-at .ensures), sym (c .before .before .before .before .word3-at .ensures))
-    (puts-then 21 63 h1 p1 (puts-then 21 42 h2 p2 (puts-then 21 21 (room-then 21 42 h2 p2) (c .before .before .before .before .before .before .before .put-number3 .ensures) (c .before .before .put-number4 .ensures))))
+    let h1 = c .before .before .before .before .before .before .before .before .before .before .before .before .before .before .before .before .before .before .before .before .before .before .before .before .before .before .before .pre in
+    let p1 = c .before .before .before .before .before .before .before .before .before .before .before .before .before .before .before .before .before .before .before .before .before .before .put-number .ensures in
+    let p2 = c .before .before .before .before .before .before .before .before .before .before .before .before .before .before .before .before .before .put-number2 .ensures in
+    let p3 = c .before .before .before .before .before .before .before .before .before .before .before .before .put-number3 .ensures in
+    let h2 = room-then 21 84 h1 p1 in
+    let h3 = room-then 21 63 h2 p2 in
+    rw (sym (c .before .before .before .before .before .before .before .before .before .before .before .before .before .before .before .before .before .before .before .before .before .before .before .before .kind-at .ensures), sym (c .before .before .before .before .before .before .before .before .before .before .before .before .before .before .before .before .before .before .before .span-at .ensures), sym (c .before .before .before .before .before .before .before .before .before .before .before .before .before .before .word2-at .ensures), sym (c .before .before .before .before .before .before .before .before .before .word3-at .ensures), sym (c .before .before .before .before .size-at .ensures))
+    (puts-then 21 84 h1 p1 (puts-then 21 63 h2 p2 (puts-then 21 42 h3 p3 (puts-then 21 21 (room-then 21 42 h3 p3) (c .before .before .before .before .before .before .before .put-number4 .ensures) (c .before .before .put-number5 .ensures)))))
 
 pub put-line-spec : {M : Type 1} → statement M
 put-line-spec =
@@ -54,5 +62,7 @@ put-line-spec =
     put-number-requires-3
     word3-at-requires
     put-number-requires-4
+    size-at-requires
+    put-number-requires-5
     same-length
     returns)
