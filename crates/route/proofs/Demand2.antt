@@ -29,6 +29,8 @@ use Rattle.grammar.proofs.Rule.{accepted-exactly}
 use Rattle.grammar.proofs.Tree.{tree-valid}
 use Rattle.rows.specs.Walk.{walk}
 use Rattle.rows.proofs.Rule.{accepted-exactly as rows-exactly}
+use Rattle.rows.proofs.Parts.{rows-say}
+use Rattle.rows.proofs.Size.{table-says}
 use Rattle.signed.proofs.Rule.{signed-exactly}
 use Rattle.reading.specs.declared.Parsed.{Parsed}
 use Rattle.reading.specs.Meaning.{Counts, parsedOf}
@@ -40,7 +42,7 @@ use Rattle.reading.proofs.Meaning.{parsedOf-injective}
 use Rattle.reading.proofs.Bridge.{parse-parses, parse-stands, parse-none, demarshall-accepted, demarshall-refused}
 use Rattle.sizing.specs.Writes.{marshallValOf}
 use Rattle.sizing.proofs.Writes.{accepted-writes}
-use Rattle.route.specs.Demands.{PutThere, ParseValAgrees, DemarshallAgrees, ChecksAgree, SizesAgree, SignedAgrees, ByteRule, RuleStands, WritesTheRule, NumbersAgree, Demand2}
+use Rattle.route.specs.Demands.{PutThere, ParseValAgrees, DemarshallAgrees, ChecksAgree, SizesAgree, RowsSaySizes, SignedAgrees, ByteRule, RuleStands, WritesTheRule, NumbersAgree, Demand2}
 use Rattle.route.proofs.Put.{put-at}
 use Rattle.route.proofs.Refusals.{room-there}
 use Rattle.route.proofs.Reading.{rows-laid}
@@ -121,6 +123,9 @@ sizes-agree t s n r words bytes h size = (
   λ e. let y = map-accepted SizeOfV (walk t n s) (sym h ∙ e) in (y .0, rows-exactly t n s (y .0) words bytes .0 (y .1), y .2),
   λ x. h ∙ ap (map SizeOfV) (rows-exactly t n s (x .0) words bytes .1 (x .1)) ∙ ap accepted (sym (x .2)),
 )
+
+rows-say-sizes : RowsSaySizes
+rows-say-sizes t s n v words bytes w = let h = rows-exactly t n s v words bytes .0 w in (table-says t n s v h, rows-say t n s v h)
 
 signed-agrees : SignedAgrees
 signed-agrees t s n i r words bytes h z = let x = signed-exactly t n s i z words bytes in (λ e. x .0 (sym h ∙ e), λ e. h ∙ x .1 e)
@@ -227,6 +232,7 @@ demand2 = record {
   checksAgree = checks-agree;
   rowsAgree = λ t s n v. rows-exactly t n s v;
   sizesAgree = sizes-agree;
+  rowsSaySizes = rows-say-sizes;
   signedAgrees = signed-agrees;
   signedRule = λ w h. record { number = λ p l. twos-complement w p h l; oneToOne = λ p q l m e. signed-one-to-one w p q h l m e; pattern = λ z r. pattern-signed w z h r };
   ruleStands = rule-stands;

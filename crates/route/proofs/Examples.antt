@@ -1,7 +1,7 @@
 -- That the demands are not empty: a record that is read, one that is refused by 8 whatever rows are lent, and a grammar with two different values.
 use mathlib.Core.Path.{_≡_, refl, sym, ap, subst, _∙_}
 use mathlib.Core.Bool.{Bool, true, _&&_}
-use mathlib.Core.List.{List, [], _∷_}
+use mathlib.Core.List.{List, [], _∷_, _++_}
 use Prim.Native.Nat.{ℕ, zero, suc, _^_, _≤_, _<_}
 use native.Mathlib.Omega.{arith}
 use lib.ListN.{length}
@@ -22,14 +22,14 @@ use Rattle.grammar.specs.Check.{checkLayout, checkNode, checkChildren, checkNod
 use Rattle.grammar.specs.Tree.{nodeTree, childTrees, treeTo, treeOf}
 use Rattle.grammar.proofs.Rule.{accepted-exactly}
 use Rattle.rows.specs.Layout.{ownRow, rowsOf}
-use Rattle.rows.specs.Walk.{rowValue, checkRow, walkChildren, walkTo, walk}
+use Rattle.rows.specs.Walk.{rowValue, checkRow, walkChildren, checkSizeWord, walkTo, walk}
 use Rattle.sizing.specs.Writes.{Writes}
 use Rattle.admission.specs.Admission.{capacityOf}
 use Rattle.reading.specs.Calls.{withoutState, demarshallOf, countsOf}
 use Rattle.reading.proofs.Calls.{checked}
 use Rattle.reading.specs.declared.Parsed.the-variants as P
 use Rattle.route.specs.Demands.{Grammar, ValueOfGrammar, RecordOf, WholeReading}
-use Rattle.route.specs.Bench.{grammarA, recordA, valueA, grammarC}
+use Rattle.route.specs.Bench.{grammarA, recordA, valueA, rowsA, grammarC}
 use Rattle.route.proofs.Reading.{value-of}
 
 -- a list whose elements are tested one by one
@@ -46,10 +46,10 @@ all-below b (n ∷ ns) h (suc j) l = all-below b ns (and-true (ltb n b) (allBelo
 
 -- 3 rows and one word more are lent
 abbrev lentA : List ℕ
-lentA = 9 ∷ 9 ∷ 9 ∷ 9 ∷ 9 ∷ 9 ∷ 9 ∷ 9 ∷ 9 ∷ 9 ∷ 9 ∷ 9 ∷ 9 ∷ []
+lentA = 9 ∷ 9 ∷ 9 ∷ 9 ∷ 9 ∷ 9 ∷ 9 ∷ 9 ∷ 9 ∷ 9 ∷ 9 ∷ 9 ∷ 9 ∷ 9 ∷ 9 ∷ 9 ∷ []
 
 abbrev exitA : List ℕ
-exitA = 4 ∷ 3 ∷ 2 ∷ 0 ∷ 1 ∷ 1 ∷ 7 ∷ 0 ∷ 5 ∷ 1 ∷ 2 ∷ 12 ∷ 9 ∷ []
+exitA = rowsA ++ (9 ∷ [])
 
 grammar-A : Grammar grammarA
 unfolding checkGrammar checkLayout checkNodes checkNode checkChildren kindOf kinds
@@ -77,7 +77,7 @@ reading-A = record {
 
 -- its rows are to be written into as many bytes
 pub writes-A : Writes grammarA exitA 3 recordA 14 0 valueA
-unfolding walk walkTo walkChildren checkRow rowValue kindOf kinds unpackLittleEndian unpackLittleEndianSeq SizeOfV
+unfolding walk walkTo walkChildren checkRow checkSizeWord rowValue kindOf kinds unpackLittleEndian unpackLittleEndianSeq SizeOfV
 writes-A = record { grammar = accepted-exactly grammarA .0 (grammar-A .passes); rows = refl; inGrammar = record-A .value .inGrammar; small = lit< tt; room = lit< tt }
 
 -- ---- an array of constants: the record has 8 bytes, and its rows are one more than are ever lent

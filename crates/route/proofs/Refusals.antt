@@ -30,7 +30,7 @@ use Rattle.grammar.specs.Rule.{FirstRefusal}
 use Rattle.grammar.specs.Tree.{treeOf}
 use Rattle.grammar.proofs.Rule.{refused-exactly, refused-word}
 use Rattle.tables.specs.Row.{Row, rowAt}
-use Rattle.rows.specs.Walk.{withinStore, checkRow, walkChildren, walkTo, walk}
+use Rattle.rows.specs.Walk.{withinStore, rowValue, checkRow, walkChildren, checkSizeWord, walkTo, walk}
 use Rattle.rows.specs.Locate.{lookUp, elementsPart, locateArray}
 use Rattle.rows.proofs.Laws.{reflects-rows}
 use Rattle.rows.proofs.Rule.{class-word}
@@ -158,11 +158,13 @@ module _ (t : List ℕ) (n : ℕ) (s : List ℕ) where
       (λ _. broken parent l)
 
   walkTo-post : (depth end i : ℕ) → i < n → end ≤ n → Only (RowRefused t n s) (walkTo t s depth end i)
-  unfolding walkTo
+  unfolding walkTo checkSizeWord
   walkTo-post zero end i l m = fails _ (broken i l)
   walkTo-post (suc depth) end i l m =
       let stop = i + rowAt t i .span in
-      post-bind _ (row-post i end l) (λ count h. only-map _ (children-post (walkTo t s depth stop) i stop l (λ j k. walkTo-post depth stop j (omega arith) (omega arith)) count (suc i)))
+      post-bind _ (row-post i end l) (λ count h.
+      post-bind _ (children-post (walkTo t s depth stop) i stop l (λ j k. walkTo-post depth stop j (omega arith) (omega arith)) count (suc i)) (λ vs _.
+      post-reflects _ _ _ (reflects-eqb (rowAt t i .size) (SizeOfV (rowValue (kindOf (rowAt t i .kind)) (rowAt t i) s vs))) (λ _. gives _) (λ _. broken i l)))
 
   pub walk-refuses : Refuses (RowsRefused t n s) (walk t n s)
   unfolding walk

@@ -1,17 +1,18 @@
--- Document 01's bench examples A to F, all their cases, and examples of document 02's requests 01, 04 and 07, as one list: a call with its
+-- Document 01's bench examples A to F, all their cases, and examples of document 02's requests 01, 04, 07 and 10, as one list: a call with its
 -- inputs, and what the papers, or what follows from them, expect of it.
 use mathlib.Core.Path.{_≡_}
 use mathlib.Core.List.{List, [], _∷_, _++_, map}
 use Prim.Native.Nat.{ℕ, zero, suc}
-use lib.ListN.{take}
+use lib.ListN.{take, drop}
 use lib.IntN.{ℤ, pos, negsuc}
 use Rattle.refusal.specs.Outcome.{Outcome, accepted, refused, bind, Location, word, byte, row, Reason, reason}
-use Rattle.value.specs.Tree.{Val, VConstant, VArray, VTuple, VUint32, VByteArray, VUint32Array, vnil, vcons}
+use Rattle.value.specs.Tree.{Val, VConstant, VArray, VTuple, VUint32, VByteArray, VUint32Array, VUint64Array, VCase, vnil, vcons}
 use Rattle.value.specs.Signed.{VInt32, VInt64}
 use Rattle.value.specs.Step.{Step}
 use Rattle.value.specs.Reading.{State}
 use Rattle.grammar.specs.Check.{checkGrammar}
 use Rattle.rows.specs.Layout.{rowsOf}
+use Rattle.rows.specs.Size.{computeSizeOf}
 use Rattle.admission.specs.Admission.{inForce, checkRows}
 use Rattle.reading.specs.Calls.{parseValOf, demarshallOf, countsOf}
 use Rattle.signed.specs.Signed.{signedNumberOf}
@@ -29,18 +30,21 @@ pub data Call : Type 0 where
   checkWhole : (grammar bytes : List ℕ) → Call
   checkValWith : (grammar bytes : List ℕ) (index capacity : ℕ) → Call
   checkWholeWith : (grammar bytes : List ℕ) (capacity : ℕ) → Call
+  -- the size of the value that n rows stand for
+  sizeOfRows : (rows : List ℕ) (n : ℕ) (store : List ℕ) → Call
 
 -- what they answer, in the papers' values
 pub data Result : Type 0 where
   passes : Result
-  -- the row count, the words of the rows, four to a row, and the value that they stand for
+  -- the row count, the words of the rows, five to a row, and the value that they stand for
   handsOut : (n : ℕ) (words : List ℕ) (value : Val) → Result
   isNumber : (z : ℤ) → Result
   -- the row count and `rest_index`
   counts : (n rest : ℕ) → Result
+  isSize : (bytes : ℕ) → Result
   refuses : (number : ℕ) (place : Location) → Result
 
--- by the definitions that the contracts of `check_grammar`, `demarshall`, `signed_number` and the checks cite
+-- by the definitions that the contracts of `check_grammar`, `demarshall`, `signed_number`, the checks and `compute_size_of` cite
 abbrev pub checked : Outcome Reason (Unit {0}) → Result
 checked (accepted u) = passes
 checked (refused (reason number place)) = refuses number place
@@ -57,6 +61,10 @@ abbrev pub counted : Outcome Reason (Step State Val) → Result
 counted (accepted t) = counts (countsOf t .rows) (countsOf t .restIndex)
 counted (refused (reason number place)) = refuses number place
 
+abbrev pub sized : Outcome Reason ℕ → Result
+sized (accepted size) = isSize size
+sized (refused (reason number place)) = refuses number place
+
 abbrev pub resultOf : Call → Result
 resultOf (check grammar) = checked (checkGrammar grammar)
 resultOf (read grammar bytes capacity) = handed (demarshallOf grammar bytes capacity)
@@ -65,6 +73,7 @@ resultOf (checkVal grammar bytes index) = counted (parseValOf grammar bytes inde
 resultOf (checkWhole grammar bytes) = counted (demarshallOf grammar bytes checkRows)
 resultOf (checkValWith grammar bytes index capacity) = counted (parseValOf grammar bytes index (inForce capacity))
 resultOf (checkWholeWith grammar bytes capacity) = counted (demarshallOf grammar bytes (inForce capacity))
+resultOf (sizeOfRows rows n store) = sized (computeSizeOf rows n store)
 
 -- where an example stands: document 01's letters, and document 02's requests
 pub data Source : Type 0 where
@@ -77,6 +86,7 @@ pub data Source : Type 0 where
   Req01 : Source
   Req04 : Source
   Req07 : Source
+  Req10 : Source
 
 pub record Example : Type 0 where
   pub source : Source
@@ -95,6 +105,9 @@ recordA-cut = 0x07 ∷ 0 ∷ 0 ∷ 0 ∷ 0x02 ∷ 0 ∷ 0 ∷ 0 ∷ 0 ∷ 0 ∷ 
 
 abbrev pub valueA : Val
 valueA = VTuple (vcons (VUint32 7) (vcons (VByteArray (0x41 ∷ 0x42 ∷ [])) vnil))
+
+abbrev pub rowsA : List ℕ
+rowsA = 4 ∷ 3 ∷ 2 ∷ 0 ∷ 14 ∷ 1 ∷ 1 ∷ 7 ∷ 0 ∷ 4 ∷ 5 ∷ 1 ∷ 2 ∷ 12 ∷ 10 ∷ []
 
 -- one constant
 abbrev pub grammarB : List ℕ
@@ -123,6 +136,10 @@ grammarD = 1 ∷ 8 ∷ 0 ∷ 0 ∷ 0 ∷ []
 -- an array of uint32
 abbrev pub grammarE : List ℕ
 grammarE = 1 ∷ 6 ∷ 0 ∷ 0 ∷ 0 ∷ []
+
+-- a union of one case, an array of uint64
+abbrev pub grammarCase : List ℕ
+grammarCase = 2 ∷ 8 ∷ 0 ∷ 1 ∷ 7 ∷ 0 ∷ 0 ∷ 1 ∷ 1 ∷ []
 
 -- a tuple of a uint32 and the empty union
 abbrev pub grammarTupleD : List ℕ
@@ -154,29 +171,29 @@ cut grammar bytes capacity place = map (λ n. record { source = Req04; call = re
 -- placed where the value starts, at byte 0 for the root, and 1 at word 0
 abbrev pub bench : List Example
 bench =
-    record { source = A; call = read grammarA recordA 4096; expected = handsOut 3 (4 ∷ 3 ∷ 2 ∷ 0 ∷ 1 ∷ 1 ∷ 7 ∷ 0 ∷ 5 ∷ 1 ∷ 2 ∷ 12 ∷ []) valueA }
+    record { source = A; call = read grammarA recordA 4096; expected = handsOut 3 rowsA valueA }
     ∷ record { source = A; call = read grammarA recordA-cut 4096; expected = refuses 9 (byte 4) }
-    ∷ record { source = B; call = read grammarB [] 4096; expected = handsOut 1 (0 ∷ 1 ∷ 0 ∷ 0 ∷ []) VConstant }
+    ∷ record { source = B; call = read grammarB [] 4096; expected = handsOut 1 (0 ∷ 1 ∷ 0 ∷ 0 ∷ 0 ∷ []) VConstant }
     ∷ record { source = B; call = read grammarB (0 ∷ []) 4096; expected = refuses 11 (byte 0) }
-    ∷ record { source = C; call = read grammarC recordC 4096; expected = handsOut 4 (3 ∷ 4 ∷ 3 ∷ 0 ∷ 0 ∷ 1 ∷ 0 ∷ 0 ∷ 0 ∷ 1 ∷ 0 ∷ 0 ∷ 0 ∷ 1 ∷ 0 ∷ 0 ∷ []) (VArray (vcons VConstant (vcons VConstant (vcons VConstant vnil)))) }
+    ∷ record { source = C; call = read grammarC recordC 4096; expected = handsOut 4 (3 ∷ 4 ∷ 3 ∷ 0 ∷ 8 ∷ 0 ∷ 1 ∷ 0 ∷ 0 ∷ 0 ∷ 0 ∷ 1 ∷ 0 ∷ 0 ∷ 0 ∷ 0 ∷ 1 ∷ 0 ∷ 0 ∷ 0 ∷ []) (VArray (vcons VConstant (vcons VConstant (vcons VConstant vnil)))) }
     ∷ record { source = C; call = read grammarC recordC 3; expected = refuses 8 (byte 0) }
     -- a count of 2^64 − 1
     ∷ record { source = C; call = read grammarC (0xff ∷ 0xff ∷ 0xff ∷ 0xff ∷ 0xff ∷ 0xff ∷ 0xff ∷ 0xff ∷ []) 4096; expected = refuses 8 (byte 0) }
     ∷ record { source = C; call = read grammarC (3 ∷ 0 ∷ 0 ∷ 0 ∷ 0 ∷ 0 ∷ 0 ∷ []) 4096; expected = refuses 9 (byte 0) }
     ∷ record { source = D; call = read grammarD (0 ∷ 0 ∷ 0 ∷ 0 ∷ 0 ∷ 0 ∷ 0 ∷ 0 ∷ []) 4096; expected = refuses 10 (byte 0) }
     ∷ record { source = D; call = read grammarD [] 4096; expected = refuses 9 (byte 0) }
-    ∷ record { source = E; call = read grammarE (1 ∷ 0 ∷ 0 ∷ 0 ∷ 0 ∷ 0 ∷ 0 ∷ 0 ∷ 0x78 ∷ 0x56 ∷ 0x34 ∷ 0x12 ∷ []) 4096; expected = handsOut 1 (6 ∷ 1 ∷ 1 ∷ 8 ∷ []) (VUint32Array (305419896 ∷ [])) }
+    ∷ record { source = E; call = read grammarE (1 ∷ 0 ∷ 0 ∷ 0 ∷ 0 ∷ 0 ∷ 0 ∷ 0 ∷ 0x78 ∷ 0x56 ∷ 0x34 ∷ 0x12 ∷ []) 4096; expected = handsOut 1 (6 ∷ 1 ∷ 1 ∷ 8 ∷ 12 ∷ []) (VUint32Array (305419896 ∷ [])) }
     -- a count of 2^62
     ∷ record { source = E; call = read grammarE (0 ∷ 0 ∷ 0 ∷ 0 ∷ 0 ∷ 0 ∷ 0 ∷ 0x40 ∷ 0x78 ∷ 0x56 ∷ 0x34 ∷ 0x12 ∷ []) 4096; expected = refuses 9 (byte 0) }
     ∷ record { source = F; call = check (1 ∷ 4 ∷ 0 ∷ 1 ∷ 1 ∷ 0 ∷ []); expected = refuses 5 (word 5) }
     ∷ record { source = F; call = check (grammarF 256); expected = passes }
     ∷ record { source = F; call = check (grammarF 257); expected = refuses 1 (word 0) }
     -- the two that document 02 prints, −1 and the least 32-bit number; what follows them is by its rule: −1 in 64 bits, zero and the other ends
-    ∷ record { source = Req01; call = read (grammarOf 9) minusOne32 4096; expected = handsOut 1 (9 ∷ 1 ∷ 4294967295 ∷ 0 ∷ []) (VInt32 (negsuc 0)) }
+    ∷ record { source = Req01; call = read (grammarOf 9) minusOne32 4096; expected = handsOut 1 (9 ∷ 1 ∷ 4294967295 ∷ 0 ∷ 4 ∷ []) (VInt32 (negsuc 0)) }
     ∷ record { source = Req01; call = readSigned (grammarOf 9) minusOne32 0; expected = isNumber (negsuc 0) }
-    ∷ record { source = Req01; call = read (grammarOf 9) (0 ∷ 0 ∷ 0 ∷ 0x80 ∷ []) 4096; expected = handsOut 1 (9 ∷ 1 ∷ 2147483648 ∷ 0 ∷ []) (VInt32 (negsuc 2147483647)) }
+    ∷ record { source = Req01; call = read (grammarOf 9) (0 ∷ 0 ∷ 0 ∷ 0x80 ∷ []) 4096; expected = handsOut 1 (9 ∷ 1 ∷ 2147483648 ∷ 0 ∷ 4 ∷ []) (VInt32 (negsuc 2147483647)) }
     ∷ record { source = Req01; call = readSigned (grammarOf 9) (0 ∷ 0 ∷ 0 ∷ 0x80 ∷ []) 0; expected = isNumber (negsuc 2147483647) }
-    ∷ record { source = Req01; call = read (grammarOf 10) minusOne64 4096; expected = handsOut 1 (10 ∷ 1 ∷ 18446744073709551615 ∷ 0 ∷ []) (VInt64 (negsuc 0)) }
+    ∷ record { source = Req01; call = read (grammarOf 10) minusOne64 4096; expected = handsOut 1 (10 ∷ 1 ∷ 18446744073709551615 ∷ 0 ∷ 8 ∷ []) (VInt64 (negsuc 0)) }
     ∷ record { source = Req01; call = readSigned (grammarOf 10) minusOne64 0; expected = isNumber (negsuc 0) }
     ∷ record { source = Req01; call = readSigned (grammarOf 9) (0 ∷ 0 ∷ 0 ∷ 0 ∷ []) 0; expected = isNumber (pos 0) }
     ∷ record { source = Req01; call = readSigned (grammarOf 9) (0xff ∷ 0xff ∷ 0xff ∷ 0x7f ∷ []) 0; expected = isNumber (pos 2147483647) }
@@ -198,8 +215,8 @@ bench =
     ∷ record { source = Req04; call = read grammarTupleD (take 4 recordA) 4096; expected = refuses 9 (byte 4) }
     ∷ record { source = Req04; call = read grammarTupleD (take 12 recordA) 4096; expected = refuses 10 (byte 4) }
     -- with as few rows as A's record needs, and C's: both records, and every proper front part
-    ∷ record { source = Req04; call = read grammarA recordA 3; expected = handsOut 3 (4 ∷ 3 ∷ 2 ∷ 0 ∷ 1 ∷ 1 ∷ 7 ∷ 0 ∷ 5 ∷ 1 ∷ 2 ∷ 12 ∷ []) valueA }
-    ∷ record { source = Req04; call = read grammarC recordC 4; expected = handsOut 4 (3 ∷ 4 ∷ 3 ∷ 0 ∷ 0 ∷ 1 ∷ 0 ∷ 0 ∷ 0 ∷ 1 ∷ 0 ∷ 0 ∷ 0 ∷ 1 ∷ 0 ∷ 0 ∷ []) (VArray (vcons VConstant (vcons VConstant (vcons VConstant vnil)))) }
+    ∷ record { source = Req04; call = read grammarA recordA 3; expected = handsOut 3 rowsA valueA }
+    ∷ record { source = Req04; call = read grammarC recordC 4; expected = handsOut 4 (3 ∷ 4 ∷ 3 ∷ 0 ∷ 8 ∷ 0 ∷ 1 ∷ 0 ∷ 0 ∷ 0 ∷ 0 ∷ 1 ∷ 0 ∷ 0 ∷ 0 ∷ 0 ∷ 1 ∷ 0 ∷ 0 ∷ 0 ∷ []) (VArray (vcons VConstant (vcons VConstant (vcons VConstant vnil)))) }
     ∷ cut grammarA recordA 3 0 (0 ∷ 1 ∷ 2 ∷ 3 ∷ [])
     ++ cut grammarA recordA 3 4 (4 ∷ 5 ∷ 6 ∷ 7 ∷ 8 ∷ 9 ∷ 10 ∷ 11 ∷ 12 ∷ 13 ∷ [])
     ++ cut grammarC recordC 4 0 (0 ∷ 1 ∷ 2 ∷ 3 ∷ 4 ∷ 5 ∷ 6 ∷ 7 ∷ [])
@@ -231,6 +248,13 @@ bench =
     ∷ record { source = Req07; call = checkValWith grammarB (0 ∷ 0 ∷ 0 ∷ []) 3 0; expected = refuses 8 (byte 3) }
     ∷ record { source = Req07; call = checkValWith grammarB (0 ∷ 0 ∷ 0 ∷ []) 4 0; expected = refuses 7 (byte 4) }
     ∷ record { source = Req07; call = checkWholeWith [] [] 0; expected = refuses 1 (word 0) }
+    -- case 0 with an array of two uint64: the sizes of a value and of the one in it
+    ∷ record { source = Req10; call = read grammarCase (countBytes 0 0 ++ (countBytes 2 0 ++ (countBytes 5 0 ++ countBytes 6 0))) 4096; expected = handsOut 2 (8 ∷ 2 ∷ 0 ∷ 0 ∷ 32 ∷ 7 ∷ 1 ∷ 2 ∷ 16 ∷ 24 ∷ []) (VCase 0 (VUint64Array (5 ∷ 6 ∷ []))) }
+    -- row 0 says the size; a row that says a wrong one, and one word too few
+    ∷ record { source = Req10; call = sizeOfRows rowsA 3 recordA; expected = isSize 14 }
+    ∷ record { source = Req10; call = sizeOfRows (4 ∷ 3 ∷ 2 ∷ 0 ∷ 15 ∷ drop 5 rowsA) 3 recordA; expected = refuses 13 (row 0) }
+    ∷ record { source = Req10; call = sizeOfRows (take 14 rowsA ++ (11 ∷ [])) 3 recordA; expected = refuses 13 (row 2) }
+    ∷ record { source = Req10; call = sizeOfRows (take 14 rowsA) 3 recordA; expected = refuses 12 (row 0) }
     ∷ []
 
 -- every call of the list answers as expected

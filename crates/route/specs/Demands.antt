@@ -21,10 +21,10 @@ use Rattle.value.specs.Parse.{parseVal, Demarshallable, DemarshallFunc}
 use Rattle.grammar.specs.Check.{checkGrammar}
 use Rattle.grammar.specs.Rule.{FirstRefusal}
 use Rattle.grammar.specs.Tree.{treeOf}
-use Rattle.tables.specs.Row.{rowWidth}
+use Rattle.tables.specs.Row.{rowWidth, rowAt}
 use Rattle.rows.specs.Layout.{rowsOf}
 use Rattle.rows.specs.Walk.{walk}
-use Rattle.rows.specs.Rule.{TableOf}
+use Rattle.rows.specs.Rule.{StandFor, ValueIn, TableOf}
 use Rattle.rows.specs.Size.{computeSizeOf}
 use Rattle.rows.specs.Locate.{lookUp, locateArray}
 use Rattle.rows.specs.Meaning.{sizeOf, located}
@@ -226,6 +226,13 @@ SizesAgree =
     (t s : List ℕ) (n : ℕ) (r : SizeOf) → Below (2 ^ 64) t → Bytes s → sizeOf r ≡ computeSizeOf t n s
     → (size : ℕ) → (sizeOf r ≡ accepted size) ↔ ((v : Val) × TableOf t n s v × (size ≡ SizeOfV v))
 
+-- "Rows get a fifth word, the value's size in bytes" (document 02): of rows that the walk accepts each stands for the value or one in it, and
+-- its fifth word is that one's `SizeOfV`; row 0 stands for the whole. A walk that leaves the word alone, or looks at row 0's only, fails
+abbrev pub RowsSaySizes : Type 0
+RowsSaySizes =
+    (t s : List ℕ) (n : ℕ) (v : Val) → Below (2 ^ 64) t → Bytes s → walk t n s ≡ accepted v
+    → (rowAt t 0 .size ≡ SizeOfV v) × ((j : ℕ) → j < n → (u : Val) × ValueIn v u × StandFor t s j u × (rowAt t j .size ≡ SizeOfV u))
+
 -- "A new call gives the signed number of a row" (document 02): `signed_number` answers z exactly where z is the number of row i. One that
 -- refuses all fails from right to left, a made-up number from left to right: the rows of the bench's examples (`bench`) have such numbers
 abbrev pub SignedAgrees : Type 0
@@ -308,6 +315,7 @@ pub record Demand2 : Type 0 where
   pub checksAgree : ChecksAgree
   pub rowsAgree : RowsAgree
   pub sizesAgree : SizesAgree
+  pub rowsSaySizes : RowsSaySizes
   pub signedAgrees : SignedAgrees
   pub signedRule : (w : ℕ) → 0 < w → SignedRule w
   pub ruleStands : RuleStands
