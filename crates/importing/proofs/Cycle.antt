@@ -18,7 +18,7 @@ use Rattle.refusal.proofs.Outcome.{clash, map-accepted, test-true, test-false, 
 use Rattle.packed.specs.Packed.{Bytes, Below, putWithin, Lent}
 use Rattle.packed.proofs.Fitting.{putWithin-nothing, putWithin-behind, putWithin-before}
 use Rattle.value.specs.Kinds.{Kind, kindOf, lastKind, array, tuple, union}
-use Rattle.value.specs.Tree.{G, Gs, GArray, GTuple, GTaggedUnion, gnil, gcons, Val, Vals, VArray, VTuple, VCase, vnil, vcons, seqG, seqV, caseAt, ValidGrammar, ValidGrammars, rowCount, rowCounts}
+use Rattle.value.specs.Tree.{G, Gs, GArray, GTuple, GTaggedUnion, gnil, gcons, Val, Vals, VArray, VTuple, VCase, vnil, vcons, seqG, seqV, caseAt, ValidGrammar, ValidGrammars, SizeOfV, SeqSum, rowCount, rowCounts}
 use Rattle.value.specs.Step.{Step, yield, next, give, both, elements}
 use Rattle.value.proofs.KindLaws.{other-kinds, isParent, not-parent}
 use Rattle.tables.specs.Grammar.{nodeCount, kindWord, firstWord, countWord, childWord}
@@ -28,15 +28,16 @@ use Rattle.grammar.specs.Tree.{nodeTree, childTrees, treeOf}
 use Rattle.grammar.proofs.Rule.{node-inside, child-inside}
 use Rattle.grammar.proofs.Tree.{tree-node, tree-valid, trees-length, trees-at}
 use Rattle.rows.specs.Layout.{ownRow}
-use Rattle.xdr.specs.Xdr.{xdrOf, xdrOfAll, storeOf, storeOfAll, rowsIn, rowsInAll}
+use Rattle.xdr.specs.Xdr.{xdrOf, xdrOfAll, xdrSize, storeOf, storeOfAll, rowsIn, rowsInAll}
 use Rattle.xdr.specs.Import.{Filling, Importing, refusal, begin, claim, free, takeNumber, importBody, importFields, importCaseAt, importVal}
+use Rattle.xdr.proofs.Sizes.{sizes}
 use Rattle.xdr.proofs.Rows.{length-rowsIn, length-rowsInAll}
 use Rattle.xdr.proofs.Import.{Took, import-takes, fields-takes}
 use Rattle.importing.specs.declared.Filling.{Filling as CodeFilling}
 use Rattle.importing.specs.declared.Lent.{Lent as CodeLent}
 use Rattle.importing.specs.declared.Step.{Step as CodeStep}
 use Rattle.importing.specs.declared.Step.the-variants as S
-use Rattle.importing.specs.Meaning.{fillingOf, stepOf, takenOf}
+use Rattle.importing.specs.Meaning.{fillingOf, stepOf, StepSize, takenOf}
 use Rattle.importing.specs.Brings.{Ready, Brings, takeBelow, closed, Counted, childPlace, nodeAt, treesAt, Table, Children, Node, RowClaimed, Leaf}
 use Rattle.importing.proofs.Laws.{brings-refused, brings-next, take-moves, node-named}
 
@@ -55,26 +56,27 @@ lent-kept n l m e r = ⊎-elim (λ (q : l ≡ []). inl (none m (e ∙ ap length 
 
 -- ---- what a matched answer says
 
-module _ {A : Type 0} {rowsAt : A → ℕ → List ℕ} {storeAt : A → List ℕ} {x : Importing A} {row used : ℕ} {rows₀ store₀ rows₁ store₁ : List ℕ} {r : CodeStep} where
-  pub went-on : (u : CodeFilling) → r ≡ S.Next u → Brings rowsAt storeAt x row used rows₀ store₀ r rows₁ store₁ → (a : A) × (x ≡ yield a (fillingOf u)) × (rows₁ ≡ laid rows₀ row (rowsAt a used)) × (store₁ ≡ putWithin store₀ used (storeAt a))
+module _ {A : Type 0} {rowsAt : A → ℕ → List ℕ} {storeAt : A → List ℕ} {sizeAt : A → ℕ} {x : Importing A} {row used size : ℕ} {rows₀ store₀ rows₁ store₁ : List ℕ} {r : CodeStep} where
+  pub went-on : (u : CodeFilling) → r ≡ S.Next u → Brings rowsAt storeAt sizeAt x row used size rows₀ store₀ r rows₁ store₁ → (a : A) × (x ≡ yield a (fillingOf u)) × (rows₁ ≡ laid rows₀ row (rowsAt a used)) × (store₁ ≡ putWithin store₀ used (storeAt a)) × (u .size ≡ size + sizeAt a)
   went-on u e b =
       let q : accepted (fillingOf u) ≡ map (λ t. t .state) x = ap stepOf (sym e) ∙ b .answers in
       let m = map-accepted (λ (t : Step Filling A). t .state) x (sym q) in
-      (m .0 .value, m .1 ∙ ap (λ (s : Filling). yield (m .0 .value) s) (sym (m .2)), b .rows (m .0) (m .1), b .store (m .0) (m .1))
+      (m .0 .value, m .1 ∙ ap (λ (s : Filling). yield (m .0 .value) s) (sym (m .2)), b .rows (m .0) (m .1), b .store (m .0) (m .1), subst (StepSize (size + sizeAt (m .0 .value))) e (b .size (m .0) (m .1)))
 
-  pub stopped : (f : Refusal) → r ≡ S.Refused f → Brings rowsAt storeAt x row used rows₀ store₀ r rows₁ store₁ → refused (reasonOf f) ≡ x
+  pub stopped : (f : Refusal) → r ≡ S.Refused f → Brings rowsAt storeAt sizeAt x row used size rows₀ store₀ r rows₁ store₁ → refused (reasonOf f) ≡ x
   stopped f e b = sym (go x (ap stepOf (sym e) ∙ b .answers))
     where
       go : (y : Importing A) → refused (reasonOf f) ≡ map (λ t. t .state) y → y ≡ refused (reasonOf f)
       go (accepted t) h = clash h
       go (refused g) h = cc
 
-  -- where what was imported is something else, with the same rows and bytes
-  pub brings-as : {B : Type 0} {rowsAs : B → ℕ → List ℕ} {storeAs : B → List ℕ} (f : B → A) (y : Importing B) → x ≡ give f y → ((b : B) → rowsAt (f b) used ≡ rowsAs b used) → ((b : B) → storeAt (f b) ≡ storeAs b) → Brings rowsAt storeAt x row used rows₀ store₀ r rows₁ store₁ → Brings rowsAs storeAs y row used rows₀ store₀ r rows₁ store₁
-  brings-as {B} f y e p q b = record {
+  -- where what was imported is something else, with the same rows, bytes and size
+  pub brings-as : {B : Type 0} {rowsAs : B → ℕ → List ℕ} {storeAs : B → List ℕ} {sizeAs : B → ℕ} (f : B → A) (y : Importing B) → x ≡ give f y → ((b : B) → rowsAt (f b) used ≡ rowsAs b used) → ((b : B) → storeAt (f b) ≡ storeAs b) → ((b : B) → sizeAt (f b) ≡ sizeAs b) → Brings rowsAt storeAt sizeAt x row used size rows₀ store₀ r rows₁ store₁ → Brings rowsAs storeAs sizeAs y row used size rows₀ store₀ r rows₁ store₁
+  brings-as {B} f y e p q z b = record {
     answers = b .answers ∙ ap (map (λ (t : Step Filling A). t .state)) e ∙ same y;
     rows = λ t h. b .rows (record { value = f (t .value); state = t .state }) (e ∙ ap (give f) h) ∙ ap (laid rows₀ row) (p (t .value));
     store = λ t h. b .store (record { value = f (t .value); state = t .state }) (e ∙ ap (give f) h) ∙ ap (putWithin store₀ used) (q (t .value));
+    size = λ t h. subst (λ (n : ℕ). StepSize (size + n) r) (z (t .value)) (b .size (record { value = f (t .value); state = t .state }) (e ∙ ap (give f) h));
   }
     where
       same : (z : Importing B) → map (λ (t : Step Filling A). t .state) (give f z) ≡ map (λ (t : Step Filling B). t .state) z
@@ -91,14 +93,14 @@ map-give f (refused e) = refl
 
 -- ---- values one behind the other
 
-pub brings-none : (rows store : List ℕ) (u : CodeFilling) → Brings rowsInAll storeOfAll (yield vnil (fillingOf u)) (u .begun) (u .used) rows store (S.Next u) rows store
-unfolding rowsIn storeOf
-brings-none rows store u = brings-next u vnil refl (sym (putWithin-nothing rows (rowWidth * u .begun))) (sym (putWithin-nothing store (u .used)))
+pub brings-none : (rows store : List ℕ) (u : CodeFilling) → Brings rowsInAll storeOfAll SeqSum (yield vnil (fillingOf u)) (u .begun) (u .used) (u .size) rows store (S.Next u) rows store
+unfolding rowsIn storeOf SizeOfV
+brings-none rows store u = brings-next u vnil refl (sym (putWithin-nothing rows (rowWidth * u .begun))) (sym (putWithin-nothing store (u .used))) (sym (add-zero (u .size)))
 
 -- a value that was imported, with what is imported behind it
-module _ {x : Importing Val} {capacity len row used : ℕ} {rows₀ store₀ rows₁ store₁ rows₂ store₂ : List ℕ} {r : CodeStep} (k : Filling → Importing Vals) (u : CodeFilling) (v : Val) (e : x ≡ yield v (fillingOf u)) (b : u .begun ≡ row + rowCount v) (h : u .used ≡ used + length (storeOf v)) (m : rows₁ ≡ laid rows₀ row (rowsIn v used)) (n : store₁ ≡ putWithin store₀ used (storeOf v)) (lr : Lent (rowWidth * capacity) rows₀) (ls : Lent len store₀) where
-  pub brings-both : ((t : Step Filling Vals) → k (fillingOf u) ≡ accepted t → (u .begun + rowCounts (t .value) ≤ capacity) × (u .used + length (storeOfAll (t .value)) ≤ len)) → Brings rowsInAll storeOfAll (k (fillingOf u)) (u .begun) (u .used) rows₁ store₁ r rows₂ store₂ → Brings rowsInAll storeOfAll (both x k) row used rows₀ store₀ r rows₂ store₂
-  unfolding rowsIn storeOf
+module _ {x : Importing Val} {capacity len row used size : ℕ} {rows₀ store₀ rows₁ store₁ rows₂ store₂ : List ℕ} {r : CodeStep} (k : Filling → Importing Vals) (u : CodeFilling) (v : Val) (e : x ≡ yield v (fillingOf u)) (b : u .begun ≡ row + rowCount v) (h : u .used ≡ used + length (storeOf v)) (m : rows₁ ≡ laid rows₀ row (rowsIn v used)) (n : store₁ ≡ putWithin store₀ used (storeOf v)) (o : u .size ≡ size + SizeOfV v) (lr : Lent (rowWidth * capacity) rows₀) (ls : Lent len store₀) where
+  pub brings-both : ((t : Step Filling Vals) → k (fillingOf u) ≡ accepted t → (u .begun + rowCounts (t .value) ≤ capacity) × (u .used + length (storeOfAll (t .value)) ≤ len)) → Brings rowsInAll storeOfAll SeqSum (k (fillingOf u)) (u .begun) (u .used) (u .size) rows₁ store₁ r rows₂ store₂ → Brings rowsInAll storeOfAll SeqSum (both x k) row used size rows₀ store₀ r rows₂ store₂
+  unfolding rowsIn storeOf SizeOfV
   brings-both few rest = record {
     answers = rest .answers ∙ sym (ap (λ (y : Importing Val). map (λ t. t .state) (both y k)) e ∙ map-give (vcons v) (k (fillingOf u)));
     rows = λ t f.
@@ -117,21 +119,28 @@ module _ {x : Importing Val} {capacity len row used : ℕ} {rows₀ store₀ row
         rest .store (q .0) (q .1) ∙ ap (λ (z : List ℕ). putWithin z (u .used) (storeOfAll vs)) n
         ∙ putWithin-behind store₀ used (u .used) (storeOf v) (storeOfAll vs) h (lent-fewer len _ store₀ (omega arith) ls)
         ∙ ap (λ (y : Step Filling Vals). putWithin store₀ used (storeOfAll (y .value))) (sym (q .2));
+    size = λ t f.
+        let q = give-accepted (vcons v) (k (fillingOf u)) t (sym (ap (λ (y : Importing Val). both y k) e) ∙ f) in
+        let vs = q .0 .value in
+        let z : u .size + SeqSum vs ≡ size + (SizeOfV v + SeqSum vs) = omega (arith, o) in
+        subst (λ (n : ℕ). StepSize n r) (z ∙ ap (λ (y : Step Filling Vals). size + SeqSum (y .value)) (sym (q .2))) (rest .size (q .0) (q .1));
   }
 
 -- ---- a parent's row, laid before its children's
 
-module _ {A : Type 0} {rowsAt : A → ℕ → List ℕ} {storeAt : A → List ℕ} {x : Importing A} {capacity row used : ℕ} {rows₀ store₀ rows₁ store₁ : List ℕ} (f : A → Val) (kind word2 : ℕ) (lr : Lent (rowWidth * capacity) rows₀) where
-  pub brings-close : (c : CodeStep) → ((t : Step Filling A) → x ≡ accepted t → (rowsIn (f (t .value)) used ≡ (kind ∷ (t .state .begun - row) ∷ word2 ∷ 0 ∷ []) ++ rowsAt (t .value) used) × (storeOf (f (t .value)) ≡ storeAt (t .value)) × (row + rowCount (f (t .value)) ≤ capacity)) → Brings rowsAt storeAt x (suc row) used rows₀ store₀ c rows₁ store₁ → Brings rowsIn storeOf (give f x) row used rows₀ store₀ c (closed row kind word2 c rows₁) store₁
+module _ {A : Type 0} {rowsAt : A → ℕ → List ℕ} {storeAt : A → List ℕ} {sizeAt : A → ℕ} {x : Importing A} {capacity row used size : ℕ} {rows₀ store₀ rows₁ store₁ : List ℕ} (f : A → Val) (kind word2 start : ℕ) (lr : Lent (rowWidth * capacity) rows₀) where
+  pub brings-close : (c : CodeStep) → ((t : Step Filling A) → x ≡ accepted t → (rowsIn (f (t .value)) used ≡ (kind ∷ (t .state .begun - row) ∷ word2 ∷ 0 ∷ SizeOfV (f (t .value)) ∷ []) ++ rowsAt (t .value) used) × (storeOf (f (t .value)) ≡ storeAt (t .value)) × (row + rowCount (f (t .value)) ≤ capacity) × (start + SizeOfV (f (t .value)) ≡ size + sizeAt (t .value))) → Brings rowsAt storeAt sizeAt x (suc row) used size rows₀ store₀ c rows₁ store₁ → Brings rowsIn storeOf SizeOfV (give f x) row used start rows₀ store₀ c (closed row kind word2 start c rows₁) store₁
   brings-close (S.Next u) own b =
       let w = went-on u refl b in
       let o = own (record { value = w .0; state = fillingOf u }) (w .1) in
-      let ws = kind ∷ (u .begun - row) ∷ word2 ∷ 0 ∷ [] in
-      let n : length (rowsIn (f (w .0)) used) ≡ 4 + length (rowsAt (w .0) used) = ap length (o .0) ∙ omega arith in
+      let ws = kind ∷ (u .begun - row) ∷ word2 ∷ 0 ∷ SizeOfV (f (w .0)) ∷ [] in
+      let z : u .size - start ≡ SizeOfV (f (w .0)) = omega (arith, w .4, o .3) in
+      let n : length (rowsIn (f (w .0)) used) ≡ rowWidth + length (rowsAt (w .0) used) = ap length (o .0) ∙ omega arith in
       let l = length-rowsIn (f (w .0)) used in
       brings-next u (f (w .0)) (sym (ap (give f) (w .1)))
-      (ap (λ (z : List ℕ). laid z row ws) (w .2) ∙ putWithin-before rows₀ (rowWidth * row) (rowWidth * suc row) ws (rowsAt (w .0) used) (omega arith) (lent-fewer (rowWidth * capacity) _ rows₀ (omega (arith, o .2)) lr) ∙ ap (laid rows₀ row) (sym (o .0)))
+      (ap (λ (i : ℕ). laid rows₁ row (kind ∷ (u .begun - row) ∷ word2 ∷ 0 ∷ i ∷ [])) z ∙ ap (λ (l : List ℕ). laid l row ws) (w .2) ∙ putWithin-before rows₀ (rowWidth * row) (rowWidth * suc row) ws (rowsAt (w .0) used) (omega arith) (lent-fewer (rowWidth * capacity) _ rows₀ (omega (arith, o .2)) lr) ∙ ap (laid rows₀ row) (sym (o .0)))
       (w .3 ∙ ap (putWithin store₀ used) (sym (o .1)))
+      (w .4 ∙ sym (o .3))
   brings-close (S.Refused g) own b = brings-refused g (ap (give f) (stopped g refl b))
 
 -- ---- heads: a count or a tag below its limit, and what is imported behind it
@@ -246,10 +255,10 @@ module _ (t : List ℕ) where
 
     -- what accepted values say of the state behind them
     module _ (capacity len : ℕ) (d : List ℕ) (b : Bytes d) (s : Filling) (inside : s .at ≤ length d) (within : s .used ≤ len) where
-      pub val-accepted : (k : ℕ) (u : Step Filling Val) → importVal capacity len d (treeOf t k) s ≡ accepted u → (u .state .at ≤ length d) × (u .state .begun ≡ s .begun + rowCount (u .value)) × (u .state .begun ≤ capacity) × (u .state .used ≡ s .used + length (storeOf (u .value))) × (u .state .used ≤ len)
+      pub val-accepted : (k : ℕ) (u : Step Filling Val) → importVal capacity len d (treeOf t k) s ≡ accepted u → (u .state .at ≤ length d) × (u .state .begun ≡ s .begun + rowCount (u .value)) × (u .state .begun ≤ capacity) × (u .state .used ≡ s .used + length (storeOf (u .value))) × (u .state .used ≤ len) × (u .state .at ≡ s .at + xdrSize (u .value))
       val-accepted k u e =
           let x = post-accepted (rw e at (import-takes capacity len d b (treeOf t k) (tree-valid t w k) s inside within)) in
-          (x .there .inside, x .begun, x .claimed, x .used, x .filled)
+          (x .there .inside, x .begun, x .claimed, x .used, x .filled, x .there .end)
 
       pub all-accepted : s .begun ≤ capacity → (place step n : ℕ) (u : Step Filling Vals) → importFields capacity len d (treesAt t place step n) s ≡ accepted u → (u .state .begun ≡ s .begun + rowCounts (u .value)) × (u .state .begun ≤ capacity) × (u .state .used ≡ s .used + length (storeOfAll (u .value))) × (u .state .used ≤ len)
       all-accepted few place step n u e =
@@ -341,12 +350,13 @@ pub record Claimed (capacity : ℕ) (s t : CodeFilling) : Type 0 where
   pub at : t .at ≡ s .at
   pub begun : t .begun ≡ s .begun + 1
   pub used : t .used ≡ s .used
+  pub size : t .size ≡ s .size
   pub free : s .begun < capacity
   pub claimed : claim capacity (fillingOf s) ≡ accepted (fillingOf t)
 
-pub claimed-next : (capacity : ℕ) (s t : CodeFilling) {r : CodeStep} → r ≡ S.Next t → stepOf r ≡ claim capacity (fillingOf s) → Claimed capacity s t
+pub claimed-next : (capacity : ℕ) (s t : CodeFilling) {r : CodeStep} → r ≡ S.Next t → stepOf r ≡ claim capacity (fillingOf s) → StepSize (s .size) r → Claimed capacity s t
 unfolding claim
-claimed-next capacity s t e h =
+claimed-next capacity s t e h z =
     let q : accepted (fillingOf t) ≡ claim capacity (fillingOf s) = ap stepOf (sym e) ∙ h in
     let b = test-passed (ltb (s .begun) capacity) (refusal 8 (fillingOf s)) (λ _. accepted (begin (fillingOf s))) (fillingOf t) (sym q) in
     let f : accepted (fillingOf t) ≡ accepted (begin (fillingOf s)) = q ∙ test-true _ _ b in
@@ -355,19 +365,20 @@ claimed-next capacity s t e h =
       at = ap (λ (u : Filling). u .at) g;
       begun = ap (λ (u : Filling). u .begun) g ∙ sym (add-one (s .begun));
       used = ap (λ (u : Filling). u .used) g;
+      size = subst (StepSize (s .size)) e z;
       free = ltb-true (s .begun) capacity b;
       claimed = sym q;
     }
 
 module _ (capacity len : ℕ) (d : List ℕ) (g : G) (s : CodeFilling) where
-  pub arm-refused : {rows₀ store₀ rows₁ store₁ : List ℕ} {r : CodeStep} (f : Refusal) → r ≡ S.Refused f → stepOf r ≡ claim capacity (fillingOf s) → Brings rowsIn storeOf (importVal capacity len d g (fillingOf s)) (s .begun) (s .used) rows₀ store₀ (S.Refused f) rows₁ store₁
+  pub arm-refused : {rows₀ store₀ rows₁ store₁ : List ℕ} {r : CodeStep} (f : Refusal) → r ≡ S.Refused f → stepOf r ≡ claim capacity (fillingOf s) → Brings rowsIn storeOf SizeOfV (importVal capacity len d g (fillingOf s)) (s .begun) (s .used) (s .size) rows₀ store₀ (S.Refused f) rows₁ store₁
   arm-refused f e h = brings-refused f (ap (λ (x : Outcome Reason Filling). bind x (importBody capacity len d g)) (ap stepOf (sym e) ∙ h))
 
   -- what imported the body has imported the value
-  pub arm-body : {rows₀ store₀ rows₁ store₁ : List ℕ} {r : CodeStep} (t : CodeFilling) → Claimed capacity s t → Brings rowsIn storeOf (importBody capacity len d g (fillingOf t)) (s .begun) (t .used) rows₀ store₀ r rows₁ store₁ → Brings rowsIn storeOf (importVal capacity len d g (fillingOf s)) (s .begun) (s .used) rows₀ store₀ r rows₁ store₁
+  pub arm-body : {rows₀ store₀ rows₁ store₁ : List ℕ} {r : CodeStep} (t : CodeFilling) → Claimed capacity s t → Brings rowsIn storeOf SizeOfV (importBody capacity len d g (fillingOf t)) (s .begun) (t .used) (t .size) rows₀ store₀ r rows₁ store₁ → Brings rowsIn storeOf SizeOfV (importVal capacity len d g (fillingOf s)) (s .begun) (s .used) (s .size) rows₀ store₀ r rows₁ store₁
   arm-body {rows₀} {store₀} {rows₁} {store₁} {r} t c b =
       let e : importVal capacity len d g (fillingOf s) ≡ importBody capacity len d g (fillingOf t) = ap (λ (x : Outcome Reason Filling). bind x (importBody capacity len d g)) (c .claimed) in
-      rw e (subst (λ (p : ℕ). Brings rowsIn storeOf (importBody capacity len d g (fillingOf t)) (s .begun) p rows₀ store₀ r rows₁ store₁) (c .used) b)
+      rw (e, ← c .used, ← c .size) b
 
 pub ready-claimed : {d rows store : List ℕ} {lent : CodeLent} (s t : CodeFilling) → Ready d rows store lent s → Claimed (lent .capacity) s t → Ready d rows store lent t
 ready-claimed s t p c = record {
@@ -377,6 +388,7 @@ ready-claimed s t p c = record {
   most = p .most;
   within = omega (arith, c .used, p .within);
   small = p .small;
+  sized = omega (arith, c .at, c .begun, c .size, p .sized);
   rowsLent = p .rowsLent;
   storeLent = p .storeLent;
   byteValues = p .byteValues;
@@ -388,8 +400,9 @@ leaf e n l = record { noArray = not-parent e n refl; noTuple = not-parent e n re
 -- ---- the readers of parents
 
 -- a state behind the count or tag of the value begun at s
-pub ready-below : {d rows store : List ℕ} {lent : CodeLent} (limit number : ℕ) (s : CodeFilling) (n : ℕ) (u : CodeFilling) → Ready d rows store lent s → yield n (fillingOf u) ≡ takeBelow d limit number (fillingOf s) → Ready d rows store lent u
-ready-below {d} limit number s n u p h =
+pub ready-below : {t d rows store : List ℕ} {node kind row : ℕ} {lent : CodeLent} (limit number : ℕ) (s : CodeFilling) (n : ℕ) (u : CodeFilling) → RowClaimed t d rows store node kind row lent s → yield n (fillingOf u) ≡ takeBelow d limit number (fillingOf s) → u .size ≡ s .size + 8 → Ready d rows store lent u
+ready-below {d = d} limit number s n u c h z =
+    let p = c .ready in
     let x = below-taken d limit number (fillingOf s) n u h in
     record {
       inside = omega (arith, x .0, x .4);
@@ -398,30 +411,31 @@ ready-below {d} limit number s n u p h =
       most = p .most;
       within = omega (arith, x .2, p .within);
       small = p .small;
+      sized = omega (arith, x .0, x .1, z, c .claimed, c .sized);
       rowsLent = p .rowsLent;
       storeLent = p .storeLent;
       byteValues = p .byteValues;
     }
 
 -- children that were imported are counted behind the row of their parent
-pub counted-children : (t d : List ℕ) {rows₀ store₀ rows₁ store₁ : List ℕ} {row : ℕ} (lent : CodeLent) (u : CodeFilling) (place step n : ℕ) (read : CodeStep) → Table t → Ready d rows₀ store₀ lent u → row < u .begun → Brings rowsInAll storeOfAll (importFields (lent .capacity) (lent .room) d (treesAt t place step n) (fillingOf u)) (u .begun) (u .used) rows₀ store₀ read rows₁ store₁ → Counted row read
-counted-children t d lent u place step n (S.Refused f) b p l h = tt
-counted-children t d lent u place step n (S.Next v) b p l h =
+pub counted-children : (t d : List ℕ) {rows₀ store₀ rows₁ store₁ : List ℕ} {row start : ℕ} (lent : CodeLent) (u : CodeFilling) (place step n : ℕ) (read : CodeStep) → Table t → Ready d rows₀ store₀ lent u → row < u .begun → start ≤ u .size → Brings rowsInAll storeOfAll SeqSum (importFields (lent .capacity) (lent .room) d (treesAt t place step n) (fillingOf u)) (u .begun) (u .used) (u .size) rows₀ store₀ read rows₁ store₁ → Counted row start read
+counted-children t d lent u place step n (S.Refused f) b p l m h = tt
+counted-children t d lent u place step n (S.Next v) b p l m h =
     let w = went-on v refl h in
     let x = all-accepted t (b .words) (lent .capacity) (lent .room) d (p .byteValues) (fillingOf u) (p .inside) (p .within) (p .few) place step n (record { value = w .0; state = fillingOf v }) (w .1) in
-    omega (arith, x .0)
+    (omega (arith, x .0), omega (arith, w .4))
 
 -- a parent's row before its children's
 module _ (span word2 used : ℕ) where
-  own-array : (vs : Vals) → span ≡ 1 + rowCounts vs → length (seqV vs) ≡ word2 → rowsIn (VArray vs) used ≡ (3 ∷ span ∷ word2 ∷ 0 ∷ []) ++ rowsInAll vs used
+  own-array : (vs : Vals) → span ≡ 1 + rowCounts vs → length (seqV vs) ≡ word2 → rowsIn (VArray vs) used ≡ (3 ∷ span ∷ word2 ∷ 0 ∷ SizeOfV (VArray vs) ∷ []) ++ rowsInAll vs used
   unfolding rowsIn ownRow rowCount
   own-array vs b l = rw (b, l)
 
-  own-tuple : (vs : Vals) → span ≡ 1 + rowCounts vs → length (seqV vs) ≡ word2 → rowsIn (VTuple vs) used ≡ (4 ∷ span ∷ word2 ∷ 0 ∷ []) ++ rowsInAll vs used
+  own-tuple : (vs : Vals) → span ≡ 1 + rowCounts vs → length (seqV vs) ≡ word2 → rowsIn (VTuple vs) used ≡ (4 ∷ span ∷ word2 ∷ 0 ∷ SizeOfV (VTuple vs) ∷ []) ++ rowsInAll vs used
   unfolding rowsIn ownRow rowCount
   own-tuple vs b l = rw (b, l)
 
-  own-case : (v : Val) → span ≡ 1 + rowCount v → rowsIn (VCase word2 v) used ≡ (8 ∷ span ∷ word2 ∷ 0 ∷ []) ++ rowsIn v used
+  own-case : (v : Val) → span ≡ 1 + rowCount v → rowsIn (VCase word2 v) used ≡ (8 ∷ span ∷ word2 ∷ 0 ∷ SizeOfV (VCase word2 v) ∷ []) ++ rowsIn v used
   unfolding rowsIn ownRow rowCount
   own-case v b = rw b
 
@@ -432,6 +446,10 @@ parent-rows vs c v = (refl, refl, refl)
 parent-store : (vs : Vals) (c : ℕ) (v : Val) → (storeOf (VArray vs) ≡ storeOfAll vs) × (storeOf (VTuple vs) ≡ storeOfAll vs) × (storeOf (VCase c v) ≡ storeOf v)
 unfolding storeOf
 parent-store vs c v = (refl, refl, refl)
+
+parent-size : (vs : Vals) (c : ℕ) (v : Val) → (SizeOfV (VArray vs) ≡ 8 + SeqSum vs) × (SizeOfV (VTuple vs) ≡ SeqSum vs) × (SizeOfV (VCase c v) ≡ 8 + SizeOfV v)
+unfolding SizeOfV
+parent-size vs c v = (refl, refl, refl)
 
 -- as many as were asked for
 trees-count : (capacity len : ℕ) (d t : List ℕ) (place step n : ℕ) (s : Filling) (u : Step Filling Vals) → importFields capacity len d (treesAt t place step n) s ≡ accepted u → length (seqV (u .value)) ≡ n
@@ -451,75 +469,79 @@ pub one-store : (v : Val) → storeOfAll (vcons v vnil) ≡ storeOf v
 unfolding storeOf
 one-store v = append-nil (storeOf v)
 
+pub one-size : (v : Val) → SeqSum (vcons v vnil) ≡ SizeOfV v
+unfolding SizeOfV
+one-size v = add-zero (SizeOfV v)
+
 module _ (t d : List ℕ) {rows₀ store₀ : List ℕ} {row : ℕ} {lent : CodeLent} {s : CodeFilling} where
   -- the children of the value begun at s, imported from u on, and its own row
   module _ (p : Ready d rows₀ store₀ lent s) (b : Table t) (c : s .begun ≡ row + 1) (u : CodeFilling) (q : Ready d rows₀ store₀ lent u) (e : u .begun ≡ s .begun) (g : u .used ≡ s .used) where
-    here : {A : Type 0} {rowsAt : A → ℕ → List ℕ} {storeAt : A → List ℕ} {x : Importing A} {read : CodeStep} {rows₁ store₁ : List ℕ} → Brings rowsAt storeAt x (u .begun) (u .used) rows₀ store₀ read rows₁ store₁ → Brings rowsAt storeAt x (suc row) (s .used) rows₀ store₀ read rows₁ store₁
-    here {A} {rowsAt} {storeAt} {x} {read} {rows₁} {store₁} h =
+    here : {A : Type 0} {rowsAt : A → ℕ → List ℕ} {storeAt : A → List ℕ} {sizeAt : A → ℕ} {x : Importing A} {read : CodeStep} {rows₁ store₁ : List ℕ} → Brings rowsAt storeAt sizeAt x (u .begun) (u .used) (u .size) rows₀ store₀ read rows₁ store₁ → Brings rowsAt storeAt sizeAt x (suc row) (s .used) (u .size) rows₀ store₀ read rows₁ store₁
+    here {A} {rowsAt} {storeAt} {sizeAt} {x} {read} {rows₁} {store₁} h =
         let i : u .begun ≡ suc row = omega (arith, add-one row) in
-        subst (λ (j : ℕ). Brings rowsAt storeAt x j (s .used) rows₀ store₀ read rows₁ store₁) i (subst (λ (j : ℕ). Brings rowsAt storeAt x (u .begun) j rows₀ store₀ read rows₁ store₁) g h)
+        subst (λ (j : ℕ). Brings rowsAt storeAt sizeAt x j (s .used) (u .size) rows₀ store₀ read rows₁ store₁) i (subst (λ (j : ℕ). Brings rowsAt storeAt sizeAt x (u .begun) j (u .size) rows₀ store₀ read rows₁ store₁) g h)
 
     close-all : (f : Vals → Val) (kind place step n : ℕ) {read r : CodeStep} {rows₁ store₁ exit : List ℕ}
-        → ((span : ℕ) (vs : Vals) → span ≡ 1 + rowCounts vs → length (seqV vs) ≡ n → rowsIn (f vs) (s .used) ≡ (kind ∷ span ∷ n ∷ 0 ∷ []) ++ rowsInAll vs (s .used)) → ((vs : Vals) → storeOf (f vs) ≡ storeOfAll vs) → ((vs : Vals) → rowCount (f vs) ≡ 1 + rowCounts vs)
-        → Brings rowsInAll storeOfAll (importFields (lent .capacity) (lent .room) d (treesAt t place step n) (fillingOf u)) (u .begun) (u .used) rows₀ store₀ read rows₁ store₁ → r ≡ read → exit ≡ closed row kind n read rows₁
-        → Brings rowsIn storeOf (give f (importFields (lent .capacity) (lent .room) d (treesAt t place step n) (fillingOf u))) row (s .used) rows₀ store₀ r exit store₁
-    close-all f kind place step n {read} own held count h i o =
-        rw (i, o) (brings-close f kind n (p .rowsLent) read
+        → ((span : ℕ) (vs : Vals) → span ≡ 1 + rowCounts vs → length (seqV vs) ≡ n → rowsIn (f vs) (s .used) ≡ (kind ∷ span ∷ n ∷ 0 ∷ SizeOfV (f vs) ∷ []) ++ rowsInAll vs (s .used)) → ((vs : Vals) → storeOf (f vs) ≡ storeOfAll vs) → ((vs : Vals) → rowCount (f vs) ≡ 1 + rowCounts vs) → ((vs : Vals) → s .size + SizeOfV (f vs) ≡ u .size + SeqSum vs)
+        → Brings rowsInAll storeOfAll SeqSum (importFields (lent .capacity) (lent .room) d (treesAt t place step n) (fillingOf u)) (u .begun) (u .used) (u .size) rows₀ store₀ read rows₁ store₁ → r ≡ read → exit ≡ closed row kind n (s .size) read rows₁
+        → Brings rowsIn storeOf SizeOfV (give f (importFields (lent .capacity) (lent .room) d (treesAt t place step n) (fillingOf u))) row (s .used) (s .size) rows₀ store₀ r exit store₁
+    close-all f kind place step n {read} own held count size h i o =
+        rw (i, o) (brings-close f kind n (s .size) (p .rowsLent) read
         (λ w m.
         let x = all-accepted t (b .words) (lent .capacity) (lent .room) d (q .byteValues) (fillingOf u) (q .inside) (q .within) (q .few) place step n w m in
         let k = count (w .value) in
-        (own (w .state .begun - row) (w .value) (omega (arith, x .0)) (trees-count (lent .capacity) (lent .room) d t place step n (fillingOf u) w m), held (w .value), omega (arith, x .0, x .1)))
+        (own (w .state .begun - row) (w .value) (omega (arith, x .0)) (trees-count (lent .capacity) (lent .room) d t place step n (fillingOf u) w m), held (w .value), omega (arith, x .0, x .1), size (w .value)))
         (here h))
 
-    close-case : (place tag : ℕ) {read r : CodeStep} {rows₁ store₁ exit : List ℕ} → Brings rowsInAll storeOfAll (importFields (lent .capacity) (lent .room) d (treesAt t place 0 1) (fillingOf u)) (u .begun) (u .used) rows₀ store₀ read rows₁ store₁ → r ≡ read → exit ≡ closed row 8 tag read rows₁
-        → Brings rowsIn storeOf (give (VCase tag) (importVal (lent .capacity) (lent .room) d (treeOf t (nodeAt t place)) (fillingOf u))) row (s .used) rows₀ store₀ r exit store₁
-    close-case place tag {read} {r} {rows₁} {store₁} h i o =
+    close-case : (place tag : ℕ) {read r : CodeStep} {rows₁ store₁ exit : List ℕ} → u .size ≡ s .size + 8 → Brings rowsInAll storeOfAll SeqSum (importFields (lent .capacity) (lent .room) d (treesAt t place 0 1) (fillingOf u)) (u .begun) (u .used) (u .size) rows₀ store₀ read rows₁ store₁ → r ≡ read → exit ≡ closed row 8 tag (s .size) read rows₁
+        → Brings rowsIn storeOf SizeOfV (give (VCase tag) (importVal (lent .capacity) (lent .room) d (treeOf t (nodeAt t place)) (fillingOf u))) row (s .used) (s .size) rows₀ store₀ r exit store₁
+    close-case place tag {read} {r} {rows₁} {store₁} n h i o =
         let x = importVal (lent .capacity) (lent .room) d (treeOf t (nodeAt t place)) (fillingOf u) in
-        let z : Brings rowsIn storeOf x (suc row) (s .used) rows₀ store₀ read rows₁ store₁ = here (brings-as {rowsAs = rowsIn} {storeAs = storeOf} (λ v. vcons v vnil) x (tree-one t (lent .capacity) (lent .room) d place (fillingOf u)) (λ v. one-row v (u .used)) one-store h) in
-        rw (i, o) (brings-close (VCase tag) 8 tag (p .rowsLent) read
+        let z : Brings rowsIn storeOf SizeOfV x (suc row) (s .used) (u .size) rows₀ store₀ read rows₁ store₁ = here (brings-as {rowsAs = rowsIn} {storeAs = storeOf} {sizeAs = SizeOfV} (λ v. vcons v vnil) x (tree-one t (lent .capacity) (lent .room) d place (fillingOf u)) (λ v. one-row v (u .used)) one-store one-size h) in
+        rw (i, o) (brings-close (VCase tag) 8 tag (s .size) (p .rowsLent) read
         (λ w m.
         let y = val-accepted t (b .words) (lent .capacity) (lent .room) d (q .byteValues) (fillingOf u) (q .inside) (q .within) (nodeAt t place) w m in
         let k = parent-rows vnil tag (w .value) .2 in
-        (own-case (w .state .begun - row) tag (s .used) (w .value) (omega (arith, y .1)), parent-store vnil tag (w .value) .2, omega (arith, y .1, y .2)))
+        (own-case (w .state .begun - row) tag (s .used) (w .value) (omega (arith, y .1)), parent-store vnil tag (w .value) .2, omega (arith, y .1, y .2), omega (arith, n, parent-size vnil tag (w .value) .2)))
         z)
 
 -- the readers of arrays, tuples and cases, of a node whose value has claimed its row
 module _ {t d rows₀ store₀ : List ℕ} {node kind row : ℕ} {lent : CodeLent} {s : CodeFilling} (p : RowClaimed t d rows₀ store₀ node kind row lent s) where
-  pub arm-array-refused : kind ≡ 3 → {rows₁ store₁ : List ℕ} (f : Refusal) → refused (reasonOf f) ≡ takeBelow d (lent .capacity - s .begun + 1) 8 (fillingOf s) → Brings rowsIn storeOf (importBody (lent .capacity) (lent .room) d (treeOf t node) (fillingOf s)) row (s .used) rows₀ store₀ (S.Refused f) rows₁ store₁
+  pub arm-array-refused : kind ≡ 3 → {rows₁ store₁ : List ℕ} (f : Refusal) → refused (reasonOf f) ≡ takeBelow d (lent .capacity - s .begun + 1) 8 (fillingOf s) → Brings rowsIn storeOf SizeOfV (importBody (lent .capacity) (lent .room) d (treeOf t node) (fillingOf s)) row (s .used) (s .size) rows₀ store₀ (S.Refused f) rows₁ store₁
   arm-array-refused k f h =
       let g = treeOf t (nodeAt t (childPlace t node)) in
       brings-refused f (ap (λ (x : Importing ℕ). next x (λ n u. give VArray (elements n (importVal (lent .capacity) (lent .room) d g) u))) h ∙ array-body (lent .capacity) (lent .room) d (fillingOf s) g ∙ ap (λ (x : G). importBody (lent .capacity) (lent .room) d x (fillingOf s)) (sym (array-tree t node (p .node) (p .kind ∙ k))))
 
-  pub arm-array : kind ≡ 3 → (count : ℕ) (u : CodeFilling) {read r : CodeStep} {rows₁ store₁ exit : List ℕ} → yield count (fillingOf u) ≡ takeBelow d (lent .capacity - s .begun + 1) 8 (fillingOf s) → Brings rowsInAll storeOfAll (importFields (lent .capacity) (lent .room) d (treesAt t (childPlace t node) 0 count) (fillingOf u)) (u .begun) (u .used) rows₀ store₀ read rows₁ store₁ → r ≡ read → exit ≡ closed row 3 count read rows₁ → Brings rowsIn storeOf (importBody (lent .capacity) (lent .room) d (treeOf t node) (fillingOf s)) row (s .used) rows₀ store₀ r exit store₁
-  arm-array k count u h b i o =
+  pub arm-array : kind ≡ 3 → (count : ℕ) (u : CodeFilling) {read r : CodeStep} {rows₁ store₁ exit : List ℕ} → yield count (fillingOf u) ≡ takeBelow d (lent .capacity - s .begun + 1) 8 (fillingOf s) → u .size ≡ s .size + 8 → Brings rowsInAll storeOfAll SeqSum (importFields (lent .capacity) (lent .room) d (treesAt t (childPlace t node) 0 count) (fillingOf u)) (u .begun) (u .used) (u .size) rows₀ store₀ read rows₁ store₁ → r ≡ read → exit ≡ closed row 3 count (s .size) read rows₁ → Brings rowsIn storeOf SizeOfV (importBody (lent .capacity) (lent .room) d (treeOf t node) (fillingOf s)) row (s .used) (s .size) rows₀ store₀ r exit store₁
+  arm-array k count u h z b i o =
       let g = treeOf t (nodeAt t (childPlace t node)) in
       let x = below-taken d (lent .capacity - s .begun + 1) 8 (fillingOf s) count u h in
       let e : give VArray (importFields (lent .capacity) (lent .room) d (treesAt t (childPlace t node) 0 count) (fillingOf u)) ≡ importBody (lent .capacity) (lent .room) d (treeOf t node) (fillingOf s) =
       ap (give VArray) (trees-elements t (lent .capacity) (lent .room) d (childPlace t node) count (fillingOf u)) ∙ ap (λ (x : Importing ℕ). next x (λ n u. give VArray (elements n (importVal (lent .capacity) (lent .room) d g) u))) h ∙ array-body (lent .capacity) (lent .room) d (fillingOf s) g ∙ ap (λ (x : G). importBody (lent .capacity) (lent .room) d x (fillingOf s)) (sym (array-tree t node (p .node) (p .kind ∙ k))) in
-      rw (← e) (close-all t d (p .ready) (p .node .table) (p .claimed) u (ready-below (lent .capacity - s .begun + 1) 8 s count u (p .ready) h) (x .1) (x .2) VArray 3 (childPlace t node) 0 count (λ span vs. own-array span count (s .used) vs) (λ vs. parent-store vs 0 (VArray vs) .0) (λ vs. parent-rows vs 0 (VArray vs) .0) b i o)
+      rw (← e) (close-all t d (p .ready) (p .node .table) (p .claimed) u (ready-below (lent .capacity - s .begun + 1) 8 s count u p h z) (x .1) (x .2) VArray 3 (childPlace t node) 0 count (λ span vs. own-array span count (s .used) vs) (λ vs. parent-store vs 0 (VArray vs) .0) (λ vs. parent-rows vs 0 (VArray vs) .0) (λ vs. omega (arith, z, parent-size vs 0 (VArray vs) .0)) b i o)
 
-  pub arm-tuple : kind ≡ 4 → (count : ℕ) {read r : CodeStep} {rows₁ store₁ exit : List ℕ} → count ≡ countWord t node → Brings rowsInAll storeOfAll (importFields (lent .capacity) (lent .room) d (treesAt t (childPlace t node) 1 count) (fillingOf s)) (s .begun) (s .used) rows₀ store₀ read rows₁ store₁ → r ≡ read → exit ≡ closed row 4 count read rows₁ → Brings rowsIn storeOf (importBody (lent .capacity) (lent .room) d (treeOf t node) (fillingOf s)) row (s .used) rows₀ store₀ r exit store₁
+  pub arm-tuple : kind ≡ 4 → (count : ℕ) {read r : CodeStep} {rows₁ store₁ exit : List ℕ} → count ≡ countWord t node → Brings rowsInAll storeOfAll SeqSum (importFields (lent .capacity) (lent .room) d (treesAt t (childPlace t node) 1 count) (fillingOf s)) (s .begun) (s .used) (s .size) rows₀ store₀ read rows₁ store₁ → r ≡ read → exit ≡ closed row 4 count (s .size) read rows₁ → Brings rowsIn storeOf SizeOfV (importBody (lent .capacity) (lent .room) d (treeOf t node) (fillingOf s)) row (s .used) (s .size) rows₀ store₀ r exit store₁
   unfolding importBody
   arm-tuple k count c b i o =
       let e : give VTuple (importFields (lent .capacity) (lent .room) d (treesAt t (childPlace t node) 1 count) (fillingOf s)) ≡ importBody (lent .capacity) (lent .room) d (treeOf t node) (fillingOf s) =
       ap (λ (n : ℕ). importBody (lent .capacity) (lent .room) d (GTuple (treesAt t (childPlace t node) 1 n)) (fillingOf s)) c ∙ ap (λ (x : G). importBody (lent .capacity) (lent .room) d x (fillingOf s)) (sym (tuple-tree t node (p .node) (p .kind ∙ k))) in
-      rw (← e) (close-all t d (p .ready) (p .node .table) (p .claimed) s (p .ready) refl refl VTuple 4 (childPlace t node) 1 count (λ span vs. own-tuple span count (s .used) vs) (λ vs. parent-store vs 0 (VArray vs) .1) (λ vs. parent-rows vs 0 (VArray vs) .1) b i o)
+      rw (← e) (close-all t d (p .ready) (p .node .table) (p .claimed) s (p .ready) refl refl VTuple 4 (childPlace t node) 1 count (λ span vs. own-tuple span count (s .used) vs) (λ vs. parent-store vs 0 (VArray vs) .1) (λ vs. parent-rows vs 0 (VArray vs) .1) (λ vs. ap (λ (n : ℕ). s .size + n) (parent-size vs 0 (VArray vs) .1)) b i o)
 
-  pub arm-case-refused : kind ≡ 8 → (limit : ℕ) → limit ≡ countWord t node → {rows₁ store₁ : List ℕ} (f : Refusal) → refused (reasonOf f) ≡ takeBelow d limit 10 (fillingOf s) → Brings rowsIn storeOf (importBody (lent .capacity) (lent .room) d (treeOf t node) (fillingOf s)) row (s .used) rows₀ store₀ (S.Refused f) rows₁ store₁
+  pub arm-case-refused : kind ≡ 8 → (limit : ℕ) → limit ≡ countWord t node → {rows₁ store₁ : List ℕ} (f : Refusal) → refused (reasonOf f) ≡ takeBelow d limit 10 (fillingOf s) → Brings rowsIn storeOf SizeOfV (importBody (lent .capacity) (lent .room) d (treeOf t node) (fillingOf s)) row (s .used) (s .size) rows₀ store₀ (S.Refused f) rows₁ store₁
   arm-case-refused k limit c f h =
       let g = case-tree t node (p .node) (p .kind ∙ k) in
       let e : limit ≡ length (seqG (g .0)) = c ∙ sym (g .2) in
       brings-refused f (ap (λ (x : Importing ℕ). next x (λ n u. give (VCase n) (importVal (lent .capacity) (lent .room) d (caseAt (g .0) n) u))) (h ∙ ap (λ (l : ℕ). takeBelow d l 10 (fillingOf s)) e) ∙ case-body (lent .capacity) (lent .room) d (fillingOf s) (g .0) ∙ ap (λ (x : G). importBody (lent .capacity) (lent .room) d x (fillingOf s)) (sym (g .1)))
 
-  pub arm-case : kind ≡ 8 → (limit : ℕ) → limit ≡ countWord t node → (tag : ℕ) (u : CodeFilling) (place : ℕ) → place ≡ childPlace t node + tag → {read r : CodeStep} {rows₁ store₁ exit : List ℕ} → yield tag (fillingOf u) ≡ takeBelow d limit 10 (fillingOf s) → Brings rowsInAll storeOfAll (importFields (lent .capacity) (lent .room) d (treesAt t place 0 1) (fillingOf u)) (u .begun) (u .used) rows₀ store₀ read rows₁ store₁ → r ≡ read → exit ≡ closed row 8 tag read rows₁ → Brings rowsIn storeOf (importBody (lent .capacity) (lent .room) d (treeOf t node) (fillingOf s)) row (s .used) rows₀ store₀ r exit store₁
-  arm-case k limit c tag u place m h b i o =
+  pub arm-case : kind ≡ 8 → (limit : ℕ) → limit ≡ countWord t node → (tag : ℕ) (u : CodeFilling) (place : ℕ) → place ≡ childPlace t node + tag → {read r : CodeStep} {rows₁ store₁ exit : List ℕ} → yield tag (fillingOf u) ≡ takeBelow d limit 10 (fillingOf s) → u .size ≡ s .size + 8 → Brings rowsInAll storeOfAll SeqSum (importFields (lent .capacity) (lent .room) d (treesAt t place 0 1) (fillingOf u)) (u .begun) (u .used) (u .size) rows₀ store₀ read rows₁ store₁ → r ≡ read → exit ≡ closed row 8 tag (s .size) read rows₁ → Brings rowsIn storeOf SizeOfV (importBody (lent .capacity) (lent .room) d (treeOf t node) (fillingOf s)) row (s .used) (s .size) rows₀ store₀ r exit store₁
+  arm-case k limit c tag u place m h z b i o =
       let g = case-tree t node (p .node) (p .kind ∙ k) in
       let l : limit ≡ length (seqG (g .0)) = c ∙ sym (g .2) in
       let x = below-taken d limit 10 (fillingOf s) tag u h in
       let v : treeOf t (nodeAt t place) ≡ caseAt (g .0) tag = ap (λ (j : ℕ). treeOf t (nodeAt t j)) m ∙ sym (g .3 tag (omega (arith, x .3))) in
       let e : give (VCase tag) (importVal (lent .capacity) (lent .room) d (treeOf t (nodeAt t place)) (fillingOf u)) ≡ importBody (lent .capacity) (lent .room) d (treeOf t node) (fillingOf s) =
       ap (λ (y : G). give (VCase tag) (importVal (lent .capacity) (lent .room) d y (fillingOf u))) v ∙ ap (λ (x : Importing ℕ). next x (λ n u. give (VCase n) (importVal (lent .capacity) (lent .room) d (caseAt (g .0) n) u))) (h ∙ ap (λ (l : ℕ). takeBelow d l 10 (fillingOf s)) l) ∙ case-body (lent .capacity) (lent .room) d (fillingOf s) (g .0) ∙ ap (λ (x : G). importBody (lent .capacity) (lent .room) d x (fillingOf s)) (sym (g .1)) in
-      rw (← e) (close-case t d (p .ready) (p .node .table) (p .claimed) u (ready-below limit 10 s tag u (p .ready) h) (x .1) (x .2) place tag b i o)
+      rw (← e) (close-case t d (p .ready) (p .node .table) (p .claimed) u (ready-below limit 10 s tag u p h z) (x .1) (x .2) place tag z b i o)
 
 -- ---- the loop over children: what is left from here decides the whole
 
@@ -529,16 +551,16 @@ pub record Remaining (d rows₀ store₀ : List ℕ) (lent : CodeLent) (s : Code
   pub grown : s .begun ≤ u .begun
   pub rowsSize : length rows ≡ length rows₀
   pub storeSize : length store ≡ length store₀
-  pub then : (r : CodeStep) (rows₁ store₁ : List ℕ) → Brings rowsInAll storeOfAll rest (u .begun) (u .used) rows store r rows₁ store₁ → Brings rowsInAll storeOfAll whole (s .begun) (s .used) rows₀ store₀ r rows₁ store₁
+  pub then : (r : CodeStep) (rows₁ store₁ : List ℕ) → Brings rowsInAll storeOfAll SeqSum rest (u .begun) (u .used) (u .size) rows store r rows₁ store₁ → Brings rowsInAll storeOfAll SeqSum whole (s .begun) (s .used) (s .size) rows₀ store₀ r rows₁ store₁
 
 pub remaining-start : {d rows₀ store₀ : List ℕ} {lent : CodeLent} {s : CodeFilling} (x y : Importing Vals) → x ≡ y → Ready d rows₀ store₀ lent s → Remaining d rows₀ store₀ lent s x rows₀ store₀ s y
 remaining-start x y e p = record { ready = p; grown = omega arith; rowsSize = refl; storeSize = refl; then = λ r a b h. rw e h }
 
-pub remaining-done : {d rows₀ store₀ rows store : List ℕ} {lent : CodeLent} {s u : CodeFilling} {whole rest : Importing Vals} → Remaining d rows₀ store₀ lent s whole rows store u rest → rest ≡ yield vnil (fillingOf u) → Brings rowsInAll storeOfAll whole (s .begun) (s .used) rows₀ store₀ (S.Next u) rows store
+pub remaining-done : {d rows₀ store₀ rows store : List ℕ} {lent : CodeLent} {s u : CodeFilling} {whole rest : Importing Vals} → Remaining d rows₀ store₀ lent s whole rows store u rest → rest ≡ yield vnil (fillingOf u) → Brings rowsInAll storeOfAll SeqSum whole (s .begun) (s .used) (s .size) rows₀ store₀ (S.Next u) rows store
 remaining-done {rows = rows} {store} {u = u} i e = i .then (S.Next u) rows store (rw e (brings-none rows store u))
 
-module _ (t : List ℕ) (b : Table t) {d rows₀ store₀ rows store rows₁ store₁ : List ℕ} {lent : CodeLent} {s u : CodeFilling} {whole rest : Importing Vals} (k place step n : ℕ) (e : rest ≡ both (importVal (lent .capacity) (lent .room) d (treeOf t k) (fillingOf u)) (importFields (lent .capacity) (lent .room) d (treesAt t place step n))) (i : Remaining d rows₀ store₀ lent s whole rows store u rest) {r : CodeStep} (h : Brings rowsIn storeOf (importVal (lent .capacity) (lent .room) d (treeOf t k) (fillingOf u)) (u .begun) (u .used) rows store r rows₁ store₁) where
-  pub remaining-refused : (f : Refusal) → r ≡ S.Refused f → Brings rowsInAll storeOfAll whole (s .begun) (s .used) rows₀ store₀ (S.Refused f) rows₁ store₁
+module _ (t : List ℕ) (b : Table t) {d rows₀ store₀ rows store rows₁ store₁ : List ℕ} {lent : CodeLent} {s u : CodeFilling} {whole rest : Importing Vals} (k place step n : ℕ) (e : rest ≡ both (importVal (lent .capacity) (lent .room) d (treeOf t k) (fillingOf u)) (importFields (lent .capacity) (lent .room) d (treesAt t place step n))) (i : Remaining d rows₀ store₀ lent s whole rows store u rest) {r : CodeStep} (h : Brings rowsIn storeOf SizeOfV (importVal (lent .capacity) (lent .room) d (treeOf t k) (fillingOf u)) (u .begun) (u .used) (u .size) rows store r rows₁ store₁) where
+  pub remaining-refused : (f : Refusal) → r ≡ S.Refused f → Brings rowsInAll storeOfAll SeqSum whole (s .begun) (s .used) (s .size) rows₀ store₀ (S.Refused f) rows₁ store₁
   remaining-refused f q = i .then (S.Refused f) rows₁ store₁ (brings-refused f (ap (λ (y : Importing Val). both y (importFields (lent .capacity) (lent .room) d (treesAt t place step n))) (stopped f q h) ∙ sym e))
 
   pub remaining-next : (v : CodeFilling) → r ≡ S.Next v → length rows₁ ≡ length rows → length store₁ ≡ length store → Remaining d rows₀ store₀ lent s whole rows₁ store₁ v (importFields (lent .capacity) (lent .room) d (treesAt t place step n) (fillingOf v))
@@ -547,10 +569,10 @@ module _ (t : List ℕ) (b : Table t) {d rows₀ store₀ rows store rows₁ sto
       let w = went-on v q h in
       let x = val-accepted t (b .words) (lent .capacity) (lent .room) d (p .byteValues) (fillingOf u) (p .inside) (p .within) k (record { value = w .0; state = fillingOf v }) (w .1) in
       record {
-        ready = record { inside = x .0; short = p .short; few = x .2; most = p .most; within = x .4; small = p .small; rowsLent = lent-kept (rowWidth * lent .capacity) rows rows₁ l (p .rowsLent); storeLent = lent-kept (lent .room) store store₁ m (p .storeLent); byteValues = p .byteValues };
+        ready = record { inside = x .0; short = p .short; few = x .2; most = p .most; within = x .4; small = p .small; sized = omega (arith, w .4, x .1, x .5, p .sized, sizes (w .0) .near); rowsLent = lent-kept (rowWidth * lent .capacity) rows rows₁ l (p .rowsLent); storeLent = lent-kept (lent .room) store store₁ m (p .storeLent); byteValues = p .byteValues };
         grown = omega (arith, i .grown, x .1);
         rowsSize = l ∙ i .rowsSize;
         storeSize = m ∙ i .storeSize;
-        then = λ c rows₂ store₂ z. i .then c rows₂ store₂ (rw e (brings-both (importFields (lent .capacity) (lent .room) d (treesAt t place step n)) v (w .0) (w .1) (x .1) (x .3) (w .2) (w .3) (p .rowsLent) (p .storeLent)
+        then = λ c rows₂ store₂ z. i .then c rows₂ store₂ (rw e (brings-both (importFields (lent .capacity) (lent .room) d (treesAt t place step n)) v (w .0) (w .1) (x .1) (x .3) (w .2) (w .3) (w .4) (p .rowsLent) (p .storeLent)
             (λ y o. let a = all-accepted t (b .words) (lent .capacity) (lent .room) d (p .byteValues) (fillingOf v) (x .0) (x .4) (x .2) place step n y o in (omega (arith, a .0, a .1), omega (arith, a .2, a .3))) z));
       }

@@ -1,9 +1,9 @@
 -- The steps of an import as the code takes them.
-use mathlib.Core.Path.{_≡_, refl, ap, sym, _∙_}
+use mathlib.Core.Path.{_≡_, refl, ap, sym, subst, _∙_}
 use mathlib.Core.Bool.{Bool, true, false, _&&_}
 use mathlib.Core.List.{List, [], _∷_}
 use Prim.Native.Nat.{ℕ, zero, suc, _+_, _-_, _*_, _/_, _≤_, _<_}
-use native.Mathlib.Nat.{le-refl, mul-div-cancel-left}
+use native.Mathlib.Nat.{add-zero, le-refl, mul-div-cancel-left}
 use native.Mathlib.Numerals.{add-one}
 use native.Mathlib.Omega.{arith}
 use lib.ListN.{length, getD, take, drop, length-drop}
@@ -21,7 +21,7 @@ use Rattle.packed.proofs.Calls.{present-fits}
 use Rattle.big_endian.specs.BigEndian.{unpackBigEndian, unpackBigEndianSeq, unpackBigEndianAt, reverseEach}
 use Rattle.big_endian.proofs.Laws.{unpackBig-take, reverseEach-take, packSeq-unpackBigSeq}
 use Rattle.value.specs.Kinds.{Number, numberKind, width, Elements, bytes, uint32s, uint64s, elementsKind, elementWidth, kindOf}
-use Rattle.value.specs.Tree.{Gs, VConstant, VNumber, VNumberArray, rowCount}
+use Rattle.value.specs.Tree.{Gs, VConstant, VNumber, VNumberArray, SizeOfV, rowCount}
 use Rattle.value.specs.Step.{Step, yield, next, give}
 use Rattle.value.proofs.KindLaws.{elementWidth-positive, number-kind, elements-kind, other-kinds}
 use Rattle.grammar.specs.Tree.{nodeTree}
@@ -34,7 +34,7 @@ use Rattle.importing.specs.declared.Filling.{Filling as CodeFilling}
 use Rattle.importing.specs.declared.Step.{Step as CodeStep}
 use Rattle.importing.specs.declared.Step.the-variants as S
 use Rattle.importing.specs.declared.Taken.{Taken}
-use Rattle.importing.specs.Meaning.{fillingOf, takenOf}
+use Rattle.importing.specs.Meaning.{fillingOf, takenOf, TakenSize}
 use Rattle.importing.specs.Brings.{Brings, takeBelow, nodeAt}
 
 -- ---- a row, and a number
@@ -140,19 +140,21 @@ module _ (d : List ℕ) (len : ℕ) (k : Elements) (s : Filling) where
 
 -- ---- what the code did beside an import
 
-module _ {A : Type 0} {rowsAt : A → ℕ → List ℕ} {storeAt : A → List ℕ} {x : Importing A} {row used : ℕ} {rows₀ store₀ rows₁ store₁ : List ℕ} where
-  pub brings-refused : (r : Refusal) → refused (reasonOf r) ≡ x → Brings rowsAt storeAt x row used rows₀ store₀ (S.Refused r) rows₁ store₁
+module _ {A : Type 0} {rowsAt : A → ℕ → List ℕ} {storeAt : A → List ℕ} {sizeAt : A → ℕ} {x : Importing A} {row used size₀ : ℕ} {rows₀ store₀ rows₁ store₁ : List ℕ} where
+  pub brings-refused : (r : Refusal) → refused (reasonOf r) ≡ x → Brings rowsAt storeAt sizeAt x row used size₀ rows₀ store₀ (S.Refused r) rows₁ store₁
   brings-refused r e = record {
     answers = ap (λ (y : Importing A). map (λ t. t .state) y) e;
     rows = λ t f. clash (e ∙ f);
     store = λ t f. clash (e ∙ f);
+    size = λ t f. clash (e ∙ f);
   }
 
-  pub brings-next : (u : CodeFilling) (a : A) → yield a (fillingOf u) ≡ x → rows₁ ≡ laid rows₀ row (rowsAt a used) → store₁ ≡ putWithin store₀ used (storeAt a) → Brings rowsAt storeAt x row used rows₀ store₀ (S.Next u) rows₁ store₁
-  brings-next u a e l p = record {
+  pub brings-next : (u : CodeFilling) (a : A) → yield a (fillingOf u) ≡ x → rows₁ ≡ laid rows₀ row (rowsAt a used) → store₁ ≡ putWithin store₀ used (storeAt a) → u .size ≡ size₀ + sizeAt a → Brings rowsAt storeAt sizeAt x row used size₀ rows₀ store₀ (S.Next u) rows₁ store₁
+  brings-next u a e l p z = record {
     answers = ap (λ (y : Importing A). map (λ t. t .state) y) e;
     rows = λ t f. l ∙ ap (λ (y : Step Filling A). laid rows₀ row (rowsAt (y .value) used)) (same t f);
     store = λ t f. p ∙ ap (λ (y : Step Filling A). putWithin store₀ used (storeAt (y .value))) (same t f);
+    size = λ t f. z ∙ ap (λ (y : Step Filling A). size₀ + sizeAt (y .value)) (same t f);
   }
     where
       same : (t : Step Filling A) → x ≡ accepted t → record { value = a; state = fillingOf u } ≡ t
@@ -203,16 +205,17 @@ module _ (k : Elements) (kind : ℕ) (e : kind ≡ elementsKind k) where
 
 -- ---- values without children, by the kind word of their node
 
-module _ (capacity len : ℕ) (d : List ℕ) (s : Filling) (kind : ℕ) (gs : Gs) {row used : ℕ} {rows₀ store₀ rows₁ : List ℕ} {r : CodeStep} where
-  pub arm-constant : {u : CodeFilling} → kind ≡ 0 → s ≡ fillingOf u → r ≡ S.Next u → rows₁ ≡ laid rows₀ row (0 ∷ 1 ∷ 0 ∷ 0 ∷ []) → Brings rowsIn storeOf (importBody capacity len d (nodeTree (kindOf kind) gs) s) row used rows₀ store₀ r rows₁ store₀
-  unfolding importBody nodeTree rowsIn storeOf ownRow rowCount
-  arm-constant {u} e f g h = rw (e, other-kinds .0, g) (brings-next u VConstant (ap (λ (t : Filling). yield VConstant t) (sym f)) h (sym (putWithin-nothing store₀ used)))
+module _ (capacity len : ℕ) (d : List ℕ) (s : Filling) (kind : ℕ) (gs : Gs) {row used size : ℕ} {rows₀ store₀ rows₁ : List ℕ} {r : CodeStep} where
+  pub arm-constant : {u : CodeFilling} → kind ≡ 0 → s ≡ fillingOf u → r ≡ S.Next u → rows₁ ≡ laid rows₀ row (0 ∷ 1 ∷ 0 ∷ 0 ∷ 0 ∷ []) → u .size ≡ size → Brings rowsIn storeOf SizeOfV (importBody capacity len d (nodeTree (kindOf kind) gs) s) row used size rows₀ store₀ r rows₁ store₀
+  unfolding importBody nodeTree rowsIn storeOf ownRow rowCount SizeOfV
+  arm-constant {u} e f g h z = rw (e, other-kinds .0, g) (brings-next u VConstant (ap (λ (t : Filling). yield VConstant t) (sym f)) h (sym (putWithin-nothing store₀ used)) (z ∙ sym (add-zero size)))
 
-  pub arm-number : (k : Number) (taken : Taken) → kind ≡ numberKind k → takenOf taken ≡ takeNumber d (width k) s → Brings rowsIn storeOf (give (VNumber k) (takenOf taken)) row used rows₀ store₀ r rows₁ store₀ → Brings rowsIn storeOf (importBody capacity len d (nodeTree (kindOf kind) gs) s) row used rows₀ store₀ r rows₁ store₀
+  -- a number, taken from a state that has grown by its size
+  pub arm-number : (k : Number) (u : CodeFilling) (taken : Taken) → kind ≡ numberKind k → (fillingOf u ≡ s) × (u .size ≡ size + width k) → takenOf taken ≡ takeNumber d (width k) (fillingOf u) → TakenSize (u .size) taken → (TakenSize (size + width k) taken → Brings rowsIn storeOf SizeOfV (give (VNumber k) (takenOf taken)) row used size rows₀ store₀ r rows₁ store₀) → Brings rowsIn storeOf SizeOfV (importBody capacity len d (nodeTree (kindOf kind) gs) s) row used size rows₀ store₀ r rows₁ store₀
   unfolding importBody nodeTree
-  arm-number k taken e f b = rw (e, number-kind k, ← f) b
+  arm-number k u taken e g f z b = rw (e, number-kind k, ← g .0, ← f) (b (subst (λ (n : ℕ). TakenSize n taken) (g .1) z))
 
-  pub arm-elements : (k : Elements) {store₁ : List ℕ} → kind ≡ elementsKind k → Brings rowsIn storeOf (give (VNumberArray k) (takeNumbers d len k s)) row used rows₀ store₀ r rows₁ store₁ → Brings rowsIn storeOf (importBody capacity len d (nodeTree (kindOf kind) gs) s) row used rows₀ store₀ r rows₁ store₁
+  pub arm-elements : (k : Elements) {store₁ : List ℕ} → kind ≡ elementsKind k → Brings rowsIn storeOf SizeOfV (give (VNumberArray k) (takeNumbers d len k s)) row used size rows₀ store₀ r rows₁ store₁ → Brings rowsIn storeOf SizeOfV (importBody capacity len d (nodeTree (kindOf kind) gs) s) row used size rows₀ store₀ r rows₁ store₁
   unfolding importBody nodeTree
   arm-elements k e b = rw (e, elements-kind k) b
 

@@ -13,7 +13,7 @@ use Rattle.refusal.specs.declared.Refusal.{Refusal}
 use Rattle.refusal.proofs.Outcome.{clash, map-accepted, bind-inverse, test-true, test-false, test-passed}
 use Rattle.packed.specs.Packed.{Bytes, Below, put, Lent}
 use Rattle.packed.proofs.Fitting.{putWithin-fits}
-use Rattle.value.specs.Tree.{G, Val, vnil, vcons, rowCount}
+use Rattle.value.specs.Tree.{G, Val, vnil, vcons, SizeOfV, SeqSum, rowCount}
 use Rattle.value.specs.Step.{Step, yield, next}
 use Rattle.tables.specs.Row.{rowWidth}
 use Rattle.grammar.specs.Check.{checkGrammar}
@@ -32,16 +32,16 @@ use Rattle.importing.specs.declared.Imported.the-variants as I
 use Rattle.importing.specs.Meaning.{fillingOf, stepOf}
 use Rattle.importing.specs.Brings.{Ready, Brings, treesAt, Table, Admitted}
 use Rattle.importing.specs.Calls.{admitOf, importOf, Imports}
-use Rattle.importing.proofs.Cycle.{went-on, stopped, brings-as, one-row, one-store, tree-one, val-accepted}
+use Rattle.importing.proofs.Cycle.{went-on, stopped, brings-as, one-row, one-store, one-size, tree-one, val-accepted}
 
 -- ---- the root
 
-pub root-ready : {g d rows store : List ℕ} {lent : CodeLent} (s : CodeFilling) → s .at ≡ 0 → s .begun ≡ 0 → s .used ≡ 0 → Admitted g d rows store lent → Ready d rows store lent s
-root-ready s a b c p = record { inside = omega arith; short = p .short; few = omega arith; most = p .most; within = omega arith; small = p .small; rowsLent = p .rowsLent; storeLent = p .storeLent; byteValues = p .byteValues }
+pub root-ready : {g d rows store : List ℕ} {lent : CodeLent} (s : CodeFilling) → s .at ≡ 0 → s .begun ≡ 0 → s .used ≡ 0 → s .size ≡ 0 → Admitted g d rows store lent → Ready d rows store lent s
+root-ready s a b c z p = record { inside = omega arith; short = p .short; few = omega arith; most = p .most; within = omega arith; small = p .small; sized = omega arith; rowsLent = p .rowsLent; storeLent = p .storeLent; byteValues = p .byteValues }
 
 -- the only child of the loop is the root
-pub root-one : (g d : List ℕ) {rows₀ store₀ rows₁ store₁ : List ℕ} (lent : CodeLent) {r : CodeStep} → Brings rowsInAll storeOfAll (importFields (lent .capacity) (lent .room) d (treesAt g 0 0 1) start) 0 0 rows₀ store₀ r rows₁ store₁ → Brings rowsIn storeOf (importVal (lent .capacity) (lent .room) d (treeOf g 0) start) 0 0 rows₀ store₀ r rows₁ store₁
-root-one g d lent h = brings-as {rowsAs = rowsIn} {storeAs = storeOf} (λ v. vcons v vnil) (importVal (lent .capacity) (lent .room) d (treeOf g 0) start) (tree-one g (lent .capacity) (lent .room) d 0 start) (λ v. one-row v 0) one-store h
+pub root-one : (g d : List ℕ) {rows₀ store₀ rows₁ store₁ : List ℕ} (lent : CodeLent) {r : CodeStep} → Brings rowsInAll storeOfAll SeqSum (importFields (lent .capacity) (lent .room) d (treesAt g 0 0 1) start) 0 0 0 rows₀ store₀ r rows₁ store₁ → Brings rowsIn storeOf SizeOfV (importVal (lent .capacity) (lent .room) d (treeOf g 0) start) 0 0 0 rows₀ store₀ r rows₁ store₁
+root-one g d lent h = brings-as {rowsAs = rowsIn} {storeAs = storeOf} {sizeAs = SizeOfV} (λ v. vcons v vnil) (importVal (lent .capacity) (lent .room) d (treeOf g 0) start) (tree-one g (lent .capacity) (lent .room) d 0 start) (λ v. one-row v 0) one-store one-size h
 
 -- ---- the check
 
@@ -119,7 +119,7 @@ module _ (g d rows store : List ℕ) (capacity : ℕ) where
         go (refused e) q = let z : reasonOf f ≡ e = cc in rw (← z) (record { answers = refl; rows = refl; store = refl })
 
     -- the check went on, so the filling does, with the same state
-    module _ {s : Filling} (h : accepted s ≡ map (λ t. t .state) (importWhole capacity (length store) d (treeOf g 0))) {r : CodeStep} {rows₁ store₁ : List ℕ} (b : Brings rowsIn storeOf (importVal capacity (length store) d (treeOf g 0) start) 0 0 rows store r rows₁ store₁) where
+    module _ {s : Filling} (h : accepted s ≡ map (λ t. t .state) (importWhole capacity (length store) d (treeOf g 0))) {r : CodeStep} {rows₁ store₁ : List ℕ} (b : Brings rowsIn storeOf SizeOfV (importVal capacity (length store) d (treeOf g 0) start) 0 0 0 rows store r rows₁ store₁) where
       pub import-again : (f : Refusal) → r ≡ S.Refused f → ⊥
       import-again f e =
           let x = map-accepted (λ (t : Step Filling Val). t .state) (importWhole capacity (length store) d (treeOf g 0)) (sym h) in

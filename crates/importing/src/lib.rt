@@ -7,8 +7,8 @@ ghost use Rattle.refusal.specs.Outcome.{refused, map, reason, word as wordAt};
 ghost use Rattle.refusal.specs.Meaning.{outcomeOf};
 ghost use Rattle.packed.specs.Packed.{putWithin};
 ghost use Rattle.big_endian.specs.BigEndian.{reverseEach};
-ghost use Rattle.value.specs.Kinds.{Number, numberKind, Elements, elementsKind, elementWidth, kindOf};
-ghost use Rattle.value.specs.Tree.{Gs, VNumber, VNumberArray};
+ghost use Rattle.value.specs.Kinds.{Number, numberKind, width as widthOf, Elements, elementsKind, elementWidth, kindOf};
+ghost use Rattle.value.specs.Tree.{Gs, VNumber, VNumberArray, SizeOfV, SeqSum};
 ghost use Rattle.value.specs.Step.{give};
 ghost use Rattle.tables.specs.Grammar.{kindWord, countWord};
 ghost use Rattle.tables.specs.Row.{laid};
@@ -16,8 +16,8 @@ ghost use Rattle.grammar.specs.Tree.{nodeTree, treeOf};
 ghost use Rattle.admission.specs.Admission.{capacityOf};
 ghost use Rattle.xdr.specs.Xdr.{storeOf, storeOfAll, rowsIn, rowsInAll};
 ghost use Rattle.xdr.specs.Import.{zeros as zerosOf, claim as claimOf, move, fill as fillOf, takeNumber, checkBody, takeNumbers, importBody, importFields, importVal, importWhole, start};
-ghost use Rattle.importing.specs.Meaning.{fillingOf, stepOf, takenOf, TakenBelow};
-ghost use Rattle.importing.specs.Brings.{Ready, Brings, takeBelow, closed, Counted, Leaf, childPlace, nodeAt, treesAt, Children, Node, RowClaimed, Admitted};
+ghost use Rattle.importing.specs.Meaning.{fillingOf, stepOf, StepSize, takenOf, TakenBelow, TakenSize};
+ghost use Rattle.importing.specs.Brings.{mostSize, Ready, Brings, takeBelow, closed, Counted, Leaf, childPlace, nodeAt, treesAt, Children, Node, RowClaimed, Admitted};
 ghost use Rattle.importing.specs.Calls.{admitOf, importOf, Imports};
 use packed::UnpackedU32;
 use packed::UnpackedU64;
@@ -30,11 +30,12 @@ pub enum Imported {
     Refused(Refusal),
 }
 
-// The byte position, the values begun, and the bytes of the store used.
+// The byte position, the values begun, the bytes of the store used, and the bytes that what was imported takes in a record.
 struct Filling {
     at: usize,
     begun: usize,
     used: usize,
+    size: u64,
 }
 
 // What there is to be filled: rows, and bytes of the store. The same in both passes, though the first is lent neither.
@@ -58,13 +59,14 @@ enum Taken {
 impl Filling {
     // A row for the value that starts here.
     fn claim(self, capacity: usize) -> Step
-        ensures { λ r. ⌜ stepOf r ≡ claimOf capacity (fillingOf self) ⌝ }
+        ensures { λ r. ⌜ (stepOf r ≡ claimOf capacity (fillingOf self)) × StepSize (self .size) r ⌝ }
     {
         if self.begun < capacity {
             return Step::Next(Filling {
                 at: self.at,
                 begun: self.begun + 1,
                 used: self.used,
+                size: self.size,
             });
         }
         Step::Refused(refusal::at_byte(refusal::ROWS_EXHAUSTED, self.at))
@@ -73,31 +75,46 @@ impl Filling {
     // n bytes on.
     fn move_on(self, n: usize) -> Filling
         requires { ⌜ self .at + n < 2 ^ 64 ⌝ }
-        ensures { λ r. ⌜ fillingOf r ≡ move n (fillingOf self) ⌝ }
+        ensures { λ r. ⌜ (fillingOf r ≡ move n (fillingOf self)) × (r .size ≡ self .size) ⌝ }
     {
         Filling {
             at: self.at + n,
             begun: self.begun,
             used: self.used,
+            size: self.size,
         }
     }
 
     // n bytes more of the store used.
     fn fill(self, n: usize) -> Filling
         requires { ⌜ self .used + n < 2 ^ 64 ⌝ }
-        ensures { λ r. ⌜ fillingOf r ≡ fillOf n (fillingOf self) ⌝ }
+        ensures { λ r. ⌜ (fillingOf r ≡ fillOf n (fillingOf self)) × (r .size ≡ self .size) ⌝ }
     {
         Filling {
             at: self.at,
             begun: self.begun,
             used: self.used + n,
+            size: self.size,
+        }
+    }
+
+    // n bytes more in a record.
+    fn grow(self, n: u64) -> Filling
+        requires { ⌜ self .size + n < 2 ^ 64 ⌝ }
+        ensures { λ r. ⌜ (fillingOf r ≡ fillingOf self) × (r .size ≡ self .size + n) ⌝ }
+    {
+        Filling {
+            at: self.at,
+            begun: self.begun,
+            used: self.used,
+            size: self.size + n,
         }
     }
 
     // The next 4 bytes as a number; 9 where they are missing.
     fn take4(self, bytes: &[u8]) -> Taken
         requires { ⌜ (self .at ≤ length (now bytes)) × (length (now bytes) ≤ 1048576) ⌝ }
-        ensures { λ r. ⌜ (takenOf r ≡ takeNumber (now (bytes .entry)) 4 (fillingOf self)) × TakenBelow 4294967296 r ⌝ }
+        ensures { λ r. ⌜ (takenOf r ≡ takeNumber (now (bytes .entry)) 4 (fillingOf self)) × TakenBelow 4294967296 r × TakenSize (self .size) r ⌝ }
     {
         let at = self.at;
         match big_endian::unpack_big_endian_uint32(bytes, at) {
@@ -109,7 +126,7 @@ impl Filling {
     // The next 8 bytes as a number; 9 where they are missing.
     fn take8(self, bytes: &[u8]) -> Taken
         requires { ⌜ (self .at ≤ length (now bytes)) × (length (now bytes) ≤ 1048576) ⌝ }
-        ensures { λ r. ⌜ takenOf r ≡ takeNumber (now (bytes .entry)) 8 (fillingOf self) ⌝ }
+        ensures { λ r. ⌜ (takenOf r ≡ takeNumber (now (bytes .entry)) 8 (fillingOf self)) × TakenSize (self .size) r ⌝ }
     {
         let at = self.at;
         match big_endian::unpack_big_endian_uint64(bytes, at) {
@@ -118,16 +135,17 @@ impl Filling {
         }
     }
 
-    // A 4-byte number below a limit; from the limit on it is refused by its number, where the value starts.
+    // A count or a tag, of 4 bytes here and of 8 in a record, below a limit; from the limit on it is refused by its number, where the value
+    // starts.
     fn take_below(self, bytes: &[u8], limit: u64, number: u64) -> Taken
-        requires { ⌜ (self .at ≤ length (now bytes)) × (length (now bytes) ≤ 1048576) ⌝ }
-        ensures { λ r. ⌜ takenOf r ≡ takeBelow (now (bytes .entry)) limit number (fillingOf self) ⌝ }
+        requires { ⌜ (self .at ≤ length (now bytes)) × (length (now bytes) ≤ 1048576) × (self .size ≤ mostSize) ⌝ }
+        ensures { λ r. ⌜ (takenOf r ≡ takeBelow (now (bytes .entry)) limit number (fillingOf self)) × TakenSize (self .size + 8) r ⌝ }
     {
         match self.take4(bytes) {
             Taken::Refused(r) => Taken::Refused(r),
             Taken::Number(n, t) => {
                 if n < limit {
-                    Taken::Number(n, t)
+                    Taken::Number(n, t.grow(8))
                 } else {
                     Taken::Refused(refusal::at_byte(number, self.at))
                 }
@@ -136,37 +154,45 @@ impl Filling {
     }
 }
 
-// The row of a parent, whose span is known once its children are imported.
-fn close_row(rows: &mut [u64], row: usize, kind: u64, word2: u64, children: Step) -> Step
-    requires { ⌜ Counted row children ⌝ }
-    ensures { λ r. ⌜ (r ≡ children) × (now (rows .exit) ≡ closed row kind word2 children (now (rows .entry))) ⌝ }
+// The row of a parent, whose span and size are known once its children are imported; `start` is the size where it started.
+fn close_row(
+    rows: &mut [u64],
+    row: usize,
+    kind: u64,
+    word2: u64,
+    start: u64,
+    children: Step,
+) -> Step
+    requires { ⌜ Counted row start children ⌝ }
+    ensures { λ r. ⌜ (r ≡ children) × (now (rows .exit) ≡ closed row kind word2 start children (now (rows .entry))) ⌝ }
 {
     match children {
         Step::Refused(r) => Step::Refused(r),
         Step::Next(u) => {
-            tables::put_row(rows, row, kind, (u.begun - row) as u64, word2, 0);
+            let span = (u.begun - row) as u64;
+            tables::put_row(rows, row, kind, span, word2, 0, u.size - start);
             Step::Next(u)
         }
     }
 }
 
 // A number that was taken, with its row.
-fn import_number(rows: &mut [u64], row: usize, kind: u64, taken: Taken) -> Step
-    ensures { λ r. ⌜ ((k : Number) (used : ℕ) (store : List ℕ) → kind ≡ numberKind k → Brings rowsIn storeOf (give (VNumber k) (takenOf taken)) row used (now (rows .entry)) store r (now (rows .exit)) store) ⌝ }
+fn import_number(rows: &mut [u64], row: usize, kind: u64, width: u64, taken: Taken) -> Step
+    ensures { λ r. ⌜ ((k : Number) (used size : ℕ) (store : List ℕ) → kind ≡ numberKind k → width ≡ widthOf k → TakenSize (size + width) taken → Brings rowsIn storeOf SizeOfV (give (VNumber k) (takenOf taken)) row used size (now (rows .entry)) store r (now (rows .exit)) store) ⌝ }
 {
     match taken {
         Taken::Refused(r) => Step::Refused(r),
         Taken::Number(n, u) => {
-            tables::put_row(rows, row, kind, 1, n, 0);
+            tables::put_row(rows, row, kind, 1, n, 0, width);
             Step::Next(u)
         }
     }
 }
 
 fn import_constant(rows: &mut [u64], row: usize, s: Filling) -> Step
-    ensures { λ r. ⌜ (r ≡ Step.Next s) × (now (rows .exit) ≡ laid (now (rows .entry)) row (0 ∷ 1 ∷ 0 ∷ 0 ∷ [])) ⌝ }
+    ensures { λ r. ⌜ (r ≡ Step.Next s) × (now (rows .exit) ≡ laid (now (rows .entry)) row (0 ∷ 1 ∷ 0 ∷ 0 ∷ 0 ∷ [])) ⌝ }
 {
-    tables::put_row(rows, row, 0, 1, 0, 0);
+    tables::put_row(rows, row, 0, 1, 0, 0, 0);
     Step::Next(s)
 }
 
@@ -227,8 +253,8 @@ fn import_elements(
     room: usize,
     s: Filling,
 ) -> Step
-    requires { ⌜ (s .at ≤ length (now bytes)) × (length (now bytes) ≤ 1048576) × (width ≤ 8) ⌝ }
-    ensures { λ r. ⌜ ((k : Elements) → kind ≡ elementsKind k → width ≡ elementWidth k → Brings rowsIn storeOf (give (VNumberArray k) (takeNumbers (now (bytes .entry)) room k (fillingOf s))) row (s .used) (now (rows .entry)) (now (store .entry)) r (now (rows .exit)) (now (store .exit))) ⌝ }
+    requires { ⌜ (s .at ≤ length (now bytes)) × (length (now bytes) ≤ 1048576) × (s .size ≤ mostSize) × (width ≤ 8) ⌝ }
+    ensures { λ r. ⌜ ((k : Elements) → kind ≡ elementsKind k → width ≡ elementWidth k → Brings rowsIn storeOf SizeOfV (give (VNumberArray k) (takeNumbers (now (bytes .entry)) room k (fillingOf s))) row (s .used) (s .size) (now (rows .entry)) (now (store .entry)) r (now (rows .exit)) (now (store .exit))) ⌝ }
 {
     match s.take4(bytes) {
         Taken::Refused(r) => Step::Refused(r),
@@ -239,11 +265,13 @@ fn import_elements(
                 Answer::Refused(r) => Step::Refused(r),
                 Answer::Accepted => {
                     let end = place + size;
-                    tables::put_row(rows, row, kind, 1, count, s.used as u64);
+                    let whole = 8 + size as u64;
+                    tables::put_row(rows, row, kind, 1, count, s.used as u64, whole);
                     copy_elements(kind, &bytes[place..end], store, s.used);
                     Step::Next(
                         u.move_on(size + xdr::padding(size as u64) as usize)
-                            .fill(size),
+                            .fill(size)
+                            .grow(whole),
                     )
                 }
             }
@@ -271,21 +299,21 @@ fn import_leaf(
     room: usize,
     s: Filling,
 ) -> Step
-    requires { ⌜ Leaf kind × (node < 4294967296) × (s .at ≤ length (now bytes)) × (length (now bytes) ≤ 1048576) ⌝ }
-    ensures { λ r. ⌜ ((capacity : ℕ) (gs : Gs) → Brings rowsIn storeOf (importBody capacity room (now (bytes .entry)) (nodeTree (kindOf kind) gs) (fillingOf s)) row (s .used) (now (rows .entry)) (now (store .entry)) r (now (rows .exit)) (now (store .exit))) ⌝ }
+    requires { ⌜ Leaf kind × (node < 4294967296) × (s .at ≤ length (now bytes)) × (length (now bytes) ≤ 1048576) × (s .size ≤ mostSize) ⌝ }
+    ensures { λ r. ⌜ ((capacity : ℕ) (gs : Gs) → Brings rowsIn storeOf SizeOfV (importBody capacity room (now (bytes .entry)) (nodeTree (kindOf kind) gs) (fillingOf s)) row (s .used) (s .size) (now (rows .entry)) (now (store .entry)) r (now (rows .exit)) (now (store .exit))) ⌝ }
 {
     match kind {
         0 => import_constant(rows, row, s),
-        1 => import_number(rows, row, 1, s.take4(bytes)),
-        2 => import_number(rows, row, 2, s.take8(bytes)),
+        1 => import_number(rows, row, 1, 4, s.grow(4).take4(bytes)),
+        2 => import_number(rows, row, 2, 8, s.grow(8).take8(bytes)),
         3 => refuse_kind(node),
         4 => refuse_kind(node),
         5 => import_elements(bytes, rows, store, row, 5, 1, room, s),
         6 => import_elements(bytes, rows, store, row, 6, 4, room, s),
         7 => import_elements(bytes, rows, store, row, 7, 8, room, s),
         8 => refuse_kind(node),
-        9 => import_number(rows, row, 9, s.take4(bytes)),
-        10 => import_number(rows, row, 10, s.take8(bytes)),
+        9 => import_number(rows, row, 9, 4, s.grow(4).take4(bytes)),
+        10 => import_number(rows, row, 10, 8, s.grow(8).take8(bytes)),
         11.. => refuse_kind(node),
     }
 }
@@ -319,7 +347,7 @@ fn import_value(
     s: Filling,
 ) -> Step
     requires { ⌜ Node (now grammar) node × Ready (now bytes) (now rows) (now store) lent s ⌝ }
-    ensures { λ r. ⌜ Brings rowsIn storeOf (importVal (lent .capacity) (lent .room) (now (bytes .entry)) (treeOf (now (grammar .entry)) node) (fillingOf s)) (s .begun) (s .used) (now (rows .entry)) (now (store .entry)) r (now (rows .exit)) (now (store .exit)) ⌝ }
+    ensures { λ r. ⌜ Brings rowsIn storeOf SizeOfV (importVal (lent .capacity) (lent .room) (now (bytes .entry)) (treeOf (now (grammar .entry)) node) (fillingOf s)) (s .begun) (s .used) (s .size) (now (rows .entry)) (now (store .entry)) r (now (rows .exit)) (now (store .exit)) ⌝ }
 {
     let row = s.begun;
     match s.claim(lent.capacity) {
@@ -356,14 +384,14 @@ fn import_array(
     s: Filling,
 ) -> Step
     requires { ⌜ RowClaimed (now grammar) (now bytes) (now rows) (now store) node 3 row lent s ⌝ }
-    ensures { λ r. ⌜ Brings rowsIn storeOf (importBody (lent .capacity) (lent .room) (now (bytes .entry)) (treeOf (now (grammar .entry)) node) (fillingOf s)) row (s .used) (now (rows .entry)) (now (store .entry)) r (now (rows .exit)) (now (store .exit)) ⌝ }
+    ensures { λ r. ⌜ Brings rowsIn storeOf SizeOfV (importBody (lent .capacity) (lent .room) (now (bytes .entry)) (treeOf (now (grammar .entry)) node) (fillingOf s)) row (s .used) (s .size) (now (rows .entry)) (now (store .entry)) r (now (rows .exit)) (now (store .exit)) ⌝ }
 {
     let limit = (lent.capacity - s.begun + 1) as u64;
     match s.take_below(bytes, limit, refusal::ROWS_EXHAUSTED) {
         Taken::Refused(r) => Step::Refused(r),
         Taken::Number(count, t) => {
             let read = import_array_contents(grammar, node, bytes, rows, store, count, lent, t);
-            close_row(rows, row, 3, count, read)
+            close_row(rows, row, 3, count, s.size, read)
         }
     }
 }
@@ -380,11 +408,11 @@ fn import_tuple(
     s: Filling,
 ) -> Step
     requires { ⌜ RowClaimed (now grammar) (now bytes) (now rows) (now store) node 4 row lent s ⌝ }
-    ensures { λ r. ⌜ Brings rowsIn storeOf (importBody (lent .capacity) (lent .room) (now (bytes .entry)) (treeOf (now (grammar .entry)) node) (fillingOf s)) row (s .used) (now (rows .entry)) (now (store .entry)) r (now (rows .exit)) (now (store .exit)) ⌝ }
+    ensures { λ r. ⌜ Brings rowsIn storeOf SizeOfV (importBody (lent .capacity) (lent .room) (now (bytes .entry)) (treeOf (now (grammar .entry)) node) (fillingOf s)) row (s .used) (s .size) (now (rows .entry)) (now (store .entry)) r (now (rows .exit)) (now (store .exit)) ⌝ }
 {
     let count = tables::word(grammar, 3 + 3 * node) as u64;
     let read = import_tuple_contents(grammar, node, bytes, rows, store, count, lent, s);
-    close_row(rows, row, 4, count, read)
+    close_row(rows, row, 4, count, s.size, read)
 }
 
 // Kind 8: the tag, then the value of its case.
@@ -399,7 +427,7 @@ fn import_case(
     s: Filling,
 ) -> Step
     requires { ⌜ RowClaimed (now grammar) (now bytes) (now rows) (now store) node 8 row lent s ⌝ }
-    ensures { λ r. ⌜ Brings rowsIn storeOf (importBody (lent .capacity) (lent .room) (now (bytes .entry)) (treeOf (now (grammar .entry)) node) (fillingOf s)) row (s .used) (now (rows .entry)) (now (store .entry)) r (now (rows .exit)) (now (store .exit)) ⌝ }
+    ensures { λ r. ⌜ Brings rowsIn storeOf SizeOfV (importBody (lent .capacity) (lent .room) (now (bytes .entry)) (treeOf (now (grammar .entry)) node) (fillingOf s)) row (s .used) (s .size) (now (rows .entry)) (now (store .entry)) r (now (rows .exit)) (now (store .exit)) ⌝ }
 {
     let limit = tables::word(grammar, 3 + 3 * node) as u64;
     match s.take_below(bytes, limit, refusal::TAG_UNKNOWN) {
@@ -407,7 +435,7 @@ fn import_case(
         Taken::Number(tag, t) => {
             let place = child_place(grammar, node) + tag as usize;
             let read = import_children(grammar, place, 0, 1, bytes, rows, store, lent, t);
-            close_row(rows, row, 8, tag, read)
+            close_row(rows, row, 8, tag, s.size, read)
         }
     }
 }
@@ -424,7 +452,7 @@ fn import_array_contents(
     s: Filling,
 ) -> Step
     requires { ⌜ Node (now grammar) node × (kindWord (now grammar) node ≡ 3) × Ready (now bytes) (now rows) (now store) lent s ⌝ }
-    ensures { λ r. ⌜ Brings rowsInAll storeOfAll (importFields (lent .capacity) (lent .room) (now (bytes .entry)) (treesAt (now (grammar .entry)) (childPlace (now (grammar .entry)) node) 0 count) (fillingOf s)) (s .begun) (s .used) (now (rows .entry)) (now (store .entry)) r (now (rows .exit)) (now (store .exit)) ⌝ }
+    ensures { λ r. ⌜ Brings rowsInAll storeOfAll SeqSum (importFields (lent .capacity) (lent .room) (now (bytes .entry)) (treesAt (now (grammar .entry)) (childPlace (now (grammar .entry)) node) 0 count) (fillingOf s)) (s .begun) (s .used) (s .size) (now (rows .entry)) (now (store .entry)) r (now (rows .exit)) (now (store .exit)) ⌝ }
 {
     let place = child_place(grammar, node);
     import_children(grammar, place, 0, count, bytes, rows, store, lent, s)
@@ -442,7 +470,7 @@ fn import_tuple_contents(
     s: Filling,
 ) -> Step
     requires { ⌜ Node (now grammar) node × (count ≡ countWord (now grammar) node) × Ready (now bytes) (now rows) (now store) lent s ⌝ }
-    ensures { λ r. ⌜ Brings rowsInAll storeOfAll (importFields (lent .capacity) (lent .room) (now (bytes .entry)) (treesAt (now (grammar .entry)) (childPlace (now (grammar .entry)) node) 1 count) (fillingOf s)) (s .begun) (s .used) (now (rows .entry)) (now (store .entry)) r (now (rows .exit)) (now (store .exit)) ⌝ }
+    ensures { λ r. ⌜ Brings rowsInAll storeOfAll SeqSum (importFields (lent .capacity) (lent .room) (now (bytes .entry)) (treesAt (now (grammar .entry)) (childPlace (now (grammar .entry)) node) 1 count) (fillingOf s)) (s .begun) (s .used) (s .size) (now (rows .entry)) (now (store .entry)) r (now (rows .exit)) (now (store .exit)) ⌝ }
 {
     let place = child_place(grammar, node);
     import_children(grammar, place, 1, count, bytes, rows, store, lent, s)
@@ -462,7 +490,7 @@ fn import_children(
     s: Filling,
 ) -> Step
     requires { ⌜ Children (now grammar) place step count × Ready (now bytes) (now rows) (now store) lent s ⌝ }
-    ensures { λ r. ⌜ Brings rowsInAll storeOfAll (importFields (lent .capacity) (lent .room) (now (bytes .entry)) (treesAt (now (grammar .entry)) place step count) (fillingOf s)) (s .begun) (s .used) (now (rows .entry)) (now (store .entry)) r (now (rows .exit)) (now (store .exit)) ⌝ }
+    ensures { λ r. ⌜ Brings rowsInAll storeOfAll SeqSum (importFields (lent .capacity) (lent .room) (now (bytes .entry)) (treesAt (now (grammar .entry)) place step count) (fillingOf s)) (s .begun) (s .used) (s .size) (now (rows .entry)) (now (store .entry)) r (now (rows .exit)) (now (store .exit)) ⌝ }
 {
     let mut t = s;
     let mut at = place;
@@ -476,6 +504,7 @@ fn import_children(
                     at: u.at,
                     begun: u.begun,
                     used: u.used,
+                    size: u.size,
                 };
             }
         }
@@ -494,12 +523,13 @@ fn import_root(
     lent: Lent,
 ) -> Step
     requires { ⌜ Admitted (now grammar) (now bytes) (now rows) (now store) lent ⌝ }
-    ensures { λ r. ⌜ Brings rowsIn storeOf (importVal (lent .capacity) (lent .room) (now (bytes .entry)) (treeOf (now (grammar .entry)) 0) start) 0 0 (now (rows .entry)) (now (store .entry)) r (now (rows .exit)) (now (store .exit)) ⌝ }
+    ensures { λ r. ⌜ Brings rowsIn storeOf SizeOfV (importVal (lent .capacity) (lent .room) (now (bytes .entry)) (treeOf (now (grammar .entry)) 0) start) 0 0 0 (now (rows .entry)) (now (store .entry)) r (now (rows .exit)) (now (store .exit)) ⌝ }
 {
     let s = Filling {
         at: 0,
         begun: 0,
         used: 0,
+        size: 0,
     };
     import_children(grammar, 0, 0, 1, bytes, rows, store, lent, s)
 }

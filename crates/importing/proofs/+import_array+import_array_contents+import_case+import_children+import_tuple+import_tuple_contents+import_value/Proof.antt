@@ -1,6 +1,6 @@
 -- The readers of the cycle meet their contracts. The measure is the rows still free: four times for a value, one more for children, two for
 -- contents, three for an array, a tuple or a case.
-use mathlib.Core.Path.{_≡_, refl, ap, sym, _∙_}
+use mathlib.Core.Path.{_≡_, refl, ap, sym, subst, _∙_}
 use mathlib.Core.Bool.{false}
 use mathlib.Core.List.{List}
 use Prim.Native.Nat.{ℕ, suc, _+_, _-_, _*_, _^_, _≤_, _<_}
@@ -10,7 +10,7 @@ use native.Mathlib.Omega.{arith}
 use lib.ListN.{length}
 use Rattle.refusal.proofs.Tests.{none-below}
 use Rattle.value.specs.Kinds.{kindOf, lastKind}
-use Rattle.value.specs.Tree.{Gs}
+use Rattle.value.specs.Tree.{Gs, SizeOfV}
 use Rattle.value.specs.Step.{yield}
 use Rattle.value.proofs.KindLaws.{isParent}
 use Rattle.tables.specs.Grammar.{kindWord, firstWord, countWord}
@@ -18,8 +18,8 @@ use Rattle.grammar.specs.Tree.{nodeTree, treeOf, childTrees}
 use Rattle.xdr.specs.Xdr.{storeOf, rowsIn}
 use Rattle.xdr.specs.Import.{importFields, importBody, importVal}
 use Rattle.importing.specs.declared.Step.{Step as CodeStep}
-use Rattle.importing.specs.Meaning.{fillingOf, takenOf}
-use Rattle.importing.specs.Brings.{Ready, Brings, Leaf, RowClaimed, takeBelow, childPlace, nodeAt, treesAt}
+use Rattle.importing.specs.Meaning.{fillingOf, takenOf, TakenSize}
+use Rattle.importing.specs.Brings.{mostSize, Ready, Brings, Leaf, RowClaimed, takeBelow, childPlace, nodeAt, treesAt}
 use Rattle.importing.proofs.Cycle.{Claimed, claimed-next, arm-refused, arm-body, ready-claimed, leaf, ready-below, below-taken, counted-children, kind-tree, node-few, children-array, children-tuple, children-case, arm-array, arm-array-refused, arm-tuple, arm-case, arm-case-refused, Remaining, remaining-start, remaining-done, remaining-refused, remaining-next, trees-next, trees-done}
 use borrow.Author.Needs.{needs}
 use borrow.Fn.Kinds.{In}
@@ -196,7 +196,10 @@ import-value-calls t = (claim-reads.Asked, claim-reads.Learnt, word-reads.Asked,
 
 -- a count was taken
 count-taken : (t : ℕ) (c : import-array-lts.After-count (import-array-calls t) (import-array-at t) import-array.Post) → let a = c .before .before .before .before .before .before .before .before .before .args in yield (c .count .given .0 .0) (fillingOf (c .count .given .0 .1 .0)) ≡ takeBelow (a .bytes .now) (a .lent .capacity - a .s .begun + 1) 8 (fillingOf (a .s))
-count-taken t c = ap takenOf (sym (c .count .given .1)) ∙ c .before .before .take-below .ensures
+count-taken t c = ap takenOf (sym (c .count .given .1)) ∙ c .before .before .take-below .ensures .0
+
+count-size : (t : ℕ) (c : import-array-lts.After-count (import-array-calls t) (import-array-at t) import-array.Post) → c .count .given .0 .1 .0 .size ≡ c .before .before .before .before .before .before .before .before .before .args .s .size + 8
+count-size t c = subst (TakenSize _) (c .count .given .1) (c .before .before .take-below .ensures .1)
 
 import-array-sub-limit : (t : ℕ) → import-array-lts.Need-sub-limit (import-array-calls t) (import-array-at t) import-array.Post
 import-array-sub-limit t c = search needs
@@ -228,7 +231,7 @@ import-array-import-array-contents-requires t c κs =
     let g = c .before .before .before .count .given .0 in
     let h = count-taken t (c .before .before .before) in
     let x = below-taken (a .bytes .now) (a .lent .capacity - a .s .begun + 1) 8 (fillingOf (a .s)) (g .0) (g .1 .0) h in
-    (omega (arith, p .0, x .1), (p .1 .node, p .1 .kind, ready-below (a .lent .capacity - a .s .begun + 1) 8 (a .s) (g .0) (g .1 .0) (p .1 .ready) h))
+    (omega (arith, p .0, x .1), (p .1 .node, p .1 .kind, ready-below (a .lent .capacity - a .s .begun + 1) 8 (a .s) (g .0) (g .1 .0) (p .1) h (count-size t (c .before .before .before))))
 
 import-array-close-row-requires : (t : ℕ) → import-array-lts.Need-close-row-requires (import-array-calls t) (import-array-at t) import-array.Post
 import-array-close-row-requires t c κs =
@@ -236,12 +239,13 @@ import-array-close-row-requires t c κs =
     let p = c .before .before .before .before .before .before .before .before .before .before .before .before .before .before .before .before .before .before .pre .1 in
     let g = c .before .before .before .before .before .before .before .before .before .count .given .0 in
     let h = count-taken t (c .before .before .before .before .before .before .before .before .before) in
+    let z = count-size t (c .before .before .before .before .before .before .before .before .before) in
     let x = below-taken (a .bytes .now) (a .lent .capacity - a .s .begun + 1) 8 (fillingOf (a .s)) (g .0) (g .1 .0) h in
-    counted-children (a .grammar .now) (a .bytes .now) (a .lent) (g .1 .0) (childPlace (a .grammar .now) (a .node)) 0 (g .0) (c .before .before .before .before .before .import-array-contents .result) (p .node .table) (ready-below (a .lent .capacity - a .s .begun + 1) 8 (a .s) (g .0) (g .1 .0) (p .ready) h) (omega (arith, x .1, p .claimed)) (c .before .before .before .before .before .import-array-contents .ensures)
+    counted-children (a .grammar .now) (a .bytes .now) (a .lent) (g .1 .0) (childPlace (a .grammar .now) (a .node)) 0 (g .0) (c .before .before .before .before .before .import-array-contents .result) (p .node .table) (ready-below (a .lent .capacity - a .s .begun + 1) 8 (a .s) (g .0) (g .1 .0) p h z) (omega (arith, x .1, p .claimed)) (omega (arith, z)) (c .before .before .before .before .before .import-array-contents .ensures)
 
 import-array-returns : (t : ℕ) → import-array-lts.Need-returns (import-array-calls t) (import-array-at t) import-array.Post
 import-array-returns t c =
-    arm-array-refused (c .before .before .before .before .before .before .before .before .before .before .pre .1) refl (c .before .r .given .0 .0) (ap takenOf (sym (c .before .r .given .1)) ∙ c .before .before .before .take-below .ensures)
+    arm-array-refused (c .before .before .before .before .before .before .before .before .before .before .pre .1) refl (c .before .r .given .0 .0) (ap takenOf (sym (c .before .r .given .1)) ∙ c .before .before .before .take-below .ensures .0)
 
 import-array-same-length : (t : ℕ) → import-array-lts.Need-same-length (import-array-calls t) (import-array-at t) import-array.Post
 import-array-same-length t c = search needs
@@ -251,8 +255,9 @@ import-array-same-length-2 t c = search needs
 
 import-array-returns-2 : (t : ℕ) → import-array-lts.Need-returns-2 (import-array-calls t) (import-array-at t) import-array.Post
 import-array-returns-2 t c =
-    let g = c .before .before .before .before .before .before .before .before .before .before .before .before .count .given .0 in
-    arm-array (c .before .before .before .before .before .before .before .before .before .before .before .before .before .before .before .before .before .before .before .before .before .pre .1) refl (g .0) (g .1 .0) (count-taken t (c .before .before .before .before .before .before .before .before .before .before .before .before)) (c .before .before .before .before .before .before .before .before .import-array-contents .ensures) (c .before .before .close-row .ensures .0) (c .before .before .close-row .ensures .1)
+    let q = c .before .before .before .before .before .before .before .before .before .before .before .before in
+    let g = q .count .given .0 in
+    arm-array (c .before .before .before .before .before .before .before .before .before .before .before .before .before .before .before .before .before .before .before .before .before .pre .1) refl (g .0) (g .1 .0) (count-taken t q) (count-size t q) (c .before .before .before .before .before .before .before .before .import-array-contents .ensures) (c .before .before .close-row .ensures .0) (c .before .before .close-row .ensures .1)
 
 import-array-contents-child-place-requires :
     (t : ℕ) → import-array-contents-lts.Need-child-place-requires (
@@ -293,13 +298,16 @@ import-case-add-word t c = search needs
 
 -- a tag was taken
 tag-taken : (t : ℕ) (c : import-case-lts.After-tag (import-case-calls t) (import-case-at t) import-case.Post) → let a = c .before .before .before .before .before .before .before .before .args in yield (c .tag .given .0 .0) (fillingOf (c .tag .given .0 .1 .0)) ≡ takeBelow (a .bytes .now) (c .before .before .before .word .result) 10 (fillingOf (a .s))
-tag-taken t c = ap takenOf (sym (c .tag .given .1)) ∙ c .before .before .take-below .ensures
+tag-taken t c = ap takenOf (sym (c .tag .given .1)) ∙ c .before .before .take-below .ensures .0
+
+tag-size : (t : ℕ) (c : import-case-lts.After-tag (import-case-calls t) (import-case-at t) import-case.Post) → c .tag .given .0 .1 .0 .size ≡ c .before .before .before .before .before .before .before .before .args .s .size + 8
+tag-size t c = subst (TakenSize _) (c .tag .given .1) (c .before .before .take-below .ensures .1)
 
 tag-below : (t : ℕ) (c : import-case-lts.After-tag (import-case-calls t) (import-case-at t) import-case.Post) → let a = c .before .before .before .before .before .before .before .before .args in let u = c .tag .given .0 .1 .0 in (u .at ≡ a .s .at + 4) × (u .begun ≡ a .s .begun) × (u .used ≡ a .s .used) × (c .tag .given .0 .0 < c .before .before .before .word .result) × (a .s .at + 4 ≤ length (a .bytes .now))
 tag-below t c = let a = c .before .before .before .before .before .before .before .before .args in below-taken (a .bytes .now) (c .before .before .before .word .result) 10 (fillingOf (a .s)) (c .tag .given .0 .0) (c .tag .given .0 .1 .0) (tag-taken t c)
 
 tag-ready : (t : ℕ) (c : import-case-lts.After-tag (import-case-calls t) (import-case-at t) import-case.Post) → let a = c .before .before .before .before .before .before .before .before .args in Ready (a .bytes .now) (a .rows .now) (a .store .now) (a .lent) (c .tag .given .0 .1 .0)
-tag-ready t c = let a = c .before .before .before .before .before .before .before .before .args in ready-below (c .before .before .before .word .result) 10 (a .s) (c .tag .given .0 .0) (c .tag .given .0 .1 .0) (c .before .before .before .before .before .before .before .before .pre .1 .ready) (tag-taken t c)
+tag-ready t c = let a = c .before .before .before .before .before .before .before .before .args in ready-below (c .before .before .before .word .result) 10 (a .s) (c .tag .given .0 .0) (c .tag .given .0 .1 .0) (c .before .before .before .before .before .before .before .before .pre .1) (tag-taken t c) (tag-size t c)
 
 import-case-word-requires : (t : ℕ) → import-case-lts.Need-word-requires (import-case-calls t) (import-case-at t) import-case.Post
 import-case-word-requires t c κs = search needs
@@ -332,11 +340,11 @@ import-case-close-row-requires t c κs =
     let a = c .before .before .before .before .before .before .before .before .before .before .before .before .before .before .before .before .before .before .args in
     let p = c .before .before .before .before .before .before .before .before .before .before .before .before .before .before .before .before .before .before .pre .1 in
     let q = c .before .before .before .before .before .before .before .before .before .before in
-    counted-children (a .grammar .now) (a .bytes .now) (a .lent) (q .tag .given .0 .1 .0) (c .before .before .before .before .before .before .before .before .child-place .result + q .tag .given .0 .0) 0 1 (c .before .before .before .before .before .import-children .result) (p .node .table) (tag-ready t q) (omega (arith, tag-below t q .1, p .claimed)) (c .before .before .before .before .before .import-children .ensures)
+    counted-children (a .grammar .now) (a .bytes .now) (a .lent) (q .tag .given .0 .1 .0) (c .before .before .before .before .before .before .before .before .child-place .result + q .tag .given .0 .0) 0 1 (c .before .before .before .before .before .import-children .result) (p .node .table) (tag-ready t q) (omega (arith, tag-below t q .1, p .claimed)) (omega (arith, tag-size t q)) (c .before .before .before .before .before .import-children .ensures)
 
 import-case-returns : (t : ℕ) → import-case-lts.Need-returns (import-case-calls t) (import-case-at t) import-case.Post
 import-case-returns t c =
-    arm-case-refused (c .before .before .before .before .before .before .before .before .before .pre .1) refl (c .before .before .before .before .word .result) (c .before .before .before .before .word .ensures .0) (c .before .r .given .0 .0) (ap takenOf (sym (c .before .r .given .1)) ∙ c .before .before .before .take-below .ensures)
+    arm-case-refused (c .before .before .before .before .before .before .before .before .before .pre .1) refl (c .before .before .before .before .word .result) (c .before .before .before .before .word .ensures .0) (c .before .r .given .0 .0) (ap takenOf (sym (c .before .r .given .1)) ∙ c .before .before .before .take-below .ensures .0)
 
 import-case-same-length : (t : ℕ) → import-case-lts.Need-same-length (import-case-calls t) (import-case-at t) import-case.Post
 import-case-same-length t c = search needs
@@ -348,7 +356,7 @@ import-case-returns-2 : (t : ℕ) → import-case-lts.Need-returns-2 (import-cas
 import-case-returns-2 t c =
     let q = c .before .before .before .before .before .before .before .before .before .before .before .before .before in
     let g = q .tag .given .0 in
-    arm-case (c .before .before .before .before .before .before .before .before .before .before .before .before .before .before .before .before .before .before .before .before .before .pre .1) refl (c .before .before .before .before .before .before .before .before .before .before .before .before .before .before .before .before .word .result) (c .before .before .before .before .before .before .before .before .before .before .before .before .before .before .before .before .word .ensures .0) (g .0) (g .1 .0) (c .before .before .before .before .before .before .before .before .before .before .before .child-place .result + g .0) (ap (λ (j : ℕ). j + g .0) (c .before .before .before .before .before .before .before .before .before .before .before .child-place .ensures .0)) (tag-taken t q) (c .before .before .before .before .before .before .before .before .import-children .ensures) (c .before .before .close-row .ensures .0) (c .before .before .close-row .ensures .1)
+    arm-case (c .before .before .before .before .before .before .before .before .before .before .before .before .before .before .before .before .before .before .before .before .before .pre .1) refl (c .before .before .before .before .before .before .before .before .before .before .before .before .before .before .before .before .word .result) (c .before .before .before .before .before .before .before .before .before .before .before .before .before .before .before .before .word .ensures .0) (g .0) (g .1 .0) (c .before .before .before .before .before .before .before .before .before .before .before .child-place .result + g .0) (ap (λ (j : ℕ). j + g .0) (c .before .before .before .before .before .before .before .before .before .before .before .child-place .ensures .0)) (tag-taken t q) (tag-size t q) (c .before .before .before .before .before .before .before .before .import-children .ensures) (c .before .before .close-row .ensures .0) (c .before .before .close-row .ensures .1)
 
 abbrev import-children-Inv-loop : import-children-lts.InvT-loop
 import-children-Inv-loop grammar place step count bytes rows₀ store₀ lent t₀ at₀ i₀ rows store t at i =
@@ -453,7 +461,7 @@ import-tuple-close-row-requires : (t : ℕ) → import-tuple-lts.Need-close-row-
 import-tuple-close-row-requires t c κs =
     let a = c .before .before .before .before .before .before .before .before .before .before .before .before .before .args in
     let p = c .before .before .before .before .before .before .before .before .before .before .before .before .before .pre .1 in
-    counted-children (a .grammar .now) (a .bytes .now) (a .lent) (a .s) (childPlace (a .grammar .now) (a .node)) 1 (c .before .before .before .before .before .before .before .before .word .result) (c .before .before .before .before .before .import-tuple-contents .result) (p .node .table) (p .ready) (omega (arith, p .claimed)) (c .before .before .before .before .before .import-tuple-contents .ensures)
+    counted-children (a .grammar .now) (a .bytes .now) (a .lent) (a .s) (childPlace (a .grammar .now) (a .node)) 1 (c .before .before .before .before .before .before .before .before .word .result) (c .before .before .before .before .before .import-tuple-contents .result) (p .node .table) (p .ready) (omega (arith, p .claimed)) (omega arith) (c .before .before .before .before .before .import-tuple-contents .ensures)
 
 import-tuple-same-length : (t : ℕ) → import-tuple-lts.Need-same-length (import-tuple-calls t) (import-tuple-at t) import-tuple.Post
 import-tuple-same-length t c = search needs
@@ -498,15 +506,15 @@ import-tuple-contents-returns t c =
 
 -- a row was claimed
 claimed : (t : ℕ) (c : import-value-lts.After-t (import-value-calls t) (import-value-at t) import-value.Post) → Claimed (c .before .before .before .before .before .before .before .args .lent .capacity) (c .before .before .before .before .before .before .before .args .s) (c .t .given .0 .0)
-claimed t c = claimed-next (c .before .before .before .before .before .before .before .args .lent .capacity) (c .before .before .before .before .before .before .before .args .s) (c .t .given .0 .0) (c .t .given .1) (c .before .before .claim .ensures)
+claimed t c = claimed-next (c .before .before .before .before .before .before .before .args .lent .capacity) (c .before .before .before .before .before .before .before .args .s) (c .t .given .0 .0) (c .t .given .1) (c .before .before .claim .ensures .0) (c .before .before .claim .ensures .1)
 
 -- behind the kind word: what the reader of a leaf asks
-leaf-asked : (t : ℕ) (c : import-value-lts.After-word (import-value-calls t) (import-value-at t) import-value.Post) {k : ℕ} → c .word .result ≡ k → isParent k ≡ false → k ≤ lastKind → let a = c .before .before .before .before .before .before .before .before .before .args in Leaf (c .word .result) × (a .node < 4294967296) × (c .before .before .t .given .0 .0 .at ≤ length (a .bytes .now)) × (length (a .bytes .now) ≤ 1048576)
+leaf-asked : (t : ℕ) (c : import-value-lts.After-word (import-value-calls t) (import-value-at t) import-value.Post) {k : ℕ} → c .word .result ≡ k → isParent k ≡ false → k ≤ lastKind → let a = c .before .before .before .before .before .before .before .before .before .args in Leaf (c .word .result) × (a .node < 4294967296) × (c .before .before .t .given .0 .0 .at ≤ length (a .bytes .now)) × (length (a .bytes .now) ≤ 1048576) × (c .before .before .t .given .0 .0 .size ≤ mostSize)
 leaf-asked t c e n l =
     let a = c .before .before .before .before .before .before .before .before .before .args in
     let p = c .before .before .before .before .before .before .before .before .before .pre .1 in
     let r = ready-claimed (a .s) (c .before .before .t .given .0 .0) (p .1) (claimed t (c .before .before)) in
-    (leaf e n l, omega (arith, node-few (a .grammar .now) (a .node) (p .0) .0), r .inside, r .short)
+    (leaf e n l, omega (arith, node-few (a .grammar .now) (a .node) (p .0) .0), r .inside, r .short, omega (arith, r .sized, r .inside, r .short, r .few, r .most))
 
 -- of a parent, its row claimed
 parent-asked : (t : ℕ) (c : import-value-lts.After-word (import-value-calls t) (import-value-at t) import-value.Post) {k : ℕ} → c .word .result ≡ k → let a = c .before .before .before .before .before .before .before .before .before .args in let u = c .before .before .t .given .0 .0 in (4 * (a .lent .capacity - u .begun) + 3 < t) × RowClaimed (a .grammar .now) (a .bytes .now) (a .rows .now) (a .store .now) (a .node) k (a .s .begun) (a .lent) u
@@ -514,16 +522,16 @@ parent-asked t c e =
     let a = c .before .before .before .before .before .before .before .before .before .args in
     let p = c .before .before .before .before .before .before .before .before .before .pre in
     let q = claimed t (c .before .before) in
-    (omega (arith, p .0, q .begun, q .free), record { node = p .1 .0; kind = sym (c .word .ensures .0) ∙ e; ready = ready-claimed (a .s) (c .before .before .t .given .0 .0) (p .1 .1) q; claimed = q .begun })
+    (omega (arith, p .0, q .begun, q .free), record { node = p .1 .0; kind = sym (c .word .ensures .0) ∙ e; ready = ready-claimed (a .s) (c .before .before .t .given .0 .0) (p .1 .1) q; claimed = q .begun; sized = omega (arith, q .at, q .size, p .1 .1 .sized) })
 
 -- what a reader brings, the value brings: of a parent, by the tree of its node
-parent-brought : (t : ℕ) (c : import-value-lts.After-word (import-value-calls t) (import-value-at t) import-value.Post) {r : CodeStep} {rows₁ store₁ : List ℕ} → let a = c .before .before .before .before .before .before .before .before .before .args in let u = c .before .before .t .given .0 .0 in let g = treeOf (a .grammar .now) (a .node) in Brings rowsIn storeOf (importBody (a .lent .capacity) (a .lent .room) (a .bytes .now) g (fillingOf u)) (a .s .begun) (u .used) (a .rows .now) (a .store .now) r rows₁ store₁ → Brings rowsIn storeOf (importVal (a .lent .capacity) (a .lent .room) (a .bytes .now) g (fillingOf (a .s))) (a .s .begun) (a .s .used) (a .rows .now) (a .store .now) r rows₁ store₁
+parent-brought : (t : ℕ) (c : import-value-lts.After-word (import-value-calls t) (import-value-at t) import-value.Post) {r : CodeStep} {rows₁ store₁ : List ℕ} → let a = c .before .before .before .before .before .before .before .before .before .args in let u = c .before .before .t .given .0 .0 in let g = treeOf (a .grammar .now) (a .node) in Brings rowsIn storeOf SizeOfV (importBody (a .lent .capacity) (a .lent .room) (a .bytes .now) g (fillingOf u)) (a .s .begun) (u .used) (u .size) (a .rows .now) (a .store .now) r rows₁ store₁ → Brings rowsIn storeOf SizeOfV (importVal (a .lent .capacity) (a .lent .room) (a .bytes .now) g (fillingOf (a .s))) (a .s .begun) (a .s .used) (a .s .size) (a .rows .now) (a .store .now) r rows₁ store₁
 parent-brought t c h =
     let a = c .before .before .before .before .before .before .before .before .before .args in
     arm-body (a .lent .capacity) (a .lent .room) (a .bytes .now) (treeOf (a .grammar .now) (a .node)) (a .s) (c .before .before .t .given .0 .0) (claimed t (c .before .before)) h
 
 -- and of a leaf, by its kind word
-leaf-brought : (t : ℕ) (c : import-value-lts.After-word (import-value-calls t) (import-value-at t) import-value.Post) {r : CodeStep} {rows₁ store₁ : List ℕ} → let a = c .before .before .before .before .before .before .before .before .before .args in let u = c .before .before .t .given .0 .0 in ((capacity : ℕ) (gs : Gs) → Brings rowsIn storeOf (importBody capacity (a .lent .room) (a .bytes .now) (nodeTree (kindOf (c .word .result)) gs) (fillingOf u)) (a .s .begun) (u .used) (a .rows .now) (a .store .now) r rows₁ store₁) → Brings rowsIn storeOf (importVal (a .lent .capacity) (a .lent .room) (a .bytes .now) (treeOf (a .grammar .now) (a .node)) (fillingOf (a .s))) (a .s .begun) (a .s .used) (a .rows .now) (a .store .now) r rows₁ store₁
+leaf-brought : (t : ℕ) (c : import-value-lts.After-word (import-value-calls t) (import-value-at t) import-value.Post) {r : CodeStep} {rows₁ store₁ : List ℕ} → let a = c .before .before .before .before .before .before .before .before .before .args in let u = c .before .before .t .given .0 .0 in ((capacity : ℕ) (gs : Gs) → Brings rowsIn storeOf SizeOfV (importBody capacity (a .lent .room) (a .bytes .now) (nodeTree (kindOf (c .word .result)) gs) (fillingOf u)) (a .s .begun) (u .used) (u .size) (a .rows .now) (a .store .now) r rows₁ store₁) → Brings rowsIn storeOf SizeOfV (importVal (a .lent .capacity) (a .lent .room) (a .bytes .now) (treeOf (a .grammar .now) (a .node)) (fillingOf (a .s))) (a .s .begun) (a .s .used) (a .s .size) (a .rows .now) (a .store .now) r rows₁ store₁
 leaf-brought t c h =
     let a = c .before .before .before .before .before .before .before .before .before .args in
     let g = a .grammar .now in
@@ -588,7 +596,7 @@ import-value-refuse-kind-requires t c κs = search needs
 import-value-returns : (t : ℕ) → import-value-lts.Need-returns (import-value-calls t) (import-value-at t) import-value.Post
 import-value-returns t c =
     let a = c .before .before .before .before .before .before .before .before .args in
-    arm-refused (a .lent .capacity) (a .lent .room) (a .bytes .now) (treeOf (a .grammar .now) (a .node)) (a .s) (c .before .r .given .0 .0) (c .before .r .given .1) (c .before .before .before .claim .ensures)
+    arm-refused (a .lent .capacity) (a .lent .room) (a .bytes .now) (treeOf (a .grammar .now) (a .node)) (a .s) (c .before .r .given .0 .0) (c .before .r .given .1) (c .before .before .before .claim .ensures .0)
 
 import-value-same-length : (t : ℕ) → import-value-lts.Need-same-length (import-value-calls t) (import-value-at t) import-value.Post
 import-value-same-length t c = search needs

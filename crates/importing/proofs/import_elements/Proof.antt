@@ -1,4 +1,4 @@
-use mathlib.Core.Path.{_≡_, ap, sym, _∙_}
+use mathlib.Core.Path.{_≡_, ap, sym, subst, _∙_}
 use mathlib.Core.List.{List}
 use Prim.Native.Nat.{ℕ, _+_, _-_, _*_, _≤_, _<_}
 use native.Mathlib.Nat.{mul-le-mul-right}
@@ -10,25 +10,25 @@ use Rattle.packed.specs.Packed.{putWithin}
 use Rattle.big_endian.specs.BigEndian.{unpackBigEndianSeq}
 use Rattle.big_endian.proofs.Laws.{length-unpackBigSeq}
 use Rattle.value.specs.Kinds.{elementWidth}
-use Rattle.value.specs.Tree.{VNumberArray, rowCount}
+use Rattle.value.specs.Tree.{VNumberArray, SizeOfV, rowCount}
 use Rattle.value.specs.Step.{yield, give}
 use Rattle.rows.specs.Layout.{ownRow}
 use Rattle.xdr.specs.Xdr.{padding, rowsIn}
 use Rattle.xdr.specs.Import.{Filling, fill, move, takeNumber, checkBody}
-use Rattle.importing.specs.Meaning.{fillingOf, takenOf}
+use Rattle.importing.specs.Meaning.{fillingOf, takenOf, TakenSize}
 use Rattle.importing.proofs.Laws.{take-moves, part-from, body-holds, numbers-refused, numbers-body, numbers-taken, brings-refused, brings-next, elements-stored}
 use borrow.Author.Needs.{needs}
 use Rattle.importing.proofs.import_elements.Statement.{statement}
 use Rattle.importing.proofs.import_elements.Tie as tie
 
--- behind the match on the count: it was taken, where it stands, and that it is of 4 bytes
-counted : (c : tie.After-known-told2) → let a = c .before .before .before .before .before .before .before .args in let g = c .before .count .given in (yield (g .0 .0) (fillingOf (g .0 .1 .0)) ≡ takeNumber (a .bytes .now) 4 (fillingOf (a .s))) × (g .0 .1 .0 .at ≡ a .s .at + 4) × (a .s .at + 4 ≤ length (a .bytes .now)) × (g .0 .0 < 4294967296) × (g .0 .1 .0 .used ≡ a .s .used)
+-- behind the match on the count: it was taken, where it stands, that it is of 4 bytes, and the state behind it
+counted : (c : tie.After-known-told2) → let a = c .before .before .before .before .before .before .before .args in let g = c .before .count .given in (yield (g .0 .0) (fillingOf (g .0 .1 .0)) ≡ takeNumber (a .bytes .now) 4 (fillingOf (a .s))) × (g .0 .1 .0 .at ≡ a .s .at + 4) × (a .s .at + 4 ≤ length (a .bytes .now)) × (g .0 .0 < 4294967296) × (g .0 .1 .0 .used ≡ a .s .used) × (g .0 .1 .0 .size ≡ a .s .size)
 counted c =
     let a = c .before .before .before .before .before .before .before .args in
     let g = c .before .count .given in
     let e = ap takenOf (sym (g .1)) ∙ c .before .before .before .take4 .ensures .0 in
     let m = take-moves (a .bytes .now) 4 (fillingOf (a .s)) (g .0 .0) (fillingOf (g .0 .1 .0)) e in
-    (e, ap (λ (t : Filling). t .at) (m .0), m .1, rw (g .1) at (c .before .before .before .take4 .ensures .1), ap (λ (t : Filling). t .used) (m .0))
+    (e, ap (λ (t : Filling). t .at) (m .0), m .1, rw (g .1) at (c .before .before .before .take4 .ensures .1), ap (λ (t : Filling). t .used) (m .0), subst (TakenSize (a .s .size)) (g .1) (c .before .before .before .take4 .ensures .2))
 
 -- behind the match on the body: nothing is refused, so all bytes are there and have room
 body : (c : tie.After-enum-told) → let a = c .before .before .before .before .before .before .before .before .before .before .before .args in let g = c .before .before .before .before .before .count .given in (accepted tt ≡ checkBody (a .room) (a .s .used) (a .width * g .0 .0) (drop (g .0 .1 .0 .at) (a .bytes .now)) (a .s .at)) × (a .width * g .0 .0 + padding (a .width * g .0 .0) ≤ length (a .bytes .now) - g .0 .1 .0 .at) × (a .s .used + a .width * g .0 .0 ≤ a .room)
@@ -53,7 +53,7 @@ enum-known-count c = search needs
 mul-size : tie.Need-mul-size
 mul-size c =
     let a = c .before .before .before .before .before .before .before .args in
-    let m : a .width * c .before .count .given .0 .0 ≤ 8 * c .before .count .given .0 .0 = mul-le-mul-right (c .before .count .given .0 .0) (c .before .before .before .before .before .before .before .pre .2) in
+    let m : a .width * c .before .count .given .0 .0 ≤ 8 * c .before .count .given .0 .0 = mul-le-mul-right (c .before .count .given .0 .0) (c .before .before .before .before .before .before .before .pre .3) in
     record { fits = omega (arith, counted c .3) }
 
 sub-import-array-body : tie.Need-sub-import-array-body
@@ -72,7 +72,7 @@ import-array-body-requires : tie.Need-import-array-body-requires
 import-array-body-requires c κs =
     let a = c .before .before .before .before .before .before .before .before .args in
     let n = c .before .before .count .given .0 .0 in
-    let m : a .width * n ≤ 8 * n = mul-le-mul-right n (c .before .before .before .before .before .before .before .before .pre .2) in
+    let m : a .width * n ≤ 8 * n = mul-le-mul-right n (c .before .before .before .before .before .before .before .before .pre .3) in
     omega (arith, counted (c .before) .3)
 
 enum-known-r-2 : tie.Need-enum-known-r-2
@@ -85,6 +85,9 @@ add-end : tie.Need-add-end
 add-end c =
     let h = counted (c .before .before .before .before) in
     omega (arith, h .1, h .2, body c .1, c .before .before .before .before .before .before .before .before .before .before .before .pre .1)
+
+add-whole : tie.Need-add-whole
+add-whole c = omega (arith, body c .1, c .before .before .before .before .before .before .before .before .before .before .before .pre .1)
 
 put-row-requires : tie.Need-put-row-requires
 put-row-requires c κs = search needs
@@ -127,8 +130,15 @@ fill-requires c κs =
     let q = c .before .before .before .before .before .before .before .before .before .before .before in
     let h = counted (q .before .before .before .before) in
     let y = body q in
-    let m = ap (λ (t : Filling). t .used) (c .move-on .ensures) in
+    let m = ap (λ (t : Filling). t .used) (c .move-on .ensures .0) in
     omega (arith, h .4, y .2, m, q .before .before .before .before .before .before .before .before .before .before .before .fits)
+
+grow-requires : tie.Need-grow-requires
+grow-requires c κs =
+    let q = c .before .before .before .before .before .before .before .before .before .before .before .before in
+    let h = counted (q .before .before .before .before) in
+    let p = q .before .before .before .before .before .before .before .before .before .before .before .pre in
+    omega (arith, h .5, body q .1, c .fill .ensures .1, c .before .move-on .ensures .1, p .1, p .2)
 
 returns : tie.Need-returns
 returns c =
@@ -151,10 +161,10 @@ same-length-2 : tie.Need-same-length-2
 same-length-2 c = search needs
 
 returns-3 : tie.Need-returns-3
-unfolding rowsIn ownRow rowCount
+unfolding rowsIn ownRow rowCount SizeOfV
 returns-3 c =
     λ k e f.
-    let q = c .before .before .before .before .before .before .before .before .before .before .before .before in
+    let q = c .before .before .before .before .before .before .before .before .before .before .before .before .before in
     let h = counted (q .before .before .before .before) in
     let y = body q in
     let a = q .before .before .before .before .before .before .before .before .before .before .before .args in
@@ -164,12 +174,13 @@ returns-3 c =
     let w = elementWidth k in
     let ns = unpackBigEndianSeq w (drop p d) (g .0 .0) in
     let l : length ns ≡ g .0 .0 = length-unpackBigSeq w (drop p d) (g .0 .0) in
-    let t : fillingOf (c .fill .result) ≡ fill (w * g .0 .0) (move (w * g .0 .0 + padding (w * g .0 .0)) (fillingOf (g .0 .1 .0))) =
-    c .fill .ensures ∙ ap (fill (a .width * g .0 .0)) (c .before .move-on .ensures ∙ ap (λ (n : ℕ). move (a .width * g .0 .0 + n) (fillingOf (g .0 .1 .0))) (c .before .before .padding .ensures)) ∙ rw f in
-    brings-next (c .fill .result) (VNumberArray k ns)
+    let t : fillingOf (c .grow .result) ≡ fill (w * g .0 .0) (move (w * g .0 .0 + padding (w * g .0 .0)) (fillingOf (g .0 .1 .0))) =
+    c .grow .ensures .0 ∙ c .before .fill .ensures .0 ∙ ap (fill (a .width * g .0 .0)) (c .before .before .move-on .ensures .0 ∙ ap (λ (n : ℕ). move (a .width * g .0 .0 + n) (fillingOf (g .0 .1 .0))) (c .before .before .before .padding .ensures)) ∙ rw f in
+    brings-next (c .grow .result) (VNumberArray k ns)
     (ap (give (VNumberArray k)) (ap (λ (s : Filling). yield ns s) t ∙ numbers-taken d (a .room) k (fillingOf (a .s)) (g .0 .0) (fillingOf (g .0 .1 .0)) (h .0) (rw f at (y .0))))
-    (c .before .before .before .before .before .before .before .before .before .before .put-row .ensures ∙ rw (e, l))
-    (c .before .before .before .before .before .copy-elements .ensures k e ∙ ap (putWithin (a .store .now) (a .s .used)) (elements-stored k d p (g .0 .0) (a .width * g .0 .0) (λ j. q .before .before .before .before .before .before .before .before .before .before .shared-slice-known .given j .fits) (rw f) (omega (arith, y .1, h .1, h .2))))
+    (c .before .before .before .before .before .before .before .before .before .before .before .put-row .ensures ∙ rw (e, f, l))
+    (c .before .before .before .before .before .before .copy-elements .ensures k e ∙ ap (putWithin (a .store .now) (a .s .used)) (elements-stored k d p (g .0 .0) (a .width * g .0 .0) (λ j. q .before .before .before .before .before .before .before .before .before .before .shared-slice-known .given j .fits) (rw f) (omega (arith, y .1, h .1, h .2))))
+    (c .grow .ensures .1 ∙ ap (λ (n : ℕ). n + (8 + a .width * g .0 .0)) (c .before .fill .ensures .1 ∙ c .before .before .move-on .ensures .1 ∙ h .5) ∙ rw (f, l))
 
 pub import-elements-spec : {M : Type 1} → statement M
 import-elements-spec =
@@ -186,6 +197,7 @@ import-elements-spec =
     enum-known-r-2
     enum-told
     add-end
+    add-whole
     put-row-requires
     sub-copy-elements
     part-copy-elements-start
@@ -195,6 +207,7 @@ import-elements-spec =
     add-move-on
     move-on-requires
     fill-requires
+    grow-requires
     returns
     returns-2
     same-length

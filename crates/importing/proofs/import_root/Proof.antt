@@ -8,7 +8,7 @@ use Rattle.importing.proofs.import_root.Tie as tie
 import-children-requires : tie.Need-import-children-requires
 import-children-requires c κs =
     let p = c .before .before .before .before .before .before .pre in
-    (children-root (c .before .before .before .before .before .before .args .grammar .now) (p .table), root-ready _ refl refl refl p)
+    (children-root (c .before .before .before .before .before .before .args .grammar .now) (p .table), root-ready _ refl refl refl refl p)
 
 same-length : tie.Need-same-length
 same-length c = search needs

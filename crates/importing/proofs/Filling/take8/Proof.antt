@@ -30,13 +30,13 @@ returns c =
     let a = c .before .before .before .before .before .before .args in
     let n = c .before .before .n .given .0 .0 in
     let e = ap unpackedU64 (sym (c .before .before .n .given .1)) ∙ c .before .before .before .before .unpack-big-endian-uint64 .ensures in
-    ap (λ (t : Filling). yield n t) (c .move-on .ensures) ∙ take-unpacked (a .bytes .now) 8 (fillingOf (a .self)) (c .before .before .before .before .before .before .pre .0) (accepted n) e
+    (ap (λ (t : Filling). yield n t) (c .move-on .ensures .0) ∙ take-unpacked (a .bytes .now) 8 (fillingOf (a .self)) (c .before .before .before .before .before .before .pre .0) (accepted n) e, c .move-on .ensures .1)
 
 returns-2 : tie.Need-returns-2
 returns-2 c =
     let a = c .before .before .before .before .before .args in
     let e = ap unpackedU64 (sym (c .before .r .given .1)) ∙ c .before .before .before .unpack-big-endian-uint64 .ensures in
-    take-unpacked (a .bytes .now) 8 (fillingOf (a .self)) (c .before .before .before .before .before .pre .0) (refused _) e
+    (take-unpacked (a .bytes .now) 8 (fillingOf (a .self)) (c .before .before .before .before .before .pre .0) (refused _) e, tt)
 
 pub take8-spec : {M : Type 1} → statement M
 take8-spec =
