@@ -6,6 +6,7 @@ pub mod Agreement
 pub mod Reading
 pub mod Cut
 pub mod Begun
+pub mod Ends
 pub mod Examples
 pub mod Capacity
 pub mod Least
