@@ -15,7 +15,7 @@ inForce named = min named 4096
 abbrev pub checkRows : ℕ
 checkRows = 1024
 
--- document 01's capacity of a slice of words: divided by 4, rounded down, at most 4,096
+-- the capacity of a slice of words: divided by 5, rounded down, at most 4,096
 abbrev pub capacityOf : ℕ → ℕ
 capacityOf words = inForce (words / rowWidth)
 

@@ -14,11 +14,13 @@ use Rattle.refusal.specs.Meaning.{reasonOf}
 use Rattle.refusal.specs.declared.Refusal.{Refusal}
 use Rattle.refusal.proofs.Outcome.{post-accepted}
 use Rattle.value.specs.Kinds.{Kind, Number, Elements, width, numberKind, elementWidth, elementsKind, kindOf, constant, number, array, tuple, elements as elementsClass, union}
-use Rattle.value.specs.Tree.{G, Gs, GConstant, GNumber, GArray, GTuple, GNumberArray, GTaggedUnion, seqG, seqV, caseAt, Val, Vals, VConstant, VNumber, VArray, VTuple, VNumberArray, VCase, rowCount, rowCounts}
+use Rattle.value.specs.Tree.{G, Gs, GConstant, GNumber, GArray, GTuple, GNumberArray, GTaggedUnion, seqG, seqV, caseAt, Val, Vals, VConstant, VNumber, VArray, VTuple, VNumberArray, VCase, SizeOfV, SeqSum, rowCount, rowCounts}
 use Rattle.value.specs.Step.{Step, yield, next, give, elements}
+use Rattle.value.specs.Parse.{Parse}
 use Rattle.value.specs.Reading.{State, Stop, Reading, stop, move, begin, claim, free, takeNumber, takeNumbers, readBody, readFields, readVal}
 use Rattle.value.proofs.KindLaws.{number-kind, elements-kind, other-kinds, isParent, not-parent}
-use Rattle.value.proofs.Agreement.{agrees, agrees-elements, agrees-fields, agrees-accepted, elements-count, fields-count}
+use Rattle.value.proofs.Agreement.{Agrees, agrees, agrees-elements, agrees-fields, agrees-accepted, elements-count, fields-count}
+use Rattle.value.proofs.Ends.{EndsBehind, ends-body, ends-value, ends-elements, ends-fields}
 use Rattle.tables.specs.Grammar.{kindWord, firstWord, countWord, childWord}
 use Rattle.grammar.specs.Rule.{CountRule}
 use Rattle.grammar.specs.Tree.{nodeTree, childTrees, treeOf}
@@ -74,18 +76,18 @@ below-taken d limit code s n u h = go (takeNumber d 8 s) refl h
         (ap (λ (y : State). y .at) w, ap (λ (y : State). y .begun) w, subst (λ (i : ℕ). i < limit) (sym v) (ltb-true (t .value) limit (x .0)), m .1)
 
 -- a parent's row before its children's
-module _ (span word2 p : ℕ) where
-  own-array : (vs : Vals) → span ≡ 1 + rowCounts vs → length (seqV vs) ≡ word2 → rowsOf (VArray vs) p ≡ (3 ∷ span ∷ word2 ∷ 0 ∷ []) ++ rowsOfAll vs (p + 8)
+module _ (span word2 size p : ℕ) where
+  own-array : (vs : Vals) → span ≡ 1 + rowCounts vs → size ≡ SizeOfV (VArray vs) → length (seqV vs) ≡ word2 → rowsOf (VArray vs) p ≡ (3 ∷ span ∷ word2 ∷ 0 ∷ size ∷ []) ++ rowsOfAll vs (p + 8)
   unfolding rowsOf ownRow rowCount
-  own-array vs b l = rw (b, l)
+  own-array vs b z l = rw (b, z, l)
 
-  own-tuple : (vs : Vals) → span ≡ 1 + rowCounts vs → length (seqV vs) ≡ word2 → rowsOf (VTuple vs) p ≡ (4 ∷ span ∷ word2 ∷ 0 ∷ []) ++ rowsOfAll vs p
+  own-tuple : (vs : Vals) → span ≡ 1 + rowCounts vs → size ≡ SizeOfV (VTuple vs) → length (seqV vs) ≡ word2 → rowsOf (VTuple vs) p ≡ (4 ∷ span ∷ word2 ∷ 0 ∷ size ∷ []) ++ rowsOfAll vs p
   unfolding rowsOf ownRow rowCount
-  own-tuple vs b l = rw (b, l)
+  own-tuple vs b z l = rw (b, z, l)
 
-  own-case : (v : Val) → span ≡ 1 + rowCount v → rowsOf (VCase word2 v) p ≡ (8 ∷ span ∷ word2 ∷ 0 ∷ []) ++ rowsOf v (p + 8)
+  own-case : (v : Val) → span ≡ 1 + rowCount v → size ≡ SizeOfV (VCase word2 v) → rowsOf (VCase word2 v) p ≡ (8 ∷ span ∷ word2 ∷ 0 ∷ size ∷ []) ++ rowsOf v (p + 8)
   unfolding rowsOf ownRow rowCount
-  own-case v b = rw b
+  own-case v b z = rw (b, z)
 
 array-rows : (vs : Vals) → rowCount (VArray vs) ≡ 1 + rowCounts vs
 unfolding rowCount
@@ -134,8 +136,8 @@ module _ {g d entry : List ℕ} {node w row : ℕ} {s : CodeState} (p : RowClaim
 
   -- Kinds that are read at once.
 
-  pub leaf-constant : w ≡ 0 → {r : CodeStep} {exit : List ℕ} → r ≡ Next s → exit ≡ laid entry row (0 ∷ 1 ∷ 0 ∷ 0 ∷ []) → Reads rowsOf (readBody (s .capacity) d (treeOf g node) (stateOf s)) (s .capacity) row (s .at) entry r exit
-  unfolding readBody nodeTree rowsOf ownRow rowCount
+  pub leaf-constant : w ≡ 0 → {r : CodeStep} {exit : List ℕ} → r ≡ Next s → exit ≡ laid entry row (0 ∷ 1 ∷ 0 ∷ 0 ∷ 0 ∷ []) → Reads rowsOf (readBody (s .capacity) d (treeOf g node) (stateOf s)) (s .capacity) row (s .at) entry r exit
+  unfolding readBody nodeTree rowsOf ownRow rowCount SizeOfV
   leaf-constant e q h = rw (q, body-tree GConstant (node-tree g node (p .node) 0 constant (p .kind ∙ e) (other-kinds .0))) (reads-next s VConstant refl refl h)
 
   pub leaf-number : (k : Number) {x : Reading ℕ} {r : CodeStep} {exit : List ℕ} → w ≡ numberKind k → x ≡ takeNumber d (width k) (stateOf s) → Reads rowsOf (give (VNumber k) x) (s .capacity) row (s .at) entry r exit → Reads rowsOf (readBody (s .capacity) d (treeOf g node) (stateOf s)) (s .capacity) row (s .at) entry r exit
@@ -146,19 +148,28 @@ module _ {g d entry : List ℕ} {node w row : ℕ} {s : CodeState} (p : RowClaim
   unfolding readBody nodeTree
   leaf-elements k e h = rw (body-tree (GNumberArray k) (node-tree g node (p .node) (elementsKind k) (elementsClass k) (p .kind ∙ e) (elements-kind k))) h
 
-  -- the row of the parent before the rows of its children, which are `more` and start where the rows of A do
-  closed-rows : {A : Type 0} {rowsAt : A → ℕ → List ℕ} (x : Reading A) (f : A → Val) (count : A → ℕ) (kind word2 q : ℕ) {read r : CodeStep} {mid exit : List ℕ} → ((a : A) → rowCount (f a) ≡ 1 + count a) → ((t : Step State A) → x ≡ accepted t → (t .state .begun ≡ s .begun + count (t .value)) × (count (t .value) ≤ s .capacity - s .begun) × ((span : ℕ) → span ≡ 1 + count (t .value) → rowsOf (f (t .value)) (s .at) ≡ (kind ∷ span ∷ word2 ∷ 0 ∷ []) ++ rowsAt (t .value) q)) → Reads rowsAt x (s .capacity) (suc row) q entry read mid → r ≡ read → exit ≡ closed row kind word2 read mid → Reads rowsOf (give f x) (s .capacity) row (s .at) entry r exit
-  closed-rows x f count kind word2 q {read} e own h i o =
-      rw (i, o) (reads-close {x = x} {row = row} {p = s .at} f kind word2 (p .ready .room) read (λ t z.
+  -- the size of a value is the position behind its children less its start
+  body-size : {A : Type 0} (x : Reading A) (f : A → Val) → readBody (s .capacity) d (treeOf g node) (stateOf s) ≡ give f x → (t : Step State A) → x ≡ accepted t → t .state .at - s .at ≡ SizeOfV (f (t .value))
+  body-size x f e t z =
+      let y : readBody (s .capacity) d (treeOf g node) (stateOf s) ≡ yield (f (t .value)) (t .state) = e ∙ ap (give f) z in
+      omega (arith, post-accepted (rw y at (ends-body (s .capacity) d (treeOf g node) (stateOf s))) .at)
+
+  -- the row of the parent before the rows of its children, whose bytes start at q
+  closed-rows : {A : Type 0} {rowsAt : A → ℕ → List ℕ} (x : Reading A) (f : A → Val) (count : A → ℕ) (kind word2 q : ℕ) {read r : CodeStep} {mid exit : List ℕ} → readBody (s .capacity) d (treeOf g node) (stateOf s) ≡ give f x → ((a : A) → rowCount (f a) ≡ 1 + count a) → ((t : Step State A) → x ≡ accepted t → (t .state .begun ≡ s .begun + count (t .value)) × (count (t .value) ≤ s .capacity - s .begun) × ((span size : ℕ) → span ≡ 1 + count (t .value) → size ≡ SizeOfV (f (t .value)) → rowsOf (f (t .value)) (s .at) ≡ (kind ∷ span ∷ word2 ∷ 0 ∷ size ∷ []) ++ rowsAt (t .value) q)) → Reads rowsAt x (s .capacity) (suc row) q entry read mid → r ≡ read → exit ≡ closed row (s .at) kind word2 read mid → Reads rowsOf (readBody (s .capacity) d (treeOf g node) (stateOf s)) (s .capacity) row (s .at) entry r exit
+  closed-rows x f count kind word2 q {read} m e own h i o =
+      rw (m, i, o) (reads-close {x = x} {row = row} {p = s .at} f kind word2 (p .ready .room) read (λ t z.
       let y = own t z in
       let b : t .state .begun - row ≡ 1 + count (t .value) = omega (arith, y .0, p .claimed) in
-      (y .2 (t .state .begun - row) b, own-fits (f (t .value)) row (s .at) (s .capacity) (rw (e (t .value)) (omega (arith, y .1, p .claimed, own-free)))))
+      (y .2 (t .state .begun - row) (t .state .at - s .at) b (body-size x f m t z), own-fits (f (t .value)) row (s .at) (s .capacity) (rw (e (t .value)) (omega (arith, y .1, p .claimed, own-free)))))
       h)
 
   -- a head below its limit
   module _ (limit code n : ℕ) (u : CodeState) (h : yield n (stateOf u) ≡ takeBelow d limit code (stateOf s)) (m : u .capacity ≡ s .capacity) where
     pub head-begun : u .begun ≡ s .begun
     head-begun = below-taken d limit code (stateOf s) n u h .1
+
+    pub head-behind : s .at ≤ u .at
+    head-behind = omega (arith, below-taken d limit code (stateOf s) n u h .0)
 
     pub head-below : n < limit
     head-below = below-taken d limit code (stateOf s) n u h .2
@@ -189,18 +200,18 @@ module _ {g d entry : List ℕ} {node row : ℕ} {s : CodeState} (p : RowClaimed
   unfolding nodeTree childTrees
   array-tree = node-tree g node (p .node) 3 array (p .kind) (other-kinds .1) ∙ rw (array-count g node (p .node) (p .kind), add-zero (firstWord g node))
 
-  pub arm-array : (child count : ℕ) (u : CodeState) {read r : CodeStep} {mid exit : List ℕ} → child ≡ childWord g (firstWord g node + 0) → yield count (stateOf u) ≡ takeBelow d (s .capacity - s .begun + 1) 8 (stateOf s) → u .capacity ≡ s .capacity → Reads rowsOfAll (elements count (readVal (u .capacity) d (treeOf g child)) (stateOf u)) (u .capacity) (u .begun) (u .at) entry read mid → r ≡ read → exit ≡ closed row 3 count read mid → Reads rowsOf (readBody (s .capacity) d (treeOf g node) (stateOf s)) (s .capacity) row (s .at) entry r exit
+  pub arm-array : (child count : ℕ) (u : CodeState) {read r : CodeStep} {mid exit : List ℕ} → child ≡ childWord g (firstWord g node + 0) → yield count (stateOf u) ≡ takeBelow d (s .capacity - s .begun + 1) 8 (stateOf s) → u .capacity ≡ s .capacity → Reads rowsOfAll (elements count (readVal (u .capacity) d (treeOf g child)) (stateOf u)) (u .capacity) (u .begun) (u .at) entry read mid → r ≡ read → exit ≡ closed row (s .at) 3 count read mid → Reads rowsOf (readBody (s .capacity) d (treeOf g node) (stateOf s)) (s .capacity) row (s .at) entry r exit
   arm-array child count u e h m i q o =
       let tree = treeOf g child in
       let t : treeOf g node ≡ GArray tree = array-tree ∙ ap (λ (j : ℕ). GArray (treeOf g j)) (sym e) in
       let y = below-taken d (s .capacity - s .begun + 1) 8 (stateOf s) count u h in
       let x : readBody (s .capacity) d (treeOf g node) (stateOf s) ≡ give VArray (elements count (readVal (s .capacity) d tree) (stateOf u)) =
       body-tree p (GArray tree) t ∙ sym (array-body (s .capacity) d (stateOf s) tree) ∙ ap (λ (z : Reading ℕ). next z (λ n v. give VArray (elements n (readVal (s .capacity) d tree) v))) (sym h) in
-      rw x (closed-rows p (elements count (readVal (s .capacity) d tree) (stateOf u)) VArray rowCounts 3 count (s .at + 8) array-rows (λ v z.
+      closed-rows p (elements count (readVal (s .capacity) d tree) (stateOf u)) VArray rowCounts 3 count (s .at + 8) x array-rows (λ v z.
       let f = agrees-accepted (agrees-elements tree (λ s′ l′. agrees (s .capacity) d tree s′ l′) count (stateOf u) (omega (arith, y .0, y .3))) v z in
       let n = post-accepted (rw z at (elements-count count (readVal (s .capacity) d tree) (stateOf u))) in
-      (omega (arith, f .1, y .1), omega (arith, f .2, y .1), λ span b. own-array span count (s .at) (v .value) b n))
-      (moved p (s .capacity - s .begun + 1) 8 count u h m (λ j. elements count (readVal j d tree) (stateOf u)) i) q o)
+      (omega (arith, f .1, y .1), omega (arith, f .2, y .1), λ span size b j. own-array span count size (s .at) (v .value) b j n))
+      (moved p (s .capacity - s .begun + 1) 8 count u h m (λ j. elements count (readVal j d tree) (stateOf u)) i) q o
 
   pub arm-array-stopped : (u : CodeState) (f : Refusal) {exit : List ℕ} → refused (record { why = reasonOf f; state = stateOf u }) ≡ takeBelow d (s .capacity - s .begun + 1) 8 (stateOf s) → u .capacity ≡ s .capacity → Reads rowsOf (readBody (s .capacity) d (treeOf g node) (stateOf s)) (s .capacity) row (s .at) entry (Stopped u f) exit
   arm-array-stopped u f h m =
@@ -212,23 +223,23 @@ module _ {g d entry : List ℕ} {node row : ℕ} {s : CodeState} (p : RowClaimed
   unfolding nodeTree
   tuple-tree = node-tree g node (p .node) 4 tuple (p .kind) (other-kinds .2)
 
-  pub arm-tuple : (count : ℕ) {read r : CodeStep} {mid exit : List ℕ} → count ≡ countWord g node → Reads rowsOfAll (readFields (s .capacity) d (childTrees g (treeOf g) (firstWord g node) (countWord g node)) (stateOf s)) (s .capacity) (s .begun) (s .at) entry read mid → r ≡ read → exit ≡ closed row 4 count read mid → Reads rowsOf (readBody (s .capacity) d (treeOf g node) (stateOf s)) (s .capacity) row (s .at) entry r exit
+  pub arm-tuple : (count : ℕ) {read r : CodeStep} {mid exit : List ℕ} → count ≡ countWord g node → Reads rowsOfAll (readFields (s .capacity) d (childTrees g (treeOf g) (firstWord g node) (countWord g node)) (stateOf s)) (s .capacity) (s .begun) (s .at) entry read mid → r ≡ read → exit ≡ closed row (s .at) 4 count read mid → Reads rowsOf (readBody (s .capacity) d (treeOf g node) (stateOf s)) (s .capacity) row (s .at) entry r exit
   unfolding readBody
   arm-tuple count {read} {r} {mid} e i q o =
       let gs = childTrees g (treeOf g) (firstWord g node) (countWord g node) in
       let b : s .begun ≡ suc row = omega (arith, p .claimed) in
-      rw (body-tree p (GTuple gs) tuple-tree) (closed-rows p (readFields (s .capacity) d gs (stateOf s)) VTuple rowCounts 4 count (s .at) tuple-rows (λ v z.
+      closed-rows p (readFields (s .capacity) d gs (stateOf s)) VTuple rowCounts 4 count (s .at) (body-tree p (GTuple gs) tuple-tree) tuple-rows (λ v z.
       let f = agrees-accepted (agrees-fields (s .capacity) d gs (stateOf s) (p .ready .inside)) v z in
       let n : length (seqV (v .value)) ≡ count = post-accepted (rw z at (fields-count (s .capacity) d gs (stateOf s))) ∙ trees-length g (treeOf g) (countWord g node) (firstWord g node) ∙ sym e in
-      (f .1, f .2, λ span l. own-tuple span count (s .at) (v .value) l n))
-      (subst (λ (z : ℕ). Reads rowsOfAll (readFields (s .capacity) d gs (stateOf s)) (s .capacity) z (s .at) entry read mid) b i) q o)
+      (f .1, f .2, λ span size l j. own-tuple span count size (s .at) (v .value) l j n))
+      (subst (λ (z : ℕ). Reads rowsOfAll (readFields (s .capacity) d gs (stateOf s)) (s .capacity) z (s .at) entry read mid) b i) q o
 
 module _ {g d entry : List ℕ} {node row : ℕ} {s : CodeState} (p : RowClaimed g d entry node 8 row s) where
   union-tree : treeOf g node ≡ GTaggedUnion (childTrees g (treeOf g) (firstWord g node) (countWord g node))
   unfolding nodeTree
   union-tree = node-tree g node (p .node) 8 union (p .kind) (other-kinds .3)
 
-  pub arm-case : (child tag limit : ℕ) (u : CodeState) {read r : CodeStep} {mid exit : List ℕ} → limit ≡ countWord g node → child ≡ childWord g (firstWord g node + tag) → yield tag (stateOf u) ≡ takeBelow d limit 10 (stateOf s) → u .capacity ≡ s .capacity → Reads rowsOf (readVal (u .capacity) d (treeOf g child) (stateOf u)) (u .capacity) (u .begun) (u .at) entry read mid → r ≡ read → exit ≡ closed row 8 tag read mid → Reads rowsOf (readBody (s .capacity) d (treeOf g node) (stateOf s)) (s .capacity) row (s .at) entry r exit
+  pub arm-case : (child tag limit : ℕ) (u : CodeState) {read r : CodeStep} {mid exit : List ℕ} → limit ≡ countWord g node → child ≡ childWord g (firstWord g node + tag) → yield tag (stateOf u) ≡ takeBelow d limit 10 (stateOf s) → u .capacity ≡ s .capacity → Reads rowsOf (readVal (u .capacity) d (treeOf g child) (stateOf u)) (u .capacity) (u .begun) (u .at) entry read mid → r ≡ read → exit ≡ closed row (s .at) 8 tag read mid → Reads rowsOf (readBody (s .capacity) d (treeOf g node) (stateOf s)) (s .capacity) row (s .at) entry r exit
   arm-case child tag limit u n e h m i q o =
       let gs = childTrees g (treeOf g) (firstWord g node) (countWord g node) in
       let y = below-taken d limit 10 (stateOf s) tag u h in
@@ -236,10 +247,10 @@ module _ {g d entry : List ℕ} {node row : ℕ} {s : CodeState} (p : RowClaimed
       let tree : caseAt gs tag ≡ treeOf g child = trees-at g (treeOf g) (countWord g node) (firstWord g node) tag (omega (arith, y .2)) ∙ ap (treeOf g) (sym e) in
       let x : readBody (s .capacity) d (treeOf g node) (stateOf s) ≡ give (VCase tag) (readVal (s .capacity) d (treeOf g child) (stateOf u)) =
       body-tree p (GTaggedUnion gs) union-tree ∙ sym (case-body (s .capacity) d (stateOf s) gs) ∙ ap (λ (z : Reading ℕ). next z (λ c v. give (VCase c) (readVal (s .capacity) d (caseAt gs c) v))) (ap (λ (j : ℕ). takeBelow d j 10 (stateOf s)) (sym l) ∙ sym h) ∙ ap (λ (z : G). give (VCase tag) (readVal (s .capacity) d z (stateOf u))) tree in
-      rw x (closed-rows p (readVal (s .capacity) d (treeOf g child) (stateOf u)) (VCase tag) rowCount 8 tag (s .at + 8) (case-rows tag) (λ v z.
+      closed-rows p (readVal (s .capacity) d (treeOf g child) (stateOf u)) (VCase tag) rowCount 8 tag (s .at + 8) x (case-rows tag) (λ v z.
       let f = agrees-accepted (agrees (s .capacity) d (treeOf g child) (stateOf u) (omega (arith, y .0, y .3))) v z in
-      (omega (arith, f .1, y .1), omega (arith, f .2, y .1), λ span b. own-case span tag (s .at) (v .value) b))
-      (moved p limit 10 tag u h m (λ j. readVal j d (treeOf g child) (stateOf u)) i) q o)
+      (omega (arith, f .1, y .1), omega (arith, f .2, y .1), λ span size b j. own-case span tag size (s .at) (v .value) b j))
+      (moved p limit 10 tag u h m (λ j. readVal j d (treeOf g child) (stateOf u)) i) q o
 
   pub arm-case-stopped : (limit : ℕ) (u : CodeState) (f : Refusal) {exit : List ℕ} → limit ≡ countWord g node → refused (record { why = reasonOf f; state = stateOf u }) ≡ takeBelow d limit 10 (stateOf s) → u .capacity ≡ s .capacity → Reads rowsOf (readBody (s .capacity) d (treeOf g node) (stateOf s)) (s .capacity) row (s .at) entry (Stopped u f) exit
   arm-case-stopped limit u f e h m =
@@ -256,27 +267,23 @@ module _ {g : List ℕ} {node : ℕ} {d entry : List ℕ} {s t : CodeState} (n :
   pub row-claimed : {w : ℕ} → kindWord g node ≡ w → RowClaimed g d entry node w (s .begun) t
   row-claimed k = record { node = n; kind = k; ready = ready-claimed; claimed = c .begun }
 
--- children that were read are counted behind the row of their parent
-pub counted-elements : {d entry mid : List ℕ} {row : ℕ} (u : CodeState) (g : G) (m : ℕ) (read : CodeStep) → Ready d entry u → row < u .begun → Reads rowsOfAll (elements m (readVal (u .capacity) d g) (stateOf u)) (u .capacity) (u .begun) (u .at) entry read mid → Counted row read
-counted-elements {d} u g m (Stopped v f) ready l h = tt
-counted-elements {d} {entry} {mid} {row} u g m (Next v) ready l h =
-    let w = went-on v refl h in
-    let f = agrees-accepted (agrees-elements g (λ s′ l′. agrees (u .capacity) d g s′ l′) m (stateOf u) (ready .inside)) (record { value = w .0; state = stateOf v }) (w .1) in
-    (omega (arith, f .1), omega (arith, f .1, f .2, ready .few, ready .most))
+-- children that were read are counted behind the row of their parent, and end behind its start
+module _ {d entry mid : List ℕ} {row start : ℕ} (u : CodeState) (ready : Ready d entry u) (l : row < u .begun) (b : start ≤ u .at) where
+  counted : {A : Type 0} {rowsAt : A → ℕ → List ℕ} {x : Reading A} {y : Parse A} (count size : A → ℕ) (read : CodeStep) → Agrees (u .capacity) d count (stateOf u) x y → EndsBehind size (u .at) x → Reads rowsAt x (u .capacity) (u .begun) (u .at) entry read mid → Counted row start read
+  counted count size (Stopped v f) a e h = tt
+  counted count size (Next v) a e h =
+      let w = went-on v refl h in
+      let f = agrees-accepted a (record { value = w .0; state = stateOf v }) (w .1) in
+      (omega (arith, f .1), omega (arith, f .1, f .2, ready .few, ready .most), omega (arith, post-accepted (rw (w .1) at e) .at))
 
-pub counted-fields : {d entry mid : List ℕ} {row : ℕ} (u : CodeState) (gs : Gs) (read : CodeStep) → Ready d entry u → row < u .begun → Reads rowsOfAll (readFields (u .capacity) d gs (stateOf u)) (u .capacity) (u .begun) (u .at) entry read mid → Counted row read
-counted-fields {d} u gs (Stopped v f) ready l h = tt
-counted-fields {d} {entry} {mid} {row} u gs (Next v) ready l h =
-    let w = went-on v refl h in
-    let f = agrees-accepted (agrees-fields (u .capacity) d gs (stateOf u) (ready .inside)) (record { value = w .0; state = stateOf v }) (w .1) in
-    (omega (arith, f .1), omega (arith, f .1, f .2, ready .few, ready .most))
+  pub counted-elements : (g : G) (m : ℕ) (read : CodeStep) → Reads rowsOfAll (elements m (readVal (u .capacity) d g) (stateOf u)) (u .capacity) (u .begun) (u .at) entry read mid → Counted row start read
+  counted-elements g m read h = counted rowCounts SeqSum read (agrees-elements g (λ s′ l′. agrees (u .capacity) d g s′ l′) m (stateOf u) (ready .inside)) (ends-elements (u .capacity) d g m (stateOf u)) h
 
-pub counted-value : {d entry mid : List ℕ} {row : ℕ} (u : CodeState) (g : G) (read : CodeStep) → Ready d entry u → row < u .begun → Reads rowsOf (readVal (u .capacity) d g (stateOf u)) (u .capacity) (u .begun) (u .at) entry read mid → Counted row read
-counted-value {d} u g (Stopped v f) ready l h = tt
-counted-value {d} {entry} {mid} {row} u g (Next v) ready l h =
-    let w = went-on v refl h in
-    let f = agrees-accepted (agrees (u .capacity) d g (stateOf u) (ready .inside)) (record { value = w .0; state = stateOf v }) (w .1) in
-    (omega (arith, f .1), omega (arith, f .1, f .2, ready .few, ready .most))
+  pub counted-fields : (gs : Gs) (read : CodeStep) → Reads rowsOfAll (readFields (u .capacity) d gs (stateOf u)) (u .capacity) (u .begun) (u .at) entry read mid → Counted row start read
+  counted-fields gs read h = counted rowCounts SeqSum read (agrees-fields (u .capacity) d gs (stateOf u) (ready .inside)) (ends-fields (u .capacity) d gs (stateOf u)) h
+
+  pub counted-value : (g : G) (read : CodeStep) → Reads rowsOf (readVal (u .capacity) d g (stateOf u)) (u .capacity) (u .begun) (u .at) entry read mid → Counted row start read
+  counted-value g read h = counted rowCount SizeOfV read (agrees (u .capacity) d g (stateOf u) (ready .inside)) (ends-value (u .capacity) d g (stateOf u)) h
 
 -- a kind word other than 3, 4 and 8
 pub leaf : {w k : ℕ} → w ≡ k → isParent k ≡ false → Leaf w

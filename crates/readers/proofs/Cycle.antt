@@ -92,12 +92,12 @@ module _ {x : Reading Val} {capacity row p : ℕ} {entry mid exit : List ℕ} {r
 -- A parent's row, laid before its children's.
 
 module _ {A : Type 0} {rowsAt : A → ℕ → List ℕ} {x : Reading A} {capacity row p q : ℕ} {entry mid : List ℕ} (f : A → Val) (kind word2 : ℕ) (room : Room capacity entry) where
-  pub reads-close : (c : CodeStep) → ((t : Step State A) → x ≡ accepted t → (rowsOf (f (t .value)) p ≡ (kind ∷ (t .state .begun - row) ∷ word2 ∷ 0 ∷ []) ++ rowsAt (t .value) q) × (rowWidth * row + length (rowsOf (f (t .value)) p) ≤ rowWidth * capacity)) → Reads rowsAt x capacity (suc row) q entry c mid → Reads rowsOf (give f x) capacity row p entry c (closed row kind word2 c mid)
+  pub reads-close : (c : CodeStep) → ((t : Step State A) → x ≡ accepted t → (rowsOf (f (t .value)) p ≡ (kind ∷ (t .state .begun - row) ∷ word2 ∷ 0 ∷ (t .state .at - p) ∷ []) ++ rowsAt (t .value) q) × (rowWidth * row + length (rowsOf (f (t .value)) p) ≤ rowWidth * capacity)) → Reads rowsAt x capacity (suc row) q entry c mid → Reads rowsOf (give f x) capacity row p entry c (closed row p kind word2 c mid)
   reads-close (Next u) own r =
       let w = went-on u refl r in
       let o = own (record { value = w .0; state = stateOf u }) (w .1) in
-      let ws = kind ∷ (u .begun - row) ∷ word2 ∷ 0 ∷ [] in
-      let n : length (rowsOf (f (w .0)) p) ≡ 4 + length (rowsAt (w .0) q) = ap length (o .0) ∙ omega arith in
+      let ws = kind ∷ (u .begun - row) ∷ word2 ∷ 0 ∷ (u .at - p) ∷ [] in
+      let n : length (rowsOf (f (w .0)) p) ≡ rowWidth + length (rowsAt (w .0) q) = ap length (o .0) ∙ omega arith in
       reads-next u (f (w .0)) (sym (ap (give f) (w .1))) (w .2)
       (ap (λ (l : List ℕ). laid l row ws) (w .3) ∙ putWithin-before entry (rowWidth * row) (rowWidth * suc row) ws (rowsAt (w .0) q) (omega arith) (fits-room capacity entry row (length ws + length (rowsAt (w .0) q)) room (omega (arith, o .1))) ∙ ap (laid entry row) (sym (o .0)))
   reads-close (Stopped u g) own r = record {

@@ -1,7 +1,7 @@
 -- The steps of a reading as the code takes them.
 use mathlib.Core.Path.{_≡_, refl, ap, sym, _∙_}
 use mathlib.Core.Bool.{Bool, true, false}
-use mathlib.Core.List.{List}
+use mathlib.Core.List.{List, [], _∷_}
 use Prim.Native.Nat.{ℕ, _+_, _-_, _*_, _/_, _≤_, _<_}
 use native.Mathlib.Numerals.{add-one}
 use native.Mathlib.Omega.{arith}
@@ -17,11 +17,13 @@ use Rattle.packed.specs.Packed.{present, unpackAt, unpackLittleEndian, unpackLi
 use Rattle.packed.proofs.Calls.{present-fits}
 use Rattle.value.specs.Step.{Step, yield, next}
 use Rattle.value.specs.Reading.{State, Stop, Reading, stop, move, claim, takeNumber, takeNumbers}
-use Rattle.value.specs.Kinds.{lastKind}
+use Rattle.value.specs.Kinds.{Elements, elementWidth, elementsKind, lastKind}
+use Rattle.value.specs.Tree.{VNumberArray, SizeOfV, rowCount}
 use Rattle.tables.specs.Grammar.{nodeCount, kindWord, firstWord, countWord}
 use Rattle.grammar.specs.Rule.{ChildRule, ChildrenRule}
 use Rattle.grammar.proofs.Rule.{node-inside as grammar-node-inside, child-inside as grammar-child-inside}
 use Rattle.tables.specs.Row.{laid}
+use Rattle.rows.specs.Layout.{ownRow, rowsOf}
 use Rattle.readers.specs.declared.State.{State as CodeState}
 use Rattle.readers.specs.declared.Step.the-variants.{Next, Stopped}
 use Rattle.readers.specs.declared.Taken.{Taken}
@@ -89,6 +91,11 @@ module _ (d : List ℕ) (w : ℕ) (s : State) where
 
     pub numbers-taken : leb n ((length d - s .at - 8) / w) ≡ true → yield (unpackLittleEndianSeq w (take (w * n) (drop (t .at) d)) n) (move (w * n) t) ≡ takeNumbers d w s
     numbers-taken e = sym (test-true _ _ e) ∙ counted
+
+-- the row of numbers behind their count
+pub elements-row : (k : Elements) (ns : List ℕ) {kind count place size : ℕ} (p : ℕ) → kind ≡ elementsKind k → count ≡ length ns → place ≡ p + 8 → size ≡ 8 + elementWidth k * length ns → kind ∷ 1 ∷ count ∷ place ∷ size ∷ [] ≡ rowsOf (VNumberArray k ns) p
+unfolding rowsOf ownRow rowCount SizeOfV
+elements-row k ns p e l m z = rw (e, l, m, z)
 
 -- What the code did beside a reading.
 

@@ -55,15 +55,15 @@ pub record Reads {A : Type 0} (rowsAt : A → ℕ → List ℕ) (x : Reading A) 
   pub keeps : StepKeeps capacity r
   pub rows : (t : Step State A) → x ≡ accepted t → exit ≡ laid entry row (rowsAt (t .value) p)
 
--- what a parent's row holds once its children are read: kind, span, word 2, word 3
-abbrev pub closed : ℕ → ℕ → ℕ → CodeStep → List ℕ → List ℕ
-closed row kind word2 (S.Next u) rows = laid rows row (kind ∷ (u .begun - row) ∷ word2 ∷ 0 ∷ [])
-closed row kind word2 (S.Stopped u r) rows = rows
+-- what the row of a parent that starts at byte `start` holds once its children are read: kind, span, word 2, word 3, size
+abbrev pub closed : ℕ → ℕ → ℕ → ℕ → CodeStep → List ℕ → List ℕ
+closed row start kind word2 (S.Next u) rows = laid rows row (kind ∷ (u .begun - row) ∷ word2 ∷ 0 ∷ (u .at - start) ∷ [])
+closed row start kind word2 (S.Stopped u r) rows = rows
 
--- the rows asked for so far are at least this one and at most the largest capacity
-abbrev pub Counted : ℕ → CodeStep → Type 0
-Counted row (S.Next u) = (row < u .begun) × (u .begun ≤ 4096)
-Counted row (S.Stopped u r) = Unit {0}
+-- the rows asked for so far are at least this one and at most the largest capacity, and the position is not before the start
+abbrev pub Counted : ℕ → ℕ → CodeStep → Type 0
+Counted row start (S.Next u) = (row < u .begun) × (u .begun ≤ 4096) × (start ≤ u .at)
+Counted row start (S.Stopped u r) = Unit {0}
 
 -- an 8-byte number below a limit
 unfoldable pub takeBelow : List ℕ → ℕ → ℕ → State → Reading ℕ

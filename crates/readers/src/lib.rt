@@ -5,7 +5,7 @@ ghost use Prim.Native.Nat.{ℕ, _+_, _-_, _*_, _/_, _≤_, _<_, min};
 ghost use lib.ListN.{length, getD};
 ghost use lib.Dec.{leb};
 ghost use Rattle.refusal.specs.Outcome.{accepted, refused, test, reason, byte, word as wordAt, map};
-ghost use Rattle.value.specs.Kinds.{Number, numberKind, Elements, elementsKind, elementWidth};
+ghost use Rattle.value.specs.Kinds.{Number, width as numberWidth, numberKind, Elements, elementsKind, elementWidth};
 ghost use Rattle.value.specs.Tree.{VNumber, VNumberArray};
 ghost use Rattle.value.specs.Reading.{claim as claimOf, takeNumber, takeNumbers, move, start, readBody, readVal, readFields};
 ghost use Rattle.value.specs.Step.{give, elements};
@@ -137,28 +137,37 @@ fn child_at(grammar: &[u32], node: usize, i: usize) -> usize
     word(grammar, 2 + 3 * nodes + (first + i))
 }
 
-// The row of a parent, whose span is known once its children are read.
-fn close_row(rows: &mut [u64], row: usize, kind: u64, word2: u64, children: Step) -> Step
-    requires { ⌜ Counted row children ⌝ }
-    ensures { λ r. ⌜ (r ≡ children) × (now (rows .exit) ≡ closed row kind word2 children (now (rows .entry))) ⌝ }
+// The row of a parent that starts at byte start: its span and its size are known once its children are read.
+fn close_row(
+    rows: &mut [u64],
+    row: usize,
+    start: usize,
+    kind: u64,
+    word2: u64,
+    children: Step,
+) -> Step
+    requires { ⌜ Counted row start children ⌝ }
+    ensures { λ r. ⌜ (r ≡ children) × (now (rows .exit) ≡ closed row start kind word2 children (now (rows .entry))) ⌝ }
 {
     match children {
         Step::Stopped(u, r) => Step::Stopped(u, r),
         Step::Next(u) => {
-            tables::put_row(rows, row, kind, (u.begun - row) as u64, word2, 0);
+            let span = (u.begun - row) as u64;
+            let size = (u.at - start) as u64;
+            tables::put_row(rows, row, kind, span, word2, 0, size);
             Step::Next(u)
         }
     }
 }
 
-// A number that was taken, with its row.
-fn read_number(rows: &mut [u64], row: usize, kind: u64, taken: Taken) -> Step
-    ensures { λ r. ⌜ ((k : Number) (capacity p : ℕ) → kind ≡ numberKind k → TakenKeeps capacity taken → Reads rowsOf (give (VNumber k) (takenOf taken)) capacity row p (now (rows .entry)) r (now (rows .exit))) ⌝ }
+// A number of size bytes that was taken, with its row.
+fn read_number(rows: &mut [u64], row: usize, kind: u64, size: u64, taken: Taken) -> Step
+    ensures { λ r. ⌜ ((k : Number) (capacity p : ℕ) → kind ≡ numberKind k → size ≡ numberWidth k → TakenKeeps capacity taken → Reads rowsOf (give (VNumber k) (takenOf taken)) capacity row p (now (rows .entry)) r (now (rows .exit))) ⌝ }
 {
     match taken {
         Taken::Stopped(u, r) => Step::Stopped(u, r),
         Taken::Number(n, u) => {
-            tables::put_row(rows, row, kind, 1, n, 0);
+            tables::put_row(rows, row, kind, 1, n, 0, size);
             Step::Next(u)
         }
     }
@@ -196,7 +205,8 @@ fn read_elements(
             match read_array_body(&bytes[place..], count, width, s.at) {
                 Body::Refused(r) => Step::Stopped(s, r),
                 Body::Bytes(n) => {
-                    tables::put_row(rows, row, kind, 1, count, place as u64);
+                    let size = (8 + n) as u64;
+                    tables::put_row(rows, row, kind, 1, count, place as u64, size);
                     Step::Next(u.move_on(n))
                 }
             }
@@ -205,9 +215,9 @@ fn read_elements(
 }
 
 fn read_constant(rows: &mut [u64], row: usize, s: State) -> Step
-    ensures { λ r. ⌜ (r ≡ Step.Next s) × (now (rows .exit) ≡ laid (now (rows .entry)) row (0 ∷ 1 ∷ 0 ∷ 0 ∷ [])) ⌝ }
+    ensures { λ r. ⌜ (r ≡ Step.Next s) × (now (rows .exit) ≡ laid (now (rows .entry)) row (0 ∷ 1 ∷ 0 ∷ 0 ∷ 0 ∷ [])) ⌝ }
 {
-    tables::put_row(rows, row, 0, 1, 0, 0);
+    tables::put_row(rows, row, 0, 1, 0, 0, 0);
     Step::Next(s)
 }
 
@@ -235,16 +245,16 @@ fn read_leaf(
 {
     match kind {
         0 => read_constant(rows, row, s),
-        1 => read_number(rows, row, 1, s.take4(bytes)),
-        2 => read_number(rows, row, 2, s.take8(bytes)),
+        1 => read_number(rows, row, 1, 4, s.take4(bytes)),
+        2 => read_number(rows, row, 2, 8, s.take8(bytes)),
         3 => refuse_kind(node, s),
         4 => refuse_kind(node, s),
         5 => read_elements(bytes, rows, row, 5, 1, s),
         6 => read_elements(bytes, rows, row, 6, 4, s),
         7 => read_elements(bytes, rows, row, 7, 8, s),
         8 => refuse_kind(node, s),
-        9 => read_number(rows, row, 9, s.take4(bytes)),
-        10 => read_number(rows, row, 10, s.take8(bytes)),
+        9 => read_number(rows, row, 9, 4, s.take4(bytes)),
+        10 => read_number(rows, row, 10, 8, s.take8(bytes)),
         11..=4294967295 => refuse_kind(node, s),
     }
 }
@@ -296,7 +306,7 @@ fn read_array(
         Taken::Number(count, u) => {
             let child = child_at(grammar, node, 0);
             let read = read_array_contents(grammar, child, bytes, rows, count, u);
-            close_row(rows, row, 3, count, read)
+            close_row(rows, row, s.at, 3, count, read)
         }
     }
 }
@@ -315,7 +325,7 @@ fn read_tuple(
 {
     let read = read_tuple_contents(grammar, node, bytes, rows, s);
     let count = word(grammar, 3 + 3 * node);
-    close_row(rows, row, 4, count as u64, read)
+    close_row(rows, row, s.at, 4, count as u64, read)
 }
 
 // Kind 8: the tag, then the value of its case.
@@ -336,7 +346,7 @@ fn read_case(
         Taken::Number(tag, u) => {
             let child = child_at(grammar, node, tag as usize);
             let read = read_value(grammar, child, bytes, rows, u);
-            close_row(rows, row, 8, tag, read)
+            close_row(rows, row, s.at, 8, tag, read)
         }
     }
 }

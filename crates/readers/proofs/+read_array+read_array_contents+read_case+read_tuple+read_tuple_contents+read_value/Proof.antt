@@ -19,7 +19,7 @@ use Rattle.readers.specs.Meaning.{stateOf}
 use Rattle.readers.specs.Reads.{Ready, RowClaimed, Reads, takeBelow}
 use Rattle.readers.proofs.Loop.{Remaining, remaining-start, remaining-stopped, remaining-next, remaining-done, few-elements, few-fields, elements-next, elements-none, fields-next, fields-none}
 use Rattle.readers.proofs.Laws.{node-inside, taken-number, taken-stopped}
-use Rattle.readers.proofs.Arms.{Claimed, claimed-next, claim-refused, row-claimed, leaf, head-begun, head-below, head-ready, array-count, counted-elements, counted-fields, counted-value, arm-body, arm-array, arm-array-stopped, arm-tuple, arm-case, arm-case-stopped}
+use Rattle.readers.proofs.Arms.{Claimed, claimed-next, claim-refused, row-claimed, leaf, head-begun, head-behind, head-below, head-ready, array-count, counted-elements, counted-fields, counted-value, arm-body, arm-array, arm-array-stopped, arm-tuple, arm-case, arm-case-stopped}
 use borrow.Author.Needs.{needs}
 use Prim.Native.Nat.{ℕ, _<_}
 use borrow.Fn.Kinds.{In}
@@ -161,6 +161,9 @@ count-keeps t c = rw (c .count .given .1) at (c .before .before .take-below .ens
 count-ready : (t : ℕ) (c : read-array-lts.After-count (read-array-calls t) (read-array-at t) read-array.Post) → Ready (c .before .before .before .before .before .before .before .args .bytes .now) (c .before .before .before .before .before .before .before .args .rows .now) (c .count .given .0 .1 .0)
 count-ready t c = head-ready (c .before .before .before .before .before .before .before .pre .1) _ 8 (c .count .given .0 .0) (c .count .given .0 .1 .0) (count-taken t c) (count-keeps t c)
 
+count-behind : (t : ℕ) (c : read-array-lts.After-count (read-array-calls t) (read-array-at t) read-array.Post) → c .before .before .before .before .before .before .before .args .s .at ≤ c .count .given .0 .1 .0 .at
+count-behind t c = head-behind (c .before .before .before .before .before .before .before .pre .1) _ 8 (c .count .given .0 .0) (c .count .given .0 .1 .0) (count-taken t c) (count-keeps t c)
+
 count-begun : (t : ℕ) (c : read-array-lts.After-count (read-array-calls t) (read-array-at t) read-array.Post) → c .count .given .0 .1 .0 .begun ≡ c .before .before .before .before .before .before .before .args .s .begun
 count-begun t c = head-begun (c .before .before .before .before .before .before .before .pre .1) _ 8 (c .count .given .0 .0) (c .count .given .0 .1 .0) (count-taken t c) (count-keeps t c)
 
@@ -191,9 +194,10 @@ read-array-read-array-contents-requires t c κs =
 
 read-array-close-row-requires : (t : ℕ) → read-array-lts.Need-close-row-requires (read-array-calls t) (read-array-at t) read-array.Post
 read-array-close-row-requires t c κs =
-    let p = c .before .before .before .before .before .before .before .before .before .before .before .before .before .before .pre .1 in
+    let k = c .before .before .before .before .before .before .before in
+    let s = k .before .before .before .before .before .before .before in
     let r = c .before .before .before .read-array-contents in
-    counted-elements (c .before .before .before .before .before .before .before .count .given .0 .1 .0) (treeOf (c .before .before .before .before .before .before .before .before .before .before .before .before .before .before .args .grammar .now) (c .before .before .before .before .before .child-at .result)) (c .before .before .before .before .before .before .before .count .given .0 .0) (r .result) (count-ready t (c .before .before .before .before .before .before .before)) (omega (arith, count-begun t (c .before .before .before .before .before .before .before), p .claimed)) (r .ensures)
+    counted-elements (k .count .given .0 .1 .0) (count-ready t k) (omega (arith, count-begun t k, s .pre .1 .claimed)) (omega (arith, count-behind t k)) (treeOf (s .args .grammar .now) (c .before .before .before .before .before .child-at .result)) (k .count .given .0 .0) (r .result) (r .ensures)
 
 read-array-returns : (t : ℕ) → read-array-lts.Need-returns (read-array-calls t) (read-array-at t) read-array.Post
 read-array-returns t c =
@@ -328,6 +332,9 @@ tag-keeps t c = rw (c .tag .given .1) at (c .before .before .take-below .ensures
 tag-ready : (t : ℕ) (c : read-case-lts.After-tag (read-case-calls t) (read-case-at t) read-case.Post) → Ready (c .before .before .before .before .before .before .before .args .bytes .now) (c .before .before .before .before .before .before .before .args .rows .now) (c .tag .given .0 .1 .0)
 tag-ready t c = head-ready (c .before .before .before .before .before .before .before .pre .1) _ 10 (c .tag .given .0 .0) (c .tag .given .0 .1 .0) (tag-taken t c) (tag-keeps t c)
 
+tag-behind : (t : ℕ) (c : read-case-lts.After-tag (read-case-calls t) (read-case-at t) read-case.Post) → c .before .before .before .before .before .before .before .args .s .at ≤ c .tag .given .0 .1 .0 .at
+tag-behind t c = head-behind (c .before .before .before .before .before .before .before .pre .1) _ 10 (c .tag .given .0 .0) (c .tag .given .0 .1 .0) (tag-taken t c) (tag-keeps t c)
+
 tag-begun : (t : ℕ) (c : read-case-lts.After-tag (read-case-calls t) (read-case-at t) read-case.Post) → c .tag .given .0 .1 .0 .begun ≡ c .before .before .before .before .before .before .before .args .s .begun
 tag-begun t c = head-begun (c .before .before .before .before .before .before .before .pre .1) _ 10 (c .tag .given .0 .0) (c .tag .given .0 .1 .0) (tag-taken t c) (tag-keeps t c)
 
@@ -362,9 +369,10 @@ read-case-read-value-requires t c κs =
 
 read-case-close-row-requires : (t : ℕ) → read-case-lts.Need-close-row-requires (read-case-calls t) (read-case-at t) read-case.Post
 read-case-close-row-requires t c κs =
-    let p = c .before .before .before .before .before .before .before .before .before .before .before .before .before .before .pre .1 in
+    let k = c .before .before .before .before .before .before .before in
+    let s = k .before .before .before .before .before .before .before in
     let r = c .before .before .before .read-value in
-    counted-value (c .before .before .before .before .before .before .before .tag .given .0 .1 .0) (treeOf (c .before .before .before .before .before .before .before .before .before .before .before .before .before .before .args .grammar .now) (c .before .before .before .before .before .child-at .result)) (r .result) (tag-ready t (c .before .before .before .before .before .before .before)) (omega (arith, tag-begun t (c .before .before .before .before .before .before .before), p .claimed)) (r .ensures)
+    counted-value (k .tag .given .0 .1 .0) (tag-ready t k) (omega (arith, tag-begun t k, s .pre .1 .claimed)) (omega (arith, tag-behind t k)) (treeOf (s .args .grammar .now) (c .before .before .before .before .before .child-at .result)) (r .result) (r .ensures)
 
 read-case-returns : (t : ℕ) → read-case-lts.Need-returns (read-case-calls t) (read-case-at t) read-case.Post
 read-case-returns t c =
@@ -401,7 +409,7 @@ read-tuple-close-row-requires t c κs =
     let a = c .before .before .before .before .before .before .before .before .before .args in
     let p = c .before .before .before .before .before .before .before .before .before .pre .1 in
     let r = c .before .before .before .before .read-tuple-contents in
-    counted-fields (a .s) _ (r .result) (p .ready) (omega (arith, p .claimed)) (r .ensures)
+    counted-fields (a .s) (p .ready) (omega (arith, p .claimed)) (omega arith) _ (r .result) (r .ensures)
 
 read-tuple-same-length : (t : ℕ) → read-tuple-lts.Need-same-length (read-tuple-calls t) (read-tuple-at t) read-tuple.Post
 read-tuple-same-length t c = search needs

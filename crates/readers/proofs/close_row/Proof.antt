@@ -12,10 +12,17 @@ enum-known-children c = search needs
 enum-known-children-2 : tie.Need-enum-known-children-2
 enum-known-children-2 c = search needs
 
-sub-put-row : tie.Need-sub-put-row
-sub-put-row c =
-    let k = subst (Counted (c .before .before .before .before .before .before .args .row)) (c .before .before .before .children2 .given .1) (c .before .before .before .before .before .before .pre) in
+sub-span : tie.Need-sub-span
+sub-span c =
+    let s = c .before .before .before .before .before in
+    let k = subst (Counted (s .args .row) (s .args .start)) (c .before .before .children2 .given .1) (s .pre) in
     omega (arith, k .0)
+
+sub-size : tie.Need-sub-size
+sub-size c =
+    let s = c .before .before .before .before .before .before in
+    let k = subst (Counted (s .args .row) (s .args .start)) (c .before .before .before .children2 .given .1) (s .pre) in
+    omega (arith, k .2)
 
 put-row-requires : tie.Need-put-row-requires
 put-row-requires c κs = search needs
@@ -24,16 +31,16 @@ returns : tie.Need-returns
 returns c =
     let a = c .before .before .before .before .args in
     let e = c .before .children .given .1 in
-    (sym e, ap (λ (s : Step). closed (a .row) (a .kind) (a .word2) s (a .rows .now)) (sym e))
+    (sym e, ap (λ (s : Step). closed (a .row) (a .start) (a .kind) (a .word2) s (a .rows .now)) (sym e))
 
 same-length : tie.Need-same-length
 same-length c = search needs
 
 returns-2 : tie.Need-returns-2
 returns-2 c =
-    let a = c .before .before .before .before .before .before .before .before .before .args in
-    let e = c .before .before .before .before .before .before .children2 .given .1 in
-    (sym e, c .before .before .put-row .ensures ∙ ap (λ (s : Step). closed (a .row) (a .kind) (a .word2) s (a .rows .now)) (sym e))
+    let a = c .before .before .before .before .before .before .before .before .before .before .args in
+    let e = c .before .before .before .before .before .before .before .children2 .given .1 in
+    (sym e, c .before .before .put-row .ensures ∙ ap (λ (s : Step). closed (a .row) (a .start) (a .kind) (a .word2) s (a .rows .now)) (sym e))
 
 pub close-row-spec : {M : Type 1} → statement M
 close-row-spec =
@@ -41,7 +48,8 @@ close-row-spec =
     (tie.spec
     enum-known-children
     enum-known-children-2
-    sub-put-row
+    sub-span
+    sub-size
     put-row-requires
     returns
     same-length

@@ -70,7 +70,7 @@ returns-2 : tie.Need-returns-2
 returns-2 c =
     let a = c .before .before .before .before .before .before .before .before .before .args in
     let n = c .before .before .before .take4 in
-    leaf-number (c .before .before .before .before .before .before .before .before .before .pre .0) uint32 (c .before .before .before .before .before .match .keys2) (n .ensures .0) (c .before .before .read-number .ensures uint32 (a .s .capacity) (a .s .at) refl (n .ensures .1))
+    leaf-number (c .before .before .before .before .before .before .before .before .before .pre .0) uint32 (c .before .before .before .before .before .match .keys2) (n .ensures .0) (c .before .before .read-number .ensures uint32 (a .s .capacity) (a .s .at) refl refl (n .ensures .1))
 
 same-length-3 : tie.Need-same-length-3
 same-length-3 c = search needs
@@ -79,7 +79,7 @@ returns-3 : tie.Need-returns-3
 returns-3 c =
     let a = c .before .before .before .before .before .before .before .before .before .args in
     let n = c .before .before .before .take8 in
-    leaf-number (c .before .before .before .before .before .before .before .before .before .pre .0) uint64 (c .before .before .before .before .before .match .keys3) (n .ensures .0) (c .before .before .read-number2 .ensures uint64 (a .s .capacity) (a .s .at) refl (n .ensures .1))
+    leaf-number (c .before .before .before .before .before .before .before .before .before .pre .0) uint64 (c .before .before .before .before .before .match .keys3) (n .ensures .0) (c .before .before .read-number2 .ensures uint64 (a .s .capacity) (a .s .at) refl refl (n .ensures .1))
 
 returns-4 : tie.Need-returns-4
 returns-4 c = absurd (c .before .before .before .before .before .pre .1 .noArray (c .before .match .keys4))
@@ -115,7 +115,7 @@ returns-10 : tie.Need-returns-10
 returns-10 c =
     let a = c .before .before .before .before .before .before .before .before .before .args in
     let n = c .before .before .before .take42 in
-    leaf-number (c .before .before .before .before .before .before .before .before .before .pre .0) int32 (c .before .before .before .before .before .match .keys10) (n .ensures .0) (c .before .before .read-number3 .ensures int32 (a .s .capacity) (a .s .at) refl (n .ensures .1))
+    leaf-number (c .before .before .before .before .before .before .before .before .before .pre .0) int32 (c .before .before .before .before .before .match .keys10) (n .ensures .0) (c .before .before .read-number3 .ensures int32 (a .s .capacity) (a .s .at) refl refl (n .ensures .1))
 
 same-length-8 : tie.Need-same-length-8
 same-length-8 c = search needs
@@ -124,7 +124,7 @@ returns-11 : tie.Need-returns-11
 returns-11 c =
     let a = c .before .before .before .before .before .before .before .before .before .args in
     let n = c .before .before .before .take82 in
-    leaf-number (c .before .before .before .before .before .before .before .before .before .pre .0) int64 (c .before .before .before .before .before .match .keys11) (n .ensures .0) (c .before .before .read-number4 .ensures int64 (a .s .capacity) (a .s .at) refl (n .ensures .1))
+    leaf-number (c .before .before .before .before .before .before .before .before .before .pre .0) int64 (c .before .before .before .before .before .match .keys11) (n .ensures .0) (c .before .before .read-number4 .ensures int64 (a .s .capacity) (a .s .at) refl refl (n .ensures .1))
 
 returns-12 : tie.Need-returns-12
 returns-12 c =

@@ -1,7 +1,7 @@
 use mathlib.Core.Path.{sym, ap, _∙_}
 use mathlib.Core.List.{[], _∷_}
 use Prim.Native.Nat.{ℕ}
-use Rattle.value.specs.Tree.{VNumber, rowCount}
+use Rattle.value.specs.Tree.{VNumber, SizeOfV, rowCount}
 use Rattle.value.specs.Step.{give}
 use Rattle.tables.specs.Row.{laid}
 use Rattle.rows.specs.Layout.{ownRow, rowsOf}
@@ -23,7 +23,7 @@ put-row-requires c κs = search needs
 
 returns : tie.Need-returns
 returns c =
-    λ k capacity p e q.
+    λ k capacity p e z q.
     let g = c .before .taken .given in
     reads-stopped (g .0 .0) (g .0 .1 .0) (ap (λ (x : Taken). give (VNumber k) (takenOf x)) (sym (g .1))) (rw (g .1) at q)
 
@@ -31,13 +31,13 @@ same-length : tie.Need-same-length
 same-length c = search needs
 
 returns-2 : tie.Need-returns-2
-unfolding rowsOf ownRow rowCount
+unfolding rowsOf ownRow rowCount SizeOfV
 returns-2 c =
-    λ k capacity p e q.
+    λ k capacity p e z q.
     let g = c .before .before .before .before .before .taken2 .given in
     let a = c .before .before .before .before .before .before .before .before .args in
     reads-next (g .0 .1 .0) (VNumber k (g .0 .0)) (ap (λ (x : Taken). give (VNumber k) (takenOf x)) (sym (g .1))) (rw (g .1) at q)
-    (c .before .before .put-row .ensures ∙ ap (λ (n : ℕ). laid (a .rows .now) (a .row) (n ∷ 1 ∷ g .0 .0 ∷ 0 ∷ [])) e)
+    (c .before .before .put-row .ensures ∙ rw (e, z))
 
 pub read-number-spec : {M : Type 1} → statement M
 read-number-spec =
