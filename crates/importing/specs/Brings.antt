@@ -25,7 +25,8 @@ use Rattle.importing.specs.Meaning.{stepOf, StepSize}
 abbrev pub mostSize : ℕ
 mostSize = 1064960
 
--- a state from which a value can be imported: rows are lent for the whole capacity, or none, and a store of all its room, or none
+-- a state from which a value can be imported: rows are lent for the whole capacity, or none, and a store of all its room, or none; the size
+-- is at most 4 bytes a row above the position
 pub record Ready (d rows store : List ℕ) (lent : CodeLent) (s : CodeFilling) : Type 0 where
   pub inside : s .at ≤ length d
   pub short : length d ≤ 1048576
@@ -90,7 +91,7 @@ pub record Node (t : List ℕ) (k : ℕ) : Type 0 where
   pub table : Table t
   pub below : k < nodeCount t
 
--- node k is of kind w, its value has claimed row `row`, and s is the state behind
+-- node k is of kind w, its value has claimed row `row`, and s is the state behind, its size still bounded by the rows before
 pub record RowClaimed (g d rows store : List ℕ) (k w row : ℕ) (lent : CodeLent) (s : CodeFilling) : Type 0 where
   pub node : Node g k
   pub kind : kindWord g k ≡ w
