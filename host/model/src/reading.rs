@@ -6,7 +6,7 @@ use std::slice;
 use crate::grammar::{check_grammar, node};
 use crate::packed::unpack;
 use crate::refusal::{at_byte, Refusal};
-use crate::rows::{check_length, Elements, MOST_ROWS, V};
+use crate::rows::{check_length, size_of_v, Elements, MOST_ROWS, ROW_WORDS, V};
 
 /// The rows of a check for which no capacity is named.
 const CHECK_ROWS: usize = 1024;
@@ -14,7 +14,7 @@ const CHECK_ROWS: usize = 1024;
 /// An accepted reading.
 #[derive(Clone, Debug, PartialEq, Eq)]
 pub struct Reading {
-    /// The words of the value's rows, four to a row.
+    /// The words of the value's rows, five to a row.
     pub rows: Vec<u64>,
     /// The first byte behind the value.
     pub rest_index: usize,
@@ -27,7 +27,7 @@ fn in_force(named: usize) -> usize {
 
 /// The capacity, in rows, of a slice of this many words.
 pub fn capacity(words: usize) -> usize {
-    in_force(words / 4)
+    in_force(words / ROW_WORDS)
 }
 
 /// A reader of values: the table of a checked grammar, the record, the next byte to read, the
@@ -163,9 +163,10 @@ fn words(value: &V) -> [u64; 3] {
 /// The rows of a value, in preorder.
 fn rows(value: &V) -> Vec<u64> {
     let below: Vec<u64> = parts(value).iter().flat_map(rows).collect();
-    let span = 1 + below.len() as u64 / 4;
+    let span = 1 + (below.len() / ROW_WORDS) as u64;
     let [kind, word2, word3] = words(value);
-    [vec![kind, span, word2, word3], below].concat()
+    let size = size_of_v(value);
+    [vec![kind, span, word2, word3, size], below].concat()
 }
 
 /// Reads a value of the grammar's root from `index`, in at most `capacity` rows; given is also the

@@ -11,8 +11,11 @@ pub(crate) const MOST_BYTES: usize = 1_048_576;
 /// The largest number of kind 1, and the largest pattern of kind 9.
 const MOST_UINT32: u64 = 4_294_967_295;
 
-/// The words of a row: kind, span, word 2 and word 3.
-pub(crate) type Row = [u64; 4];
+/// The number of words of a row.
+pub(crate) const ROW_WORDS: usize = 5;
+
+/// The words of a row: kind, span, word 2, word 3 and the size.
+pub(crate) type Row = [u64; ROW_WORDS];
 
 /// The elements of a value of kind 5 to 7: where they start in the store, and their bytes there.
 pub(crate) struct Elements<'a> {
@@ -46,16 +49,17 @@ pub(crate) fn check_length(bytes: &[u8]) -> Result<(), Refusal> {
 
 /// The first `n` rows.
 fn table(rows: &[u64], n: usize) -> Result<Vec<Row>, Refusal> {
-    if n == 0 || n > MOST_ROWS || 4 * n > rows.len() {
+    if n == 0 || n > MOST_ROWS || ROW_WORDS * n > rows.len() {
         return Err(at_row(12, 0));
     }
-    let words = rows[..4 * n].chunks(4);
-    Ok(words.map(|row| [row[0], row[1], row[2], row[3]]).collect())
+    let words = rows[..ROW_WORDS * n].chunks(ROW_WORDS);
+    let row = |words: &[u64]| words.try_into().expect("the words of a row");
+    Ok(words.map(row).collect())
 }
 
-/// Whether a row keeps the rules for its own words. From it to its parent's end there are `most`
-/// rows, at least 1.
-fn is_valid([kind, span, word2, word3]: Row, most: usize) -> bool {
+/// Whether a row keeps the rules for its own words, the size aside. From it to its parent's end there
+/// are `most` rows, at least 1.
+fn is_valid([kind, span, word2, word3, _]: Row, most: usize) -> bool {
     let is_span_valid = match kind {
         3 | 4 | 8 => (1..=most as u64).contains(&span),
         _ => span == 1,
@@ -76,7 +80,7 @@ fn elements<'a>(
     width: usize,
     store: &'a [u8],
 ) -> Result<Elements<'a>, Refusal> {
-    let [_, _, count, place] = rows[row];
+    let [_, _, count, place, _] = rows[row];
     let end = u128::from(place) + u128::from(count) * width as u128;
     if end > store.len() as u128 {
         return Err(at_row(14, row));
@@ -107,28 +111,32 @@ fn children<'a>(
     }
 }
 
-/// The value of a row whose parent ends before row `end`.
+/// The value of a row whose parent ends before row `end`. Its size is looked at last.
 fn value<'a>(rows: &[Row], row: usize, end: usize, store: &'a [u8]) -> Result<V<'a>, Refusal> {
     if !is_valid(rows[row], end - row) {
         return Err(at_row(13, row));
     }
-    let [kind, _, word2, _] = rows[row];
-    match kind {
-        0 => Ok(V::Constant),
-        1 => Ok(V::Uint32(word2 as u32)),
-        2 => Ok(V::Uint64(word2)),
-        3 => children(rows, row, word2, store).map(V::Array),
-        4 => children(rows, row, word2, store).map(V::Tuple),
-        5 => elements(rows, row, 1, store).map(V::ByteArray),
-        6 => elements(rows, row, 4, store).map(V::Uint32Array),
-        7 => elements(rows, row, 8, store).map(V::Uint64Array),
+    let [kind, _, word2, _, size] = rows[row];
+    let value = match kind {
+        0 => V::Constant,
+        1 => V::Uint32(word2 as u32),
+        2 => V::Uint64(word2),
+        3 => V::Array(children(rows, row, word2, store)?),
+        4 => V::Tuple(children(rows, row, word2, store)?),
+        5 => V::ByteArray(elements(rows, row, 1, store)?),
+        6 => V::Uint32Array(elements(rows, row, 4, store)?),
+        7 => V::Uint64Array(elements(rows, row, 8, store)?),
         8 => {
             let child = children(rows, row, 1, store)?.remove(0);
-            Ok(V::Case(word2, Box::new(child)))
+            V::Case(word2, Box::new(child))
         }
-        9 => Ok(V::Int32(word2 as u32)),
-        _ => Ok(V::Int64(word2)),
+        9 => V::Int32(word2 as u32),
+        _ => V::Int64(word2),
+    };
+    if size != size_of_v(&value) {
+        return Err(at_row(13, row));
     }
+    Ok(value)
 }
 
 /// The value that `n` rows stand for.
@@ -186,9 +194,9 @@ pub fn locate_array(
     row: usize,
 ) -> Result<(usize, usize), Refusal> {
     let (place, length) = match checked_row(rows, n, store, row)? {
-        Some([5, _, count, place]) => (place, count),
-        Some([6, _, count, place]) => (place, 4 * count),
-        Some([7, _, count, place]) => (place, 8 * count),
+        Some([5, _, count, place, _]) => (place, count),
+        Some([6, _, count, place, _]) => (place, 4 * count),
+        Some([7, _, count, place, _]) => (place, 8 * count),
         _ => return Err(at_row(18, row)),
     };
     Ok((place as usize, length as usize))

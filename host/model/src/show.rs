@@ -3,6 +3,7 @@
 use crate::packed::{unpack, unpack_seq};
 use crate::reading::demarshall;
 use crate::refusal::{at_byte, Place, Refusal};
+use crate::rows::ROW_WORDS;
 
 /// The most bytes of an input.
 const MOST_INPUT: usize = 65_536;
@@ -45,8 +46,8 @@ fn refusal_line(refusal: Refusal) -> String {
 
 /// The line of the row count, and a line for each row.
 fn row_lines(words: &[u64]) -> String {
-    let mut lines = format!("rows {}\n", words.len() / 4);
-    for row in words.chunks(4) {
+    let mut lines = format!("rows {}\n", words.len() / ROW_WORDS);
+    for row in words.chunks(ROW_WORDS) {
         let words: Vec<String> = row.iter().map(u64::to_string).collect();
         lines += &format!("{}\n", words.join(" "));
     }

@@ -16,8 +16,8 @@ fn twos_complement(bytes: &[u8]) -> i64 {
 /// The signed number of a row of kind 9 or 10, whose word 2 is the number's pattern.
 pub fn signed_number(rows: &[u64], n: usize, store: &[u8], row: usize) -> Result<i64, Refusal> {
     match checked_row(rows, n, store, row)? {
-        Some([9, _, pattern, _]) => Ok(twos_complement(&digits(pattern, 4))),
-        Some([10, _, pattern, _]) => Ok(twos_complement(&digits(pattern, 8))),
+        Some([9, _, pattern, ..]) => Ok(twos_complement(&digits(pattern, 4))),
+        Some([10, _, pattern, ..]) => Ok(twos_complement(&digits(pattern, 8))),
         _ => Err(at_row(20, row)),
     }
 }

@@ -5,13 +5,13 @@
 use crate::grammar::{check_grammar, node};
 use crate::packed::{digits, write};
 use crate::refusal::{at_byte, at_row, Refusal};
-use crate::rows::{check_length, whole_value, Elements, MOST_BYTES, V};
+use crate::rows::{check_length, whole_value, Elements, MOST_BYTES, ROW_WORDS, V};
 use crate::writing::{check_in_grammar, Writing};
 
 /// An accepted import.
 #[derive(Clone, Debug, PartialEq, Eq)]
 pub struct Importing {
-    /// The words of the value's rows, four to a row.
+    /// The words of the value's rows, five to a row.
     pub rows: Vec<u64>,
     /// What the store holds after the call.
     pub store: Vec<u8>,
@@ -121,8 +121,11 @@ pub fn export_xdr(
     })
 }
 
-/// Word 2 and word 3 of a value's row, and the rows of the values in it.
-type Words = (u64, u64, Vec<u64>);
+/// Word 2 and word 3 of a value's row, the rows of the values in it, and the size of its record.
+type Words = (u64, u64, Vec<u64>, u64);
+
+/// The rows of values, and the size of their records.
+type Rows = (Vec<u64>, u64);
 
 /// An importer of values: the table of a checked grammar, the record, the next byte to read, the
 /// number of rows still free, the length of the store and what the arrays so far put there.
@@ -167,16 +170,18 @@ impl Importer<'_, '_> {
         }
         self.position += length + zeros;
         self.packed.extend(turned(elements, width));
-        Ok((count, place as u64, vec![]))
+        Ok((count, place as u64, vec![], 8 + length as u64))
     }
 
     /// Reads values of nodes, one behind the other.
-    fn values(&mut self, numbers: &[u32]) -> Result<Vec<u64>, Refusal> {
-        let mut rows = Vec::new();
+    fn values(&mut self, numbers: &[u32]) -> Result<Rows, Refusal> {
+        let (mut rows, mut size) = (Vec::new(), 0);
         for &number in numbers {
-            rows.extend(self.value(number)?);
+            let (own_rows, own_size) = self.value(number)?;
+            rows.extend(own_rows);
+            size += own_size;
         }
-        Ok(rows)
+        Ok((rows, size))
     }
 
     /// Reads a count and as many values of a node. Each of them needs a row.
@@ -186,8 +191,8 @@ impl Importer<'_, '_> {
         if count > self.rows_left as u64 {
             return Err(at_byte(8, start));
         }
-        let rows = self.values(&vec![element; count as usize])?;
-        Ok((count, 0, rows))
+        let (rows, size) = self.values(&vec![element; count as usize])?;
+        Ok((count, 0, rows, 8 + size))
     }
 
     /// Reads a tag and the value of its case.
@@ -197,30 +202,37 @@ impl Importer<'_, '_> {
         if tag >= cases.len() as u64 {
             return Err(at_byte(10, start));
         }
-        let rows = self.value(cases[tag as usize])?;
-        Ok((tag, 0, rows))
+        let (rows, size) = self.value(cases[tag as usize])?;
+        Ok((tag, 0, rows, 8 + size))
     }
 
-    /// Reads a value of a node, and gives its rows.
-    fn value(&mut self, number: u32) -> Result<Vec<u64>, Refusal> {
+    /// Reads a tuple.
+    fn tuple(&mut self, fields: &[u32]) -> Result<Words, Refusal> {
+        let (rows, size) = self.values(fields)?;
+        Ok((fields.len() as u64, 0, rows, size))
+    }
+
+    /// Reads a value of a node.
+    fn value(&mut self, number: u32) -> Result<Rows, Refusal> {
         if self.rows_left == 0 {
             return Err(at_byte(8, self.position));
         }
         self.rows_left -= 1;
         let (kind, children) = node(self.grammar, number);
-        let (word2, word3, below) = match kind {
-            0 => (0, 0, vec![]),
-            1 | 9 => (self.number(4)?, 0, vec![]),
-            2 | 10 => (self.number(8)?, 0, vec![]),
+        let (word2, word3, below, size) = match kind {
+            0 => (0, 0, vec![], 0),
+            1 | 9 => (self.number(4)?, 0, vec![], 4),
+            2 | 10 => (self.number(8)?, 0, vec![], 8),
             3 => self.array(children[0])?,
-            4 => (children.len() as u64, 0, self.values(children)?),
+            4 => self.tuple(children)?,
             5 => self.elements(1)?,
             6 => self.elements(4)?,
             7 => self.elements(8)?,
             _ => self.case(children)?,
         };
-        let span = 1 + below.len() as u64 / 4;
-        Ok([vec![u64::from(kind), span, word2, word3], below].concat())
+        let span = 1 + (below.len() / ROW_WORDS) as u64;
+        let own = vec![u64::from(kind), span, word2, word3, size];
+        Ok(([own, below].concat(), size))
     }
 }
 
@@ -243,7 +255,7 @@ pub fn import_xdr(
         room: store.len(),
         packed: vec![],
     };
-    let rows = importer.value(0)?;
+    let (rows, _) = importer.value(0)?;
     if importer.position < record.len() {
         return Err(at_byte(11, importer.position));
     }
