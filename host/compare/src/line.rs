@@ -1,6 +1,6 @@
 //! A case and what comes of it as a line of JSON.
 
-use route_record::{Place, Refusal, MAX_GRAMMARS};
+use route_record::{Place, Refusal, MAX_GRAMMARS, ROW_WORDS};
 
 use crate::json::{decimal, Fields, Json};
 use crate::list::{self, Layout};
@@ -16,7 +16,7 @@ pub const BYTES: Layout<u8> = Layout {
 
 /// Rows: one to a text.
 const ROWS: Layout<u64> = Layout {
-    unit: 4,
+    unit: ROW_WORDS,
     units_in_text: 1,
     least_times: 5,
     show: list::show_numbers,
