@@ -6,9 +6,10 @@ use std::collections::BTreeSet;
 use compare::{leaf, show_input, Case, Value};
 
 use super::signed::signed_number;
+use super::sized::{sized, Bare};
 use super::{counted, numbers, table, Cases, List, MAX_BYTES};
 
-const CONSTANT: [u64; 4] = [0, 1, 0, 0];
+const CONSTANT: Bare = [0, 1, 0, 0];
 
 /// Grammar tables.
 pub fn grammar() -> Cases {
@@ -56,14 +57,14 @@ pub fn grammar() -> Cases {
 }
 
 /// Adds the size of these rows, with a store of so many bytes.
-fn size(list: &mut List, name: &str, rows: &[[u64; 4]], store: usize) {
-    let (rows, n) = (rows.concat(), rows.len());
+fn size(list: &mut List, name: &str, rows: &[Bare], store: usize) {
+    let (rows, n) = (sized(rows), rows.len());
     let store = vec![0x5a; store];
     list.add(name, Case::ComputeSizeOf { rows, n, store });
 }
 
 /// Adds the size of a row as a case in a tuple with a constant behind it.
-fn size_in_case(list: &mut List, row: [u64; 4]) {
+fn size_in_case(list: &mut List, row: Bare) {
     let name = row.map(|word| word.to_string()).join(" ");
     let rows = [[4, 4, 2, 0], [8, 2, 0, 0], row, CONSTANT];
     size(list, &format!("row {name} in a case"), &rows, 16);
@@ -113,10 +114,15 @@ pub fn rows() -> Cases {
 
 /// Other numbers of words than the rows need, and each row of a value located.
 fn words_and_rows(list: &mut List) {
-    let example = vec![4, 3, 2, 0, 1, 1, 7, 0, 5, 1, 2, 12, 9];
-    let mut most = [[4, 4_096, 4_095, 0].to_vec(), CONSTANT.repeat(4_095)].concat();
+    let example = sized(&[[4, 3, 2, 0], [1, 1, 7, 0], [5, 1, 2, 12]]);
+    let (mut longer, mut shorter) = (example.clone(), example);
+    longer.push(9);
+    shorter.pop();
+    let mut most = vec![[4, 4_096, 4_095, 0]];
+    most.resize(4_096, CONSTANT);
+    let mut most = sized(&most);
     most.pop();
-    for (n, rows) in [(3, example), (4_096, most)] {
+    for (n, rows) in [(3, longer), (3, shorter), (4_096, most)] {
         let name = format!("{} words for {n} rows", rows.len());
         let store = vec![0x5a; 14];
         list.add(&name, Case::ComputeSizeOf { rows, n, store });
@@ -125,7 +131,7 @@ fn words_and_rows(list: &mut List) {
     let others = [CONSTANT, [1, 1, 1, 0], [2, 1, 1, 0], [8, 2, 5, 0]];
     let rows = [&[[4, 10, 8, 0]], &arrays[..], &others, &[[3, 1, 0, 0]]].concat();
     for row in 0..=11 {
-        let (rows, n, store) = (rows.concat(), 10, vec![0x5a; 16]);
+        let (rows, n, store) = (sized(&rows), 10, vec![0x5a; 16]);
         let case = Case::LocateArray {
             rows,
             n,
@@ -153,12 +159,13 @@ pub fn signed() -> Cases {
     for (kind, what, width) in [(9, "int32", 4), (10, "int64", 8)] {
         for pattern in patterns(width) {
             let name = format!("{what}, pattern {pattern}");
-            list.add(&name, signed_number(&[kind, 1, pattern, 0], 1, 0, 0));
+            let rows = sized(&[[kind, 1, pattern, 0]]);
+            list.add(&name, signed_number(&rows, 1, 0, 0));
         }
     }
     let rows = numbers::<u64>(
-        "4 15 11 0, 0 1 0 0, 1 1 1 0, 2 1 2 0, 3 2 1 0, 0 1 0 0, 4 2 1 0, 0 1 0 0, 5 1 0 0, \
-        6 1 0 0, 7 1 0 0, 8 2 0 0, 0 1 0 0, 9 1 4294967287 0, 10 1 18446744073709551606 0",
+        "4 15 11 0 64, 0 1 0 0 0, 1 1 1 0 4, 2 1 2 0 8, 3 2 1 0 8, 0 1 0 0 0, 4 2 1 0 0, 0 1 0 0 0, 5 1 0 0 8, \
+        6 1 0 0 8, 7 1 0 0 8, 8 2 0 0 8, 0 1 0 0 0, 9 1 4294967287 0 4, 10 1 18446744073709551606 0 8",
     );
     for row in 0..=16 {
         let name = format!("row {row} of 15, of all kinds");
@@ -168,10 +175,10 @@ pub fn signed() -> Cases {
 }
 
 /// A value of these rows.
-pub(super) fn value(grammar: Vec<u32>, rows: &[[u64; 4]], store: &[u8]) -> Value {
+pub(super) fn value(grammar: Vec<u32>, rows: &[Bare], store: &[u8]) -> Value {
     Value {
         grammar,
-        rows: rows.concat(),
+        rows: sized(rows),
         n: rows.len(),
         store: store.to_vec(),
     }

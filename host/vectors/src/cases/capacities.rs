@@ -59,12 +59,13 @@ fn rows_of_constants(list: &mut List) {
         add(&name, capacity, Some(capacity as usize));
         add(&name, capacity + 1, Some(capacity as usize));
     }
-    // Some of them wrap to 0 in 32 or 64 bits as a number of words, 4 to a row, or of their bytes.
+    // Some of them wrap to 0 or 4 in 32 or 64 bits as a number of words, 5 to a row, or of their bytes.
     let powers = [
         ("2^16-1", (1 << 16) - 1),
         ("2^16", 1 << 16),
         ("2^16+1", (1 << 16) + 1),
         ("2^27", 1 << 27),
+        ("(2^32+4)/5", 858_993_460),
         ("2^30", 1 << 30),
         ("2^31-1", (1 << 31) - 1),
         ("2^31", 1 << 31),
@@ -73,6 +74,7 @@ fn rows_of_constants(list: &mut List) {
         ("2^32+1", (1 << 32) + 1),
         ("2^59", 1 << 59),
         ("2^61", 1 << 61),
+        ("(2^64+4)/5", 3_689_348_814_741_910_324),
         ("2^62", 1 << 62),
         ("2^63-1", (1 << 63) - 1),
         ("2^63", 1 << 63),

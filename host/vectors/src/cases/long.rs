@@ -4,6 +4,7 @@
 use compare::{leaf, Value};
 
 use super::borders::value;
+use super::sized::Bare;
 use super::{hex, table, Cases, List, MAX_BYTES, ROW_WORDS};
 
 /// Bytes in runs of equal ones, so that a line that holds them is short. Each run is a fourth of what
@@ -18,9 +19,9 @@ fn runs(length: usize) -> Vec<u8> {
 }
 
 /// A tuple of these rows, each a field without children.
-pub(super) fn tuple(fields: &[[u64; 4]], store: &[u8]) -> Value {
+pub(super) fn tuple(fields: &[Bare], store: &[u8]) -> Value {
     let count = fields.len() as u64;
-    let node = |row: &[u64; 4]| [row[0] as u32, 0, 0];
+    let node = |row: &Bare| [row[0] as u32, 0, 0];
     let nodes: Vec<[u32; 3]> = fields.iter().map(node).collect();
     let nodes = [&[[4, 0, count as u32]], &nodes[..]].concat();
     let children: Vec<u32> = (1..=count as u32).collect();
@@ -68,7 +69,7 @@ fn each_remainder() -> Value {
 /// An array of 4,095 int64, which has the most rows.
 fn most_rows() -> Value {
     let number = |byte: u8| [10, 1, u64::from_le_bytes([byte; 8]), 0];
-    let elements: Vec<[u64; 4]> = runs(4_095).into_iter().map(number).collect();
+    let elements: Vec<Bare> = runs(4_095).into_iter().map(number).collect();
     let rows = [&[[3, 4_096, 4_095, 0]], &elements[..]].concat();
     value(table(&[[3, 0, 1], [10, 0, 0]], &[1]), &rows, &[])
 }
@@ -79,11 +80,12 @@ const EACH_KIND: &str = "12, 4 0 11, 6 0 0, 7 0 0, 5 0 0, 3 11 1, 8 12 2, 10 0 0
 const STORE: &str = "A1A2A3A4A5A6A7A8A9AAABACADAEAFB0B1B2B3B4B5B6B7B8B9BABBBCBDBEBF";
 
 /// Rows of it; and rows of it with the number 0 and without elements, but for the last.
-const FIELDS: &str = "4 17 11 0, 6 1 3 2, 7 1 3 5, 5 1 11 1, 3 3 2 0, 1 1 67305985 0, \
-    1 1 134678021 0, 8 2 1 0, 1 1 67305985 0, 10 1 578437695752307201 0, 9 1 67305985 0, 4 3 2 0, \
-    1 1 134678021 0, 1 1 67305985 0, 0 1 0 0, 2 1 578437695752307201 0, 1 1 134678021 0";
-const EMPTY: &str = "4 15 11 0, 6 1 0 0, 7 1 0 2, 5 1 0 5, 3 1 0 0, 8 2 0 0, 2 1 0 0, 10 1 0 0, \
-    9 1 0 0, 4 3 2 0, 1 1 0 0, 1 1 0 0, 0 1 0 0, 2 1 0 0, 1 1 7 0";
+const FIELDS: &str = "4 17 11 0 131, 6 1 3 2 20, 7 1 3 5 32, 5 1 11 1 19, 3 3 2 0 16, 1 1 67305985 0 4, \
+    1 1 134678021 0 4, 8 2 1 0 12, 1 1 67305985 0 4, 10 1 578437695752307201 0 8, 9 1 67305985 0 4, 4 3 2 0 8, \
+    1 1 134678021 0 4, 1 1 67305985 0 4, 0 1 0 0 0, 2 1 578437695752307201 0 8, 1 1 134678021 0 4";
+const EMPTY: &str =
+    "4 15 11 0 80, 6 1 0 0 8, 7 1 0 2 8, 5 1 0 5 8, 3 1 0 0 8, 8 2 0 0 16, 2 1 0 0 8, 10 1 0 0 8, \
+    9 1 0 0 4, 4 3 2 0 8, 1 1 0 0 4, 1 1 0 0 4, 0 1 0 0 0, 2 1 0 0 8, 1 1 7 0 4";
 
 /// A tuple with a field of each kind.
 pub(super) fn fields_of_each_kind() -> Value {

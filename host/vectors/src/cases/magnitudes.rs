@@ -5,6 +5,7 @@ use compare::{grammar_list, Case, Value};
 
 use super::packed::{pack_u32, pack_u64};
 use super::signed::signed_number;
+use super::sized::{sized, Bare};
 use super::{counted, numbers, table, Cases, List, MAX_BYTES, ROW_WORDS};
 use super::{A64, ARR, B, BYT, C, E, I32, I64, U32, U64, UNI};
 
@@ -143,7 +144,10 @@ fn counts_read(list: &mut List) {
         ] {
             let record = counted(add + 1, &vec![7; behind]);
             let name = format!("{what}, count or tag {step} + 1");
-            list.add(&name, demarshall(&numbers::<u32>(grammar), &record, 8));
+            list.add(
+                &name,
+                demarshall(&numbers::<u32>(grammar), &record, 2 * ROW_WORDS),
+            );
         }
     }
     for (what, grammar, width) in [
@@ -155,15 +159,15 @@ fn counts_read(list: &mut List) {
         for count in [200, 300, 40_000, MANY] {
             let record = counted(count as u64, &vec![0x5a; count * width]);
             let name = format!("{what}, {count} elements");
-            list.add(&name, demarshall(&grammar, &record, 4));
+            list.add(&name, demarshall(&grammar, &record, ROW_WORDS));
             let name = format!("{what}, {count} elements, one missing");
             list.add(
                 &name,
-                demarshall(&grammar, &record[..record.len() - width], 4),
+                demarshall(&grammar, &record[..record.len() - width], ROW_WORDS),
             );
             let short = counted(count as u64 + 1, &vec![0x5a; count * width]);
             let name = format!("{what}, {count} elements and one more counted");
-            list.add(&name, demarshall(&grammar, &short, 4));
+            list.add(&name, demarshall(&grammar, &short, ROW_WORDS));
         }
     }
 }
@@ -253,7 +257,7 @@ fn far_values(list: &mut List) {
             let index = at;
             let alone = grammar_of(*kind);
             let mut rows = vec![99; ROW_WORDS * rows];
-            rows.truncate(8);
+            rows.truncate(2 * ROW_WORDS);
             let (grammar, record) = (alone, record.clone());
             list.add(
                 &name(" as the index"),
@@ -268,11 +272,14 @@ fn far_values(list: &mut List) {
     }
     for length in [256, 512, 1 << 16] {
         let name = format!("a constant and {length} bytes left over");
-        list.add(&name, demarshall(&numbers::<u32>(B), &vec![0; length], 4));
+        list.add(
+            &name,
+            demarshall(&numbers::<u32>(B), &vec![0; length], ROW_WORDS),
+        );
         let name = format!("a uint32 and {length} bytes left over");
         list.add(
             &name,
-            demarshall(&numbers::<u32>(U32), &vec![0; length + 4], 4),
+            demarshall(&numbers::<u32>(U32), &vec![0; length + 4], ROW_WORDS),
         );
     }
     let words = 1 << 16;
@@ -309,7 +316,7 @@ fn cases_read(list: &mut List) {
     for tag in [0, 188, 200, 255, 256, 700, 956, 1_023, 1_024, 1_212] {
         let record = counted(tag, &[7, 0, 0, 0, 0, 0, 0, 0]);
         let name = format!("tag {tag} of 1,024");
-        let (grammar, index, rows) = (many_cases(), 0, vec![99; 8]);
+        let (grammar, index, rows) = (many_cases(), 0, vec![99; 2 * ROW_WORDS]);
         list.add(
             &name,
             Case::ParseVal {
@@ -329,10 +336,13 @@ fn cases_read(list: &mut List) {
             _ => vec![7, 0, 0, 0],
         };
         let name = format!("kind {kind} of node 200");
-        list.add(&name, demarshall(&table(&nodes, &[200]), &record, 8));
+        list.add(
+            &name,
+            demarshall(&table(&nodes, &[200]), &record, 2 * ROW_WORDS),
+        );
     }
     for (step, add) in STEPS {
-        let (grammar, record, rows) = (numbers::<u32>(U32), vec![7; 9], vec![99; 4]);
+        let (grammar, record, rows) = (numbers::<u32>(U32), vec![7; 9], vec![99; ROW_WORDS]);
         let index = add as usize + 1;
         let name = format!("index {step} + 1");
         list.add(
@@ -374,63 +384,85 @@ fn locate(rows: &[u64], n: usize, store: usize, row: usize) -> Case {
     }
 }
 
-/// A row of a kind that has one child, or none, with this span, word 2 and word 3.
-pub(super) fn sound_row(kind: u64) -> Vec<u64> {
+/// The row of a constant.
+const CONSTANT_ROW: Bare = [0, 1, 0, 0];
+
+/// The rows of a value of a kind, with one child or none.
+pub(super) fn sound_row(kind: u64) -> Vec<Bare> {
     match kind {
-        3 | 4 => vec![kind, 2, 1, 0, 0, 1, 0, 0],
-        8 => vec![8, 2, 0, 0, 0, 1, 0, 0],
-        _ => vec![kind, 1, 0, 0],
+        3 | 4 => vec![[kind, 2, 1, 0], CONSTANT_ROW],
+        8 => vec![[8, 2, 0, 0], CONSTANT_ROW],
+        _ => vec![[kind, 1, 0, 0]],
     }
 }
+
+/// A row, and so many of another behind it.
+fn repeated(first: Bare, other: Bare, times: usize) -> Vec<Bare> {
+    let mut rows = vec![first];
+    rows.resize(1 + times, other);
+    rows
+}
+
+/// The words of a row, with their names.
+const WORDS: [(usize, &str); ROW_WORDS] = [
+    (0, "kind"),
+    (1, "span"),
+    (2, "word 2"),
+    (3, "word 3"),
+    (4, "size"),
+];
 
 /// Each word of a row of each kind, with the low bits of a sound one.
 fn row_words(list: &mut List) {
     for (step, add) in STEPS {
         for kind in 0..=10 {
             let row = sound_row(kind);
-            let n = row.len() / ROW_WORDS;
-            for (word, what) in [(0, "kind"), (1, "span"), (2, "word 2"), (3, "word 3")] {
-                let mut other = row.clone();
+            let n = row.len();
+            for (word, what) in WORDS {
+                let mut other = sized(&row);
                 other[word] += add;
                 let name = format!("{what} of kind {kind}, {step} more");
                 list.add(&name, size(&other, n, 8));
                 // The same inside of a tuple, which reaches further.
-                let tuple = [&[4, n as u64 + 2, 2, 0], &other[..], &[0, 1, 0, 0]].concat();
+                let tuple = [&[[4, n as u64 + 2, 2, 0]], &row[..], &[CONSTANT_ROW]].concat();
+                let mut tuple = sized(&tuple);
+                tuple[ROW_WORDS + word] += add;
                 let name = format!("{what} of kind {kind} in a tuple, {step} more");
                 list.add(&name, size(&tuple, n + 2, 8));
             }
         }
         for (kind, width) in [(5, 1), (6, 4), (7, 8)] {
-            let row = [kind, 1, add + 1, 0];
+            let mut row = sized(&[[kind, 1, 1, 0]]);
+            row[2] += add;
             let name = format!("kind {kind}, count {step} + 1");
             list.add(&name, size(&row, 1, width));
         }
-        let row = [0, 1, 0, 0];
+        let row = sized(&[CONSTANT_ROW]);
         let name = format!("n {step} + 1");
         list.add(&name, size(&row, add as usize + 1, 0));
-        let array = [5, 1, 0, 0];
+        let array = sized(&[[5, 1, 0, 0]]);
         list.add(&name, locate(&array, add as usize + 1, 0, 0));
         let name = format!("row number {step}");
         list.add(&name, locate(&array, 1, 0, add as usize));
     }
     for kind in [5, 6, 7] {
         for (span, what) in [(2, "span 2"), (0, "span 0"), (1, "span 1")] {
-            let rows = [[4, 3, 2, 0], [kind, span, 9, 0], [0, 1, 0, 0]].concat();
+            let rows = sized(&[[4, 3, 2, 0], [kind, span, 9, 0], CONSTANT_ROW]);
             let name = format!("kind {kind} with {what} and count 9 of an empty store");
             list.add(&name, size(&rows, 3, 0));
         }
     }
-    let mut rows = vec![0, 1, 0, 0];
+    let mut rows = sized(&[CONSTANT_ROW]);
     rows.resize(1 << 16, 9);
     list.add("2^16 words lent", size(&rows, 1, 0));
     list.add("2^16 words lent, n 2", size(&rows, 2, 0));
 }
 
 /// A tuple of 300 constants and one value more, which is row 301.
-fn after_rows(row: &[u64]) -> (Vec<u64>, usize) {
-    let n = 301 + row.len() / ROW_WORDS;
-    let rows = [&[4, n as u64, 301, 0], &[0, 1, 0, 0].repeat(300)[..], row].concat();
-    (rows, n)
+fn after_rows(value: &[Bare]) -> (Vec<u64>, usize) {
+    let n = 301 + value.len();
+    let before = repeated([4, n as u64, 301, 0], CONSTANT_ROW, 300);
+    (sized(&[&before[..], value].concat()), n)
 }
 
 /// Rows from 256 on: sound, refused with 13 and with 14, and located.
@@ -440,31 +472,30 @@ fn far_rows(list: &mut List) {
         let (rows, n) = after_rows(&sound);
         let name = |what: &str| format!("kind {kind} at row 301{what}");
         list.add(&name(""), size(&rows, n, 8));
-        for (word, more, what) in [(1, 1, ", span"), (2, 9, ", word 2"), (3, 9, ", word 3")] {
-            let mut other = sound.clone();
-            other[word] += more;
-            let (rows, n) = after_rows(&other);
-            list.add(&name(what), size(&rows, n, 8));
+        for (word, what) in &WORDS[1..] {
+            let mut other = rows.clone();
+            other[ROW_WORDS * 301 + word] += if *word == 1 { 1 } else { 9 };
+            list.add(&name(&format!(", {what}")), size(&other, n, 8));
         }
         list.add(&name(""), locate(&rows, n, 8, 301));
         list.add(&name(", row number 45"), locate(&rows, n, 8, 45));
         list.add(&name(", row number n"), locate(&rows, n, 8, n));
         // In the middle, where it is followed by others, and as a parent that lacks a child.
-        let long = [&[kind, 301, 301, 0], &[0, 1, 0, 0].repeat(300)[..]].concat();
-        let tuple = [&[4, 303, 2, 0], &long[..], &[0, 1, 0, 0]].concat();
+        let long = repeated([kind, 301, 301, 0], CONSTANT_ROW, 300);
+        let tuple = sized(&[&[[4, 303, 2, 0]], &long[..], &[CONSTANT_ROW]].concat());
         list.add(&name(", a child missing of 301"), size(&tuple, 303, 0));
     }
-    let chain: Vec<u64> = (2..=300).rev().flat_map(|span| [8, span, 300, 0]).collect();
-    let chain = [&chain[..], &[11, 1, 0, 0]].concat();
-    list.add("kind 11 below 299 cases", size(&chain, 300, 0));
+    let chain = (2..=300).rev().map(|span| [8, span, 300, 0]);
+    let chain: Vec<Bare> = chain.chain([[11, 1, 0, 0]]).collect();
+    list.add("kind 11 below 299 cases", size(&sized(&chain), 300, 0));
     for kind in [3, 4] {
-        let rows = [&[kind, 301, 300, 0], &[1, 1, 7, 0].repeat(300)[..]].concat();
+        let rows = sized(&repeated([kind, 301, 300, 0], [1, 1, 7, 0], 300));
         let name = format!("300 values of kind {kind}");
         list.add(&name, size(&rows, 301, 0));
         let name = format!("300 values of kind {kind}, n 45");
         list.add(&name, size(&rows, 45, 0));
         for (step, add) in STEPS {
-            let rows = [kind, 2, add + 1, 0, 0, 1, 0, 0];
+            let rows = sized(&[[kind, 2, add + 1, 0], CONSTANT_ROW]);
             let name = format!("kind {kind}, count {step} + 1");
             list.add(&name, size(&rows, 2, 0));
         }
@@ -476,34 +507,35 @@ fn children(list: &mut List) {
     for kind in [3, 4, 8] {
         let count = u64::from(kind != 8);
         for rows in [1, 300] {
-            let constants = [0, 1, 0, 0].repeat(rows);
             let n = rows as u64 + 4;
-            let inner = [4, 2, 1, 0, kind, 2, count, 0, 0, 1, 0, 0];
-            let rows = [&[4, n, n - 2, 0], &constants[..], &inner].concat();
+            let before = repeated([4, n, n - 2, 0], CONSTANT_ROW, rows);
+            let inner = [[4, 2, 1, 0], [kind, 2, count, 0], CONSTANT_ROW];
+            let rows = sized(&[&before[..], &inner].concat());
             let name = format!("kind {kind} at row {}, beyond its parent's end", n - 2);
             list.add(&name, size(&rows, n as usize, 0));
         }
     }
     for kind in 1..=10 {
         let mut child = sound_row(kind);
-        child[1] = 0;
-        let n = 1 + child.len() / ROW_WORDS;
-        let rows = [&[4, n as u64, 1, 0], &child[..]].concat();
+        child[0][1] = 0;
+        let n = 1 + child.len();
+        let rows = sized(&[&[[4, n as u64, 1, 0]], &child[..]].concat());
         let name = format!("kind {kind} of span 0");
         list.add(&name, size(&rows, n, 0));
     }
     for kind in [3, 4] {
         for (step, add) in STEPS {
-            let rows = [[kind, 3, add + 1, 0], [0, 1, 0, 0], [11, 1, 0, 0]].concat();
+            let rows = sized(&[[kind, 3, add + 1, 0], CONSTANT_ROW, [11, 1, 0, 0]]);
             let name = format!("kind {kind}, count {step} + 1, the second child is bad");
             list.add(&name, size(&rows, 3, 0));
         }
-        let rows = [&[kind, 302, 300, 0], &[0, 1, 0, 0].repeat(300)[..], &[9; 4]].concat();
+        let rows = repeated([kind, 302, 300, 0], CONSTANT_ROW, 300);
+        let rows = [sized(&rows), vec![9; ROW_WORDS]].concat();
         let name = format!("kind {kind}, a row left over behind 300 children");
         list.add(&name, size(&rows, 302, 0));
     }
     for (number, child) in [(13, [11, 1, 0, 0]), (14, [5, 1, 9, 0])] {
-        let rows = [[4, 2, 1, 0], child, [0, 1, 0, 0]].concat();
+        let rows = sized(&[[4, 2, 1, 0], child, CONSTANT_ROW]);
         let name = format!("the root's span below n before a child's {number}");
         list.add(&name, size(&rows, 3, 0));
     }
@@ -513,7 +545,7 @@ fn children(list: &mut List) {
 fn far_arrays(list: &mut List) {
     for (kind, width) in [(5, 1), (6, 4), (7, 8)] {
         for (at, count) in [(200, 200), (300, 300), (MANY as u64, 2), (9, MANY as u64)] {
-            let row = [kind, 1, count, at];
+            let row = sized(&[[kind, 1, count, at]]);
             let store = (at + count * width) as usize;
             let name = format!("kind {kind}, {count} elements at {at}");
             list.add(&name, size(&row, 1, store));
@@ -523,12 +555,12 @@ fn far_arrays(list: &mut List) {
             list.add(&name, locate(&row, 1, store - 1, 0));
         }
         for (step, add) in STEPS {
-            let row = [kind, 1, 0, add];
+            let row = sized(&[[kind, 1, 0, add]]);
             let name = format!("kind {kind} without elements at {step}");
             list.add(&name, locate(&row, 1, 8, 0));
         }
         let name = format!("kind {kind} without elements");
-        list.add(&name, locate(&[kind, 1, 0, 3], 1, 8, 0));
+        list.add(&name, locate(&sized(&[[kind, 1, 0, 3]]), 1, 8, 0));
     }
 }
 
@@ -545,7 +577,7 @@ pub fn rows() -> Cases {
 /// The cases of the signed number: row counts, row numbers and rows of great number.
 pub fn signed() -> Cases {
     let mut list = List::default();
-    let int32 = [9, 1, 7, 0];
+    let int32 = sized(&[[9, 1, 7, 0]]);
     for (step, add) in STEPS {
         let add = add as usize;
         let name = format!("n {step} + 1");
@@ -554,24 +586,23 @@ pub fn signed() -> Cases {
         list.add(&name, signed_number(&int32, 1, 0, add));
     }
     for kind in [9, 10] {
-        let (rows, n) = after_rows(&[kind, 1, (1 << 32) - 7, 0]);
+        let (rows, n) = after_rows(&[[kind, 1, (1 << 32) - 7, 0]]);
         for row in [301, 45, 300, n] {
             let name = format!("kind {kind} at row 301, row number {row}");
             list.add(&name, signed_number(&rows, n, 0, row));
         }
-        let (rows, n) = after_rows(&[kind, 2, 7, 0]);
+        let (rows, n) = after_rows(&[[kind, 2, 7, 0]]);
         let name = format!("kind {kind} at row 301, span");
         list.add(&name, signed_number(&rows, n, 0, 45));
     }
     list.0
 }
 
-fn marshall(grammar: Vec<u32>, rows: &[u64], store: Vec<u8>, length: usize) -> Case {
-    let (rows, n) = (rows.to_vec(), rows.len() / ROW_WORDS);
+fn marshall(grammar: Vec<u32>, rows: &[Bare], store: Vec<u8>, length: usize) -> Case {
     let value = Value {
         grammar,
-        rows,
-        n,
+        rows: sized(rows),
+        n: rows.len(),
         store,
     };
     value.marshall_case(vec![0xee; length])
@@ -581,16 +612,11 @@ fn marshall(grammar: Vec<u32>, rows: &[u64], store: Vec<u8>, length: usize) -> C
 fn written(list: &mut List) {
     for (step, add) in STEPS {
         for tag in [0, 1] {
-            let rows = [8, 2, add + tag, 0, tag, 1, 0, 0];
+            let rows = [[8, 2, add + tag, 0], [tag, 1, 0, 0]];
             let name = format!("tag {step} + {tag}");
             list.add(&name, marshall(numbers(UNI), &rows, vec![], 12));
         }
-        let value = Value {
-            grammar: numbers(U32),
-            rows: vec![1, 1, 7, 0],
-            n: 1,
-            store: vec![],
-        };
+        let value = small_value(U32, &[[1, 1, 7, 0]]);
         let name = format!("index {step} + 1");
         let case = value
             .clone()
@@ -604,7 +630,7 @@ fn written(list: &mut List) {
     }
     for tag in [0, 188, 200, 255, 256, 700, 956, 1_023, 1_024, 1_212] {
         for (kind, what) in [(0, "constant"), (1, "uint32"), (2, "uint64")] {
-            let rows = [8, 2, tag, 0, kind, 1, 0, 0];
+            let rows = [[8, 2, tag, 0], [kind, 1, 0, 0]];
             let name = format!("tag {tag} of 1,024, a {what}");
             list.add(&name, marshall(many_cases(), &rows, vec![], 16));
         }
@@ -613,12 +639,15 @@ fn written(list: &mut List) {
         let mut nodes = vec![[kind, 0, 1]];
         nodes.resize(200, CONSTANT);
         nodes.push([1, 0, 0]);
-        let rows = [kind.into(), 2, 1, 0, 1, 1, 7, 0];
+        let rows = [[kind.into(), 2, 1, 0], [1, 1, 7, 0]];
         let name = format!("kind {kind} of node 200");
         list.add(&name, marshall(table(&nodes, &[200]), &rows, vec![], 12));
     }
     for kind in 0..=10 {
-        let (rows, _) = after_rows(&sound_row(kind));
+        let value = sound_row(kind);
+        let n = 301 + value.len() as u64;
+        let before = repeated([4, n, 301, 0], CONSTANT_ROW, 300);
+        let rows = [before, value].concat();
         let nodes = [[4, 0, 301], CONSTANT, [if kind == 1 { 2 } else { 1 }, 0, 0]];
         let children = [vec![1; 300], vec![2]].concat();
         let name = format!("kind {kind} at row 301, another is wanted");
@@ -629,17 +658,17 @@ fn written(list: &mut List) {
     }
     for (kind, width) in [(5, 1), (6, 4), (7, 8)] {
         for (at, count) in [(200, 200), (MANY as u64, 2), (9, MANY as u64)] {
-            let (row, length) = ([kind, 1, count, at], (count * width) as usize);
+            let (row, length) = ([[kind, 1, count, at]], (count * width) as usize);
             let grammar = table(&[[kind as u32, 0, 0]], &[]);
             let store = [vec![0x11; at as usize], vec![0x5a; length]].concat();
             let name = format!("kind {kind}, {count} elements at {at}");
             list.add(&name, marshall(grammar, &row, store, length + 8));
         }
     }
-    let rows = [&[3, 301, 300, 0], &[1, 1, 0x0707_0707, 0].repeat(300)[..]].concat();
+    let rows = repeated([3, 301, 300, 0], [1, 1, 0x0707_0707, 0], 300);
     list.add("300 elements", marshall(numbers(ARR), &rows, vec![], 1_208));
     let grammar = table(&[[4, 0, 45], [1, 0, 0]], &[1; 45]);
-    let rows = [&[4, 302, 301, 0], &[1, 1, 7, 0].repeat(301)[..]].concat();
+    let rows = repeated([4, 302, 301, 0], [1, 1, 7, 0], 301);
     list.add(
         "301 fields, 45 wanted",
         marshall(grammar, &rows, vec![], 1_204),
@@ -656,15 +685,9 @@ fn behind_kinds(list: &mut List) {
             let nodes = [[4, 0, fields], [kind, fields * count, count], CONSTANT];
             let mut children = vec![2; before];
             children.extend([1, 2, 2]);
-            let n = (before + 2 + row.len() / ROW_WORDS) as u64;
-            let constants = [0, 1, 0, 0].repeat(before);
-            let rows = [
-                &[4, n, fields.into(), 0],
-                &constants[..],
-                &row,
-                &[1, 1, 7, 0],
-            ]
-            .concat();
+            let n = (before + 2 + row.len()) as u64;
+            let rows = repeated([4, n, fields.into(), 0], CONSTANT_ROW, before);
+            let rows = [&rows[..], &row, &[[1, 1, 7, 0]]].concat();
             let name = format!("a uint32 at row {}, behind kind {kind}", n - 1);
             list.add(
                 &name,
@@ -680,10 +703,10 @@ const GREATEST_SIZE: &str = "the greatest size, 4,293,951,488";
 
 /// The value of the greatest size.
 fn greatest_size() -> Value {
-    let arrays = [5, 1, MAX_BYTES as u64, 0].repeat(4_095);
+    let array = [5, 1, MAX_BYTES as u64, 0];
     Value {
         grammar: table(&[[3, 0, 1], [5, 0, 0]], &[1]),
-        rows: [&[3, 4_096, 4_095, 0], &arrays[..]].concat(),
+        rows: sized(&repeated([3, 4_096, 4_095, 0], array, 4_095)),
         n: 4_096,
         store: vec![0; MAX_BYTES],
     }
@@ -698,11 +721,11 @@ pub fn writing() -> Cases {
 }
 
 /// A value of one row, or of two.
-fn small_value(grammar: &str, rows: &[u64]) -> Value {
+fn small_value(grammar: &str, rows: &[Bare]) -> Value {
     Value {
         grammar: numbers(grammar),
-        rows: rows.to_vec(),
-        n: rows.len() / ROW_WORDS,
+        rows: sized(rows),
+        n: rows.len(),
         store: vec![],
     }
 }
@@ -713,7 +736,7 @@ pub fn preview() -> Cases {
     let mut add = |name: String, value: &Value, out: Vec<u8>, index: usize| {
         list.add(&name, value.clone().preview_case(out, index));
     };
-    let one = small_value(U32, &[1, 1, 7, 0]);
+    let one = small_value(U32, &[[1, 1, 7, 0]]);
     for (step, more) in STEPS {
         let next = more as usize + 1;
         add(format!("index {step} + 1"), &one, vec![0xee; 9], next);
@@ -722,13 +745,13 @@ pub fn preview() -> Cases {
             ..one.clone()
         };
         add(format!("n {step} + 1"), &rows, vec![0xee; 4], 0);
-        let case = small_value(UNI, &[8, 2, more + 1, 0, 1, 1, 7, 0]);
+        let case = small_value(UNI, &[[8, 2, more + 1, 0], [1, 1, 7, 0]]);
         add(format!("tag {step} + 1"), &case, vec![0xee; 12], 0);
     }
     for count in [200, 300, 40_000, MANY] {
         let array = Value {
             store: vec![0x5a; count],
-            ..small_value(BYT, &[5, 1, count as u64, 0])
+            ..small_value(BYT, &[[5, 1, count as u64, 0]])
         };
         let name = |over: &str| format!("{count} bytes over {over}");
         add(name("bytes 00"), &array, vec![0; count + 8], 0);
@@ -750,7 +773,7 @@ pub fn preview() -> Cases {
 fn great_values(list: &mut List) {
     let tagged = Value {
         grammar: many_cases(),
-        ..small_value(UNI, &[8, 2, 700, 0, 1, 1, 7, 0])
+        ..small_value(UNI, &[[8, 2, 700, 0], [1, 1, 7, 0]])
     };
     let case = tagged.preview_case(counted(700, &[7, 0, 0, 0]), 0);
     list.add("tag 700 of 1,024, over its record", case);

@@ -15,6 +15,7 @@ mod rows;
 mod same_route;
 mod show;
 mod signed;
+mod sized;
 mod writing;
 mod xdr;
 
@@ -87,7 +88,8 @@ const UNI: &str = "3, 8 0 2, 0 0 0, 1 0 0, 2, 1 2";
 const MIX: &str = "6, 4 0 2, 3 2 1, 5 0 0, 8 3 2, 0 0 0, 2 0 0, 5, 1 2 3 4 5";
 const MIX_RECORD: &str = "0200000000000000 0000000000000000 0100000000000000 0201000000000000
     0100000000000000 5A";
-const MIX_ROWS: &str = "4 7 2 0, 3 5 2 0, 8 2 0 0, 0 1 0 0, 8 2 1 0, 2 1 258 0, 5 1 1 40";
+const MIX_ROWS: &str =
+    "4 7 2 0 41, 3 5 2 0 32, 8 2 0 0 8, 0 1 0 0 0, 8 2 1 0 16, 2 1 258 0 8, 5 1 1 40 9";
 /// A grammar that is refused with 3 at word 1.
 const KIND_11: &str = "1, 11 0 0, 0";
 /// For each refusal of a grammar its number and a grammar that is refused with it; that of 5 is

@@ -4,6 +4,7 @@ use std::collections::BTreeSet;
 
 use compare::{chain, Value};
 
+use super::sized::{sized, Bare};
 use super::writing::{refusals, value, A_ROWS};
 use super::{counted, hex, long, magnitudes, numbers, table, Cases, List, MAX_BYTES};
 use super::{A, A64, ARR, A_RECORD, B, BYT, C, E, I32, I64, KIND_11};
@@ -72,24 +73,24 @@ fn outputs(list: &mut List) {
 /// Values over outputs: name, grammar, rows, store, output, index.
 #[rustfmt::skip]
 const LISTED: [(&str, &str, &str, &str, &str, usize); 14] = [
-    ("no bytes at the end of 2", B, "0 1 0 0", "", "0000", 2),
-    ("no bytes behind the end of 2", B, "0 1 0 0", "", "0000", 3),
-    ("no bytes and no output", TUP0, "4 1 0 0", "", "", 0),
-    ("example H, number 4,294,967,295", U32, "1 1 4294967295 0", "", "FFFFFFFF", 0),
-    ("a uint32 array, two bytes 00 in its element", E, "6 1 1 0", "78563412",
+    ("no bytes at the end of 2", B, "0 1 0 0 0", "", "0000", 2),
+    ("no bytes behind the end of 2", B, "0 1 0 0 0", "", "0000", 3),
+    ("no bytes and no output", TUP0, "4 1 0 0 0", "", "", 0),
+    ("example H, number 4,294,967,295", U32, "1 1 4294967295 0 4", "", "FFFFFFFF", 0),
+    ("a uint32 array, two bytes 00 in its element", E, "6 1 1 0 12", "78563412",
         "01000000 00000000 78003400", 0),
-    ("array without elements over a count of 1", ARR, "3 1 0 0", "", "0100000000000000", 0),
-    ("array of constants over one element more", C, "3 4 3 0, 0 1 0 0, 0 1 0 0, 0 1 0 0", "",
+    ("array without elements over a count of 1", ARR, "3 1 0 0 8", "", "0100000000000000", 0),
+    ("array of constants over one element more", C, "3 4 3 0 8, 0 1 0 0 0, 0 1 0 0 0, 0 1 0 0 0", "",
         "0400000000000000", 0),
-    ("another number than the store's", A, "4 3 2 0, 1 1 8 0, 5 1 2 12", A_RECORD, A_RECORD, 0),
-    ("the store in place of the value", BYT, "5 1 2 2", "0200 41420000 0000 4142",
+    ("another number than the store's", A, "4 3 2 0 14, 1 1 8 0 4, 5 1 2 12 10", A_RECORD, A_RECORD, 0),
+    ("the store in place of the value", BYT, "5 1 2 2 10", "0200 41420000 0000 4142",
         "0200 41420000 0000 4142", 0),
-    ("two arrays share bytes of the store", "2, 4 0 2, 5 0 0, 2, 1 1", "4 3 2 0, 5 1 3 0, 5 1 2 1",
+    ("two arrays share bytes of the store", "2, 4 0 2, 5 0 0, 2, 1 1", "4 3 2 0 21, 5 1 3 0 11, 5 1 2 1 10",
         "414243", "0300000000000000 414243 0200000000000000 4143", 0),
-    ("words behind 4n are not looked at", U32, "1 1 7 0, 9 9 9", "", "07000000", 0),
+    ("words behind 5n are not looked at", U32, "1 1 7 0 4, 9 9 9 9", "", "07000000", 0),
     ("A's rows under the grammar of B", B, A_ROWS, A_RECORD, A_RECORD, 0),
-    ("tag at the case count", UNI, "8 2 2 0, 1 1 7 0", "", "0200000000000000 07000000", 0),
-    ("an int32 where a uint32 is wanted", U32, "9 1 7 0", "", "07000000", 0),
+    ("tag at the case count", UNI, "8 2 2 0 12, 1 1 7 0 4", "", "0200000000000000 07000000", 0),
+    ("an int32 where a uint32 is wanted", U32, "9 1 7 0 4", "", "07000000", 0),
 ];
 
 fn listed(list: &mut List) {
@@ -121,22 +122,22 @@ type Recorded = (
 /// of numbers, counts, tags and elements.
 #[rustfmt::skip]
 const VALUES: [Recorded; 12] = [
-    ("constant", B, "0 1 0 0", "", "", &[]),
-    ("uint32", U32, "1 1 67305985 0", "", "01020304", &[0, 1, 3]),
-    ("uint64", U64, "2 1 578437695752307201 0", "", "0102030405060708", &[0, 4, 7]),
-    ("array of uint32 values", ARR, "3 3 2 0, 1 1 67305985 0, 1 1 134678021 0", "",
+    ("constant", B, "0 1 0 0 0", "", "", &[]),
+    ("uint32", U32, "1 1 67305985 0 4", "", "01020304", &[0, 1, 3]),
+    ("uint64", U64, "2 1 578437695752307201 0 8", "", "0102030405060708", &[0, 4, 7]),
+    ("array of uint32 values", ARR, "3 3 2 0 16, 1 1 67305985 0 4, 1 1 134678021 0 4", "",
         "0200000000000000 01020304 05060708", &[0, 4, 7, 8, 12, 15]),
-    ("tuple of numbers", NUMBERS, "4 5 4 0, 1 1 7 0, 2 1 8 0, 9 1 9 0, 10 1 10 0", "",
+    ("tuple of numbers", NUMBERS, "4 5 4 0 24, 1 1 7 0 4, 2 1 8 0 8, 9 1 9 0 4, 10 1 10 0 8", "",
         "07000000 0800000000000000 09000000 0A00000000000000", &[0, 3, 4, 12, 23]),
-    ("byte array", BYT, "5 1 3 1", "00414243", "0300000000000000 414243", &[0, 4, 7, 8, 9, 10]),
-    ("uint32 array", E, "6 1 2 1", "00 01020304 05060708 00",
+    ("byte array", BYT, "5 1 3 1 11", "00414243", "0300000000000000 414243", &[0, 4, 7, 8, 9, 10]),
+    ("uint32 array", E, "6 1 2 1 16", "00 01020304 05060708 00",
         "0200000000000000 01020304 05060708", &[0, 4, 7, 8, 12, 15]),
-    ("uint64 array", A64, "7 1 1 3", "000000 0102030405060708",
+    ("uint64 array", A64, "7 1 1 3 16", "000000 0102030405060708",
         "0100000000000000 0102030405060708", &[0, 4, 7, 8, 12, 15]),
-    ("case of a uint32", UNI, "8 2 1 0, 1 1 67305985 0", "", "0100000000000000 01020304",
+    ("case of a uint32", UNI, "8 2 1 0 12, 1 1 67305985 0 4", "", "0100000000000000 01020304",
         &[0, 4, 7, 8, 11]),
-    ("int32 -3", I32, "9 1 4294967293 0", "", "FDFFFFFF", &[0, 1, 3]),
-    ("int64 -3", I64, "10 1 18446744073709551613 0", "", "FDFFFFFFFFFFFFFF", &[0, 4, 7]),
+    ("int32 -3", I32, "9 1 4294967293 0 4", "", "FDFFFFFF", &[0, 1, 3]),
+    ("int64 -3", I64, "10 1 18446744073709551613 0 8", "", "FDFFFFFFFFFFFFFF", &[0, 4, 7]),
     ("nested", MIX, MIX_ROWS, MIX_RECORD, MIX_RECORD, &[0, 15, 16, 25, 32, 40]),
 ];
 
@@ -163,7 +164,11 @@ fn each_kind(list: &mut List) {
 
 /// A byte array of so many elements 01.
 fn ones(count: usize) -> Value {
-    value(BYT, &format!("5 1 {count} 0"), &vec![1; count])
+    value(
+        BYT,
+        &format!("5 1 {count} 0 {}", 8 + count),
+        &vec![1; count],
+    )
 }
 
 /// Lengths near multiples of 255.
@@ -263,10 +268,11 @@ fn limits(list: &mut List) {
         vec![0; end - 1],
         MAX_BYTES,
     );
-    let levels = (2..=256).rev().flat_map(|span| [8, span, 0, 0]);
+    let levels = (2..=256).rev().map(|span| [8, span, 0, 0]);
+    let rows: Vec<Bare> = levels.chain([[1, 1, 0x0702, 0]]).collect();
     let deepest = Value {
         grammar: chain(8),
-        rows: levels.chain([1, 1, 0x0702, 0]).collect(),
+        rows: sized(&rows),
         n: 256,
         store: vec![],
     };
@@ -275,9 +281,9 @@ fn limits(list: &mut List) {
 
 /// Both sides of the borders of the grammar's refusals.
 fn grammars(list: &mut List) {
-    let constant = value(B, "0 1 0 0", &[]);
-    let empty = value(TUP0, "4 1 0 0", &[]);
-    let single = value(TUP0, "4 2 1 0, 0 1 0 0", &[]);
+    let constant = value(B, "0 1 0 0 0", &[]);
+    let empty = value(TUP0, "4 1 0 0 0", &[]);
+    let single = value(TUP0, "4 2 1 0 0, 0 1 0 0 0", &[]);
     let child = |child| table(&[[4, 0, 1], [0; 3]], &[child]);
     for (name, value, grammar) in [
         ("N 256", &constant, table(&[[0; 3]; 256], &[])),

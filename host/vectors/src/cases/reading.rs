@@ -7,7 +7,7 @@ use compare::{doubling, own_bytes, Case};
 use super::capacities::capacities;
 use super::long::{fields_of_each_kind, record};
 use super::magnitudes;
-use super::{counted, hex, numbers, table, Cases, List, MAX_BYTES, ROW_WORDS};
+use super::{counted, grouped, hex, numbers, table, Cases, List, MAX_BYTES, ROW_WORDS};
 use super::{A, A64, ARR, A_RECORD, B, BYT, C, D, E, I32, I64, KIND_11, MIX, MIX_RECORD, NUMBERS};
 use super::{PAIR, REFUSED_GRAMMARS, TUP0, U32, U64, UNI};
 
@@ -427,35 +427,47 @@ fn from_an_index(list: &mut List) {
     }
 }
 
-/// Words that are no multiple of 4, and words behind the rows.
+/// Words that are no multiple of 5, and words behind the rows.
 fn words_lent(list: &mut List) {
+    let (a, record) = (numbers::<u32>(A), hex(A_RECORD));
+    for words in 0..=20 {
+        let name = format!("example A, {words} words");
+        list.add(&name, demarshall(&a, &record, words));
+    }
     let (c, three) = (numbers::<u32>(C), counted(3, &[]));
-    for words in [0, 3, 15] {
+    for words in [0, 4, 16, 19] {
         let name = format!("{words} words for 4 rows");
         list.add(&name, demarshall(&c, &three, words));
         list.add(&name, parse_val(&c, &three, 0, words));
     }
-    for words in [17, 19, 20, 100] {
+    for words in [21, 24, 25, 100] {
         let name = format!("{words} words for 4 rows");
         list.add(&name, demarshall(&c, &three, words));
+    }
+    let most = counted(4_095, &[]);
+    for words in [16_384, 20_479, 20_480] {
+        let name = format!("{} words for 4,096 rows", grouped(words as u64));
+        list.add(&name, demarshall(&c, &most, words));
     }
     let constant = numbers::<u32>(B);
     list.add(
         "65,536 words for 1 row",
         parse_val(&constant, &[], 0, 65_536),
     );
-    list.add("3 words for 1 row", demarshall(&constant, &[], 3));
-    list.add("4 words for 1 row", demarshall(&constant, &[], 4));
+    for words in [4, 5, 9] {
+        let name = format!("{words} words for 1 row");
+        list.add(&name, demarshall(&constant, &[], words));
+    }
 }
 
 /// The index of a reading that does not start at byte 0.
 fn indices(list: &mut List) {
     let (a, b, u32s) = (numbers::<u32>(A), numbers::<u32>(B), numbers::<u32>(U32));
     let record = [&[0xff, 0xff], &hex(A_RECORD)[..]].concat();
-    list.add("offsets count from byte 0", parse_val(&a, &record, 2, 14));
+    list.add("offsets count from byte 0", parse_val(&a, &record, 2, 17));
     list.add(
         "9 at the value's start",
-        parse_val(&a, &record[..15], 2, 12),
+        parse_val(&a, &record[..15], 2, 3 * ROW_WORDS),
     );
     list.add("9 at the value's start", check_val(&a, &record[..15], 2));
     for (name, index) in [
@@ -465,16 +477,19 @@ fn indices(list: &mut List) {
         ("index 2^63", 1 << 63),
         ("index 2^32", 1 << 32),
     ] {
-        list.add(name, parse_val(&b, &[0], index, 4));
+        list.add(name, parse_val(&b, &[0], index, ROW_WORDS));
         list.add(name, check_val(&b, &[0], index));
     }
     let union = numbers::<u32>(UNI);
     let tag = [&[0xff], &counted(2, &[])[..]].concat();
-    list.add("10 at the value's start", parse_val(&union, &tag, 1, 8));
+    list.add(
+        "10 at the value's start",
+        parse_val(&union, &tag, 1, 2 * ROW_WORDS),
+    );
     list.add("10 at the value's start", check_val(&union, &tag, 1));
     list.add(
         "bytes behind the value are ignored",
-        parse_val(&b, &[0], 0, 4),
+        parse_val(&b, &[0], 0, ROW_WORDS),
     );
     list.add("bytes behind the value are ignored", check_val(&b, &[0], 0));
     for (name, index) in [
@@ -484,7 +499,7 @@ fn indices(list: &mut List) {
         ("a uint32 above the length", 6),
         ("a uint32 at 2^64-4, which wraps to 0", usize::MAX - 3),
     ] {
-        list.add(name, parse_val(&u32s, &[1, 2, 3, 4, 5], index, 4));
+        list.add(name, parse_val(&u32s, &[1, 2, 3, 4, 5], index, ROW_WORDS));
         list.add(name, check_val(&u32s, &[1, 2, 3, 4, 5], index));
     }
 }
@@ -517,9 +532,9 @@ fn before_the_values(list: &mut List) {
     let (union, array) = (numbers::<u32>(D), numbers::<u32>(BYT));
     list.add(
         "6 before 9",
-        demarshall(&array, &vec![0xff; MAX_BYTES + 1], 4),
+        demarshall(&array, &vec![0xff; MAX_BYTES + 1], ROW_WORDS),
     );
-    list.add("6 before 10", demarshall(&union, &long, 4));
+    list.add("6 before 10", demarshall(&union, &long, ROW_WORDS));
     list.add("6 before 9", check_val(&array, &long, MAX_BYTES));
     list.add("6 before 10", check_val(&union, &long, 1));
     let counted = counted(u64::MAX, &long);
@@ -527,7 +542,10 @@ fn before_the_values(list: &mut List) {
     list.add("6 before 9", check_whole(&array, &counted));
     list.add("6 before 10", check_whole(&union, &counted));
     list.add("7 before 8", parse_val(&b, &[], 1, 0));
-    list.add("7 before 9", parse_val(&numbers::<u32>(U32), &[], 1, 4));
+    list.add(
+        "7 before 9",
+        parse_val(&numbers::<u32>(U32), &[], 1, ROW_WORDS),
+    );
 }
 
 /// The longest records, and those a byte longer.
@@ -535,19 +553,25 @@ fn longest(list: &mut List) {
     let most = counted(MAX_BYTES as u64 - 8, &vec![0x5a; MAX_BYTES - 8]);
     let more = counted(MAX_BYTES as u64 - 7, &vec![0x5a; MAX_BYTES - 7]);
     let bytes = numbers::<u32>(BYT);
-    list.add("a record of 1,048,576 bytes", demarshall(&bytes, &most, 4));
-    list.add("a record of 1,048,577 bytes", demarshall(&bytes, &more, 4));
+    list.add(
+        "a record of 1,048,576 bytes",
+        demarshall(&bytes, &most, ROW_WORDS),
+    );
+    list.add(
+        "a record of 1,048,577 bytes",
+        demarshall(&bytes, &more, ROW_WORDS),
+    );
     list.add("a record of 1,048,576 bytes", check_whole(&bytes, &most));
     list.add("a record of 1,048,577 bytes", check_whole(&bytes, &more));
     let constant = numbers::<u32>(B);
     let (most, more) = (vec![0; MAX_BYTES], vec![0; MAX_BYTES + 1]);
     list.add(
         "the end of 1,048,576 bytes",
-        parse_val(&constant, &most, MAX_BYTES, 4),
+        parse_val(&constant, &most, MAX_BYTES, ROW_WORDS),
     );
     list.add(
         "the end of 1,048,577 bytes",
-        parse_val(&constant, &more, MAX_BYTES + 1, 4),
+        parse_val(&constant, &more, MAX_BYTES + 1, ROW_WORDS),
     );
     list.add(
         "the end of 1,048,576 bytes",
@@ -584,7 +608,7 @@ fn large_grammars(list: &mut List) {
         check_whole(&doubling(256, 8), &[0; 8]),
     );
     let most = table(&[[0, 0, 0]; 256], &[]);
-    list.add("example F, N 256", demarshall(&most, &[], 4));
+    list.add("example F, N 256", demarshall(&most, &[], ROW_WORDS));
 }
 
 /// The deepest grammars.

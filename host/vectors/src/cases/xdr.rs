@@ -7,6 +7,7 @@ use compare::{chain, leaf, Case, Value};
 
 use super::borders;
 use super::long::{fields_of_each_kind, tuple};
+use super::sized::{sized, Bare};
 use super::writing::{self, value, A_ROWS};
 use super::{hex, numbers, table, Cases, List, MAX_BYTES, ROW_WORDS};
 use super::{A, A64, ARR, A_RECORD, B, BYT, C, D, E, PAIR, TUP0, UNI};
@@ -15,11 +16,11 @@ use super::{I32, I64, REFUSED_GRAMMARS, U32, U64};
 /// A tuple of an int32, a byte array and a uint32 array, its record, its rows and its XDR.
 const T: &str = "4, 4 0 3, 9 0 0, 5 0 0, 6 0 0, 3, 1 2 3";
 const T_RECORD: &str = "FFFFFFFF 0200000000000000 4142 0100000000000000 78563412";
-const T_ROWS: &str = "4 4 3 0, 9 1 4294967295 0, 5 1 2 12, 6 1 1 22";
+const T_ROWS: &str = "4 4 3 0 26, 9 1 4294967295 0 4, 5 1 2 12 10, 6 1 1 22 12";
 const T_XDR: &str = "FFFFFFFF 00000002 41420000 00000001 12345678";
 /// The file of RFC 4506, section 7: its grammar, its rows, its store and its XDR.
 const FILE: &str = "4, 4 0 4, 8 4 3, 0 0 0, 5 0 0, 7, 3 1 3 3 2 3 3";
-const FILE_ROWS: &str = "4 6 4 0, 5 1 9 0, 8 2 2 0, 5 1 4 9, 5 1 4 13, 5 1 6 17";
+const FILE_ROWS: &str = "4 6 4 0 63, 5 1 9 0 17, 8 2 2 0 20, 5 1 4 9 12, 5 1 4 13 12, 5 1 6 17 14";
 const FILE_STORE: &[u8] = b"sillyproglispjohn(quit)";
 const FILE_XDR: &str = "00000009 73696C6C 7970726F 67000000 00000002 00000004 6C697370 00000004
     6A6F686E 00000006 28717569 74290000";
@@ -47,7 +48,14 @@ fn export(list: &mut List, name: &str, value: &Value, length: usize, index: usiz
 }
 
 /// Adds the import with so many words and so many bytes of a store lent.
-fn import(list: &mut List, name: &str, grammar: &[u32], record: &[u8], words: usize, store: usize) {
+fn import_words(
+    list: &mut List,
+    name: &str,
+    grammar: &[u32],
+    record: &[u8],
+    words: usize,
+    store: usize,
+) {
     let case = Case::ImportXdr {
         grammar: grammar.to_vec(),
         record: record.to_vec(),
@@ -57,16 +65,21 @@ fn import(list: &mut List, name: &str, grammar: &[u32], record: &[u8], words: us
     list.add(name, case);
 }
 
+/// Adds the import with so many rows and so many bytes of a store lent.
+fn import(list: &mut List, name: &str, grammar: &[u32], record: &[u8], rows: usize, store: usize) {
+    import_words(list, name, grammar, record, ROW_WORDS * rows, store);
+}
+
 /// Adds the import of XDR in hexadecimal under a grammar in words.
 fn import_text(
     list: &mut List,
     name: &str,
     grammar: &str,
     record: &str,
-    words: usize,
+    rows: usize,
     store: usize,
 ) {
-    import(list, name, &numbers(grammar), &hex(record), words, store);
+    import(list, name, &numbers(grammar), &hex(record), rows, store);
 }
 
 /// Parts of names of writings that are about the record's size or about room, which have cases of their
@@ -119,7 +132,7 @@ fn examples_exported(list: &mut List) {
     let file = value(FILE, FILE_ROWS, FILE_STORE);
     export(list, "the file of RFC 4506", &file, 48, 0);
     export(list, "the file of RFC 4506, 47 bytes", &file, 47, 0);
-    let constant = value(B, "0 1 0 0", &[]);
+    let constant = value(B, "0 1 0 0 0", &[]);
     export(list, "no bytes at the length", &constant, 5, 5);
     export(list, "no bytes above the length", &constant, 5, 6);
     export(
@@ -135,7 +148,7 @@ fn examples_exported(list: &mut List) {
 fn padding_exported(list: &mut List) {
     let store: Vec<u8> = (0x41..0x61).collect();
     for count in 0..=9 {
-        let bytes = value(BYT, &format!("5 1 {count} 1"), &store);
+        let bytes = value(BYT, &format!("5 1 {count} 1 {}", 8 + count), &store);
         let size = 4 + (count + 3) / 4 * 4;
         export(list, &format!("{count} bytes"), &bytes, size, 0);
         export(
@@ -147,9 +160,9 @@ fn padding_exported(list: &mut List) {
         );
         let name = format!("{count} bytes, a byte of room is missing");
         export(list, &name, &bytes, size - 1, 0);
-        let pair = format!("4 3 2 0, 5 1 {count} 3, 5 1 2 20");
+        let pair = tuple(&[[5, 1, count as u64, 3], [5, 1, 2, 20]], &store);
         let name = format!("{count} bytes and 2 behind them");
-        export(list, &name, &value(BYT2, &pair, &store), size + 8, 0);
+        export(list, &name, &pair, size + 8, 0);
         for (kind, what, width) in [(6, "uint32", 4), (7, "uint64", 8)] {
             if count <= 3 {
                 let array =
@@ -164,7 +177,7 @@ fn padding_exported(list: &mut List) {
 /// A tuple of a byte array of so many bytes and of 40 values of a kind, whose child is a uint32 or, of
 /// an array, none.
 fn behind_bytes(kind: u32, length: u64) -> Value {
-    let (count, children): (u32, &[[u64; 4]]) = match kind {
+    let (count, children): (u32, &[Bare]) = match kind {
         3 => (1, &[]),
         4 | 8 => (1, &[[1, 1, 7, 0]]),
         _ => (0, &[]),
@@ -191,6 +204,13 @@ fn behind_bytes(kind: u32, length: u64) -> Value {
     borders::value(table(&nodes, &[1, 2, 3, 4]), &rows, &vec![0; MAX_BYTES])
 }
 
+/// An array of 4,095 byte arrays of so many bytes, which share a store.
+fn byte_arrays(length: u64, store: &[u8]) -> Value {
+    let mut rows = vec![[3, 4_096, 4_095, 0]];
+    rows.resize(4_096, [5, 1, length, 0]);
+    borders::value(numbers(BYTE_ARRAYS), &rows, store)
+}
+
 /// The greatest sizes, 1,048,576 bytes and 4 more, of arrays of each kind and behind values of each
 /// kind. Without an output 17 says that there is no 16.
 fn sizes_exported(list: &mut List) {
@@ -198,14 +218,14 @@ fn sizes_exported(list: &mut List) {
     for length in [most - 8, most - 7, most - 4, most - 3, most] {
         let bytes = value(
             BYT,
-            &format!("5 1 {length} 0"),
+            &format!("5 1 {length} 0 {}", 8 + length),
             &vec![0x5a; length as usize],
         );
         export(list, &format!("{length} bytes, no output"), &bytes, 0, 0);
     }
     let bytes = value(
         BYT,
-        &format!("5 1 {} 0", most - 5),
+        &format!("5 1 {} 0 {}", most - 5, most + 3),
         &vec![0x5a; MAX_BYTES - 5],
     );
     export(list, "1,048,571 bytes", &bytes, MAX_BYTES, 0);
@@ -240,21 +260,19 @@ fn sizes_exported(list: &mut List) {
         (252, "1,048,324 bytes of XDR"),
         (253, "1,064,704 bytes of XDR"),
     ] {
-        let rows = format!("3 4096 4095 0{}", format!(", 5 1 {length} 0").repeat(4_095));
-        let arrays = value(BYTE_ARRAYS, &rows, &vec![0x5a; length]);
+        let arrays = byte_arrays(length as u64, &vec![0x5a; length]);
         let name = format!("4,095 arrays of {length} bytes that share a store, {what}");
         export(list, &name, &arrays, 1_048_323, 0);
     }
-    let rows = format!("3 4096 4095 0{}", ", 5 1 1048576 0".repeat(4_095));
-    let greatest = value(BYTE_ARRAYS, &rows, &vec![0; MAX_BYTES]);
+    let greatest = byte_arrays(most, &vec![0; MAX_BYTES]);
     export(list, "the greatest size", &greatest, 0, 0);
-    let mut other = value(U32, "5 1 1048573 0", &vec![0; MAX_BYTES - 3]);
+    let mut other = value(U32, "5 1 1048573 0 1048581", &vec![0; MAX_BYTES - 3]);
     export(list, "15 before 16 of XDR", &other, 0, 0);
     other.grammar = numbers(BYT);
     export(list, "16 of XDR before 17", &other, 9, usize::MAX);
     let tagged = Value {
         grammar: many_cases(),
-        rows: vec![8, 2, 700, 0, 1, 1, 7, 0],
+        rows: sized(&[[8, 2, 700, 0], [1, 1, 7, 0]]),
         n: 2,
         store: vec![],
     };
@@ -330,45 +348,37 @@ const IMPORTED: [(&str, &str, &str, usize, usize); 29] = [
 /// and a byte less, and without its last byte, and with one more.
 fn imported(list: &mut List) {
     for (name, grammar, record, rows, store) in IMPORTED {
-        let words = ROW_WORDS * rows;
-        import_text(list, name, grammar, record, words, store);
+        import_text(list, name, grammar, record, rows, store);
         let with = |what: &str| format!("{name}, {what}");
         let more = with("a row and three bytes of store more");
-        import_text(list, &more, grammar, record, words + 4, store + 3);
-        import_text(
+        import_text(list, &more, grammar, record, rows + 1, store + 3);
+        let bytes = hex(record);
+        let table = numbers::<u32>(grammar);
+        import_words(
             list,
             &with("a word less"),
-            grammar,
-            record,
-            words - 1,
+            &table,
+            &bytes,
+            ROW_WORDS * rows - 1,
             store,
         );
         if rows > 1 {
-            import_text(list, &with("a row less"), grammar, record, words - 4, store);
+            import_text(list, &with("a row less"), grammar, record, rows - 1, store);
         }
         if store > 0 {
             let less = with("a byte of store less");
-            import_text(list, &less, grammar, record, words, store - 1);
+            import_text(list, &less, grammar, record, rows, store - 1);
             if store > 1 {
-                import_text(list, &with("no store"), grammar, record, words, 0);
+                import_text(list, &with("no store"), grammar, record, rows, 0);
             }
         }
-        let bytes = hex(record);
-        let words_and_grammar = numbers::<u32>(grammar);
         if let Some((_, cut)) = bytes.split_last() {
-            import(
-                list,
-                &with("cut by a byte"),
-                &words_and_grammar,
-                cut,
-                words,
-                store,
-            );
+            import(list, &with("cut by a byte"), &table, cut, rows, store);
         }
         for (what, behind) in [("a byte behind", 1), ("4 bytes behind", 4)] {
             let longer = [&bytes[..], &vec![0; behind]].concat();
             let name = with(what);
-            import(list, &name, &words_and_grammar, &longer, words, store);
+            import(list, &name, &table, &longer, rows, store);
         }
     }
 }
@@ -392,293 +402,287 @@ fn padding_imported(list: &mut List) {
                     let mut record = both.clone();
                     record[at] = other;
                     let name = format!("two arrays of {count} bytes, byte {at} set to {other}");
-                    import(list, &name, &grammar, &record, 12, 2 * count);
+                    import(list, &name, &grammar, &record, 3, 2 * count);
                     if other == 1 {
                         let short = count * (second + 1) - 1;
                         let what = format!("{name}, a store of {short} bytes");
-                        import(list, &what, &grammar, &record, 12, short);
+                        import(list, &what, &grammar, &record, 3, short);
                         let what = format!("{name}, cut before the array's end");
-                        import(list, &what, &grammar, &record[..end - 1], 12, 0);
+                        import(list, &what, &grammar, &record[..end - 1], 3, 0);
                     }
                 }
             }
         }
     }
     // What looks like padding behind a multiple of four, or behind numbers, is another value.
-    for (name, grammar, record, words, store) in [
+    for (name, grammar, record, rows, store) in [
         (
             "a byte array behind 4 bytes",
             BYT2,
             "00000004 61626364 00000001 65000000",
-            12,
+            3,
             5,
         ),
         (
             "4 bytes left over behind 4 bytes",
             BYT,
             "00000004 61626364 00000000",
-            4,
+            1,
             9,
         ),
         (
             "4 bytes left over behind uint32 elements",
             E,
             "00000001 01020304 00000000",
-            4,
+            1,
             9,
         ),
         (
             "4 bytes left over behind no bytes",
             BYT,
             "00000000 00000000",
-            4,
+            1,
             9,
         ),
         (
             "elements that are zero",
             BYT2,
             "00000003 00000000 00000001 00000000",
-            12,
+            3,
             4,
         ),
-        ("padding at the end of a number", U32, "00000001 00", 4, 0),
+        ("padding at the end of a number", U32, "00000001 00", 1, 0),
     ] {
-        import_text(list, name, grammar, record, words, store);
+        import_text(list, name, grammar, record, rows, store);
     }
 }
 
-/// Refused imports: name, grammar, XDR, words, bytes of a store.
+/// Refused imports: name, grammar, XDR, rows, bytes of a store.
 const REFUSED: [(&str, &str, &str, usize, usize); 51] = [
     (
         "example T, byte 10 set",
         T,
         "FFFFFFFF 00000002 41420100 00000001 12345678",
-        16,
+        4,
         8,
     ),
     (
         "example T, byte 11 set",
         T,
         "FFFFFFFF 00000002 41420001 00000001 12345678",
-        16,
+        4,
         8,
     ),
     (
         "17 before 23",
         T,
         "FFFFFFFF 00000002 41420001 00000001 12345678",
-        16,
+        4,
         1,
     ),
-    ("9 before 17", T, "FFFFFFFF 00000002 414200", 16, 1),
-    ("9 before 23", T, "FFFFFFFF 00000002 414201", 16, 8),
-    ("9 before 17 and 23", T, "FFFFFFFF 00000002 414201", 16, 0),
+    ("9 before 17", T, "FFFFFFFF 00000002 414200", 4, 1),
+    ("9 before 23", T, "FFFFFFFF 00000002 414201", 4, 8),
+    ("9 before 17 and 23", T, "FFFFFFFF 00000002 414201", 4, 0),
     (
         "23 before 8 of the next value",
         T,
         "FFFFFFFF 00000002 41420001 00000001 12345678",
-        12,
+        3,
         8,
     ),
     (
         "23 before 9 of the next value",
         T,
         "FFFFFFFF 00000002 41420001",
-        16,
+        4,
         8,
     ),
     (
         "17 before 8 of the next value",
         T,
         "FFFFFFFF 00000002 41420000 00000001 12345678",
-        12,
+        3,
         1,
     ),
     (
         "17 before 9 of the next value",
         T,
         "FFFFFFFF 00000002 41420000",
-        16,
+        4,
         1,
     ),
     (
         "8 before 9, 17 and 23",
         T,
         "FFFFFFFF 00000002 41420001",
-        8,
+        2,
         0,
     ),
-    ("17 before 11", BYT, "00000001 61000000 00", 4, 0),
-    ("23 before 11", BYT, "00000001 61000001 00", 4, 1),
-    ("8 before 11", UNI1, "00000000 00", 4, 0),
-    ("10 before 11", UNI1, "00000001 00", 8, 0),
-    ("10 before 8 of the case value", UNI1, "00000001", 4, 0),
+    ("17 before 11", BYT, "00000001 61000000 00", 1, 0),
+    ("23 before 11", BYT, "00000001 61000001 00", 1, 1),
+    ("8 before 11", UNI1, "00000000 00", 1, 0),
+    ("10 before 11", UNI1, "00000001 00", 2, 0),
+    ("10 before 8 of the case value", UNI1, "00000001", 1, 0),
     (
         "10 before 17",
         "2, 8 0 1, 5 0 0, 1, 1",
         "00000001 00000001 61000000",
-        8,
+        2,
         0,
     ),
     (
         "17 of the first array before 23 of the second",
         BYT2,
         "00000002 61620000 00000001 63000001",
-        12,
+        3,
         1,
     ),
     (
         "23 of the first array before 17 of the second",
         BYT2,
         "00000002 61620100 00000001 63000000",
-        12,
+        3,
         2,
     ),
     (
         "17 of the second array",
         BYT2,
         "00000002 61620000 00000001 63000000",
-        12,
+        3,
         2,
     ),
     (
         "9 of the second array before its 17",
         BYT2,
         "00000002 61620000 00000001 6300",
-        12,
+        3,
         2,
     ),
     (
         "17 of the first array before 9 of the second",
         BYT2,
         "00000002 61620000 00000001 6300",
-        12,
+        3,
         1,
     ),
     (
         "17 of the second array before its 23",
         BYT2,
         "00000002 61620000 00000001 63010000",
-        12,
+        3,
         2,
     ),
     (
         "17 before 10 of the next value",
         "3, 4 0 2, 5 0 0, 8 0 0, 2, 1 2",
         "00000001 61000000 00000000",
-        12,
+        3,
         0,
     ),
     (
         "23 before 10 of the next value",
         "3, 4 0 2, 5 0 0, 8 0 0, 2, 1 2",
         "00000001 61000001 00000000",
-        12,
+        3,
         1,
     ),
     (
         "8 of a count before 17",
         "3, 4 0 2, 3 2 1, 5 0 0, 3, 1 2 2",
         "00000009 00000001",
-        12,
+        3,
         0,
     ),
     (
         "8 of the count before an element's 9",
         ARR,
         "00000002",
-        8,
+        2,
         0,
     ),
-    ("9 of element 0", ARR, "00000002", 12, 0),
-    ("9 of the count before its 8", ARR, "FFFFFF", 4, 0),
-    ("9 of the tag before its 10", D, "FFFFFF", 4, 0),
-    ("a union without cases", D, "00000000", 4, 0),
+    ("9 of element 0", ARR, "00000002", 3, 0),
+    ("9 of the count before its 8", ARR, "FFFFFF", 1, 0),
+    ("9 of the tag before its 10", D, "FFFFFF", 1, 0),
+    ("a union without cases", D, "00000000", 1, 0),
     ("no row, no bytes", U32, "", 0, 0),
-    ("tag at the case count", UNI, "00000002 00000000", 8, 0),
-    ("tag least byte first", UNI, "01000000 00000009", 8, 0),
-    ("count least byte first", BYT, "01000000 61000000", 4, 8),
-    ("a tag of 8 bytes", UNI, "00000000 00000001 00000009", 8, 0),
+    ("tag at the case count", UNI, "00000002 00000000", 2, 0),
+    ("tag least byte first", UNI, "01000000 00000009", 2, 0),
+    ("count least byte first", BYT, "01000000 61000000", 1, 8),
+    ("a tag of 8 bytes", UNI, "00000000 00000001 00000009", 2, 0),
     (
         "a count of 8 bytes",
         BYT,
         "00000000 00000001 61000000",
-        4,
+        1,
         8,
     ),
-    ("2^29 uint64 elements", A64, "20000000", 4, 0),
-    ("2^30 uint32 elements", E, "40000000", 4, 0),
+    ("2^29 uint64 elements", A64, "20000000", 1, 0),
+    ("2^30 uint32 elements", E, "40000000", 1, 0),
     ("8 before 10", D, "00000000", 0, 0),
     ("8 before 17", BYT, "00000001 61000000", 0, 0),
     ("8 before 23", BYT, "00000001 61000001", 0, 1),
-    ("8 of a count before 11", C, "00000009 00", 4, 0),
-    ("10 before 9 of the case value", UNI, "00000002", 8, 0),
+    ("8 of a count before 11", C, "00000009 00", 1, 0),
+    ("10 before 9 of the case value", UNI, "00000002", 2, 0),
     (
         "10 before 23 of the case value",
         "2, 8 0 1, 5 0 0, 1, 1",
         "00000001 00000001 61000001",
-        8,
+        2,
         1,
     ),
-    ("9 before 8 of the next value", T, "FFFFFF", 8, 0),
-    ("2^32-1 bytes", BYT, "FFFFFFFF", 4, 0),
+    ("9 before 8 of the next value", T, "FFFFFF", 2, 0),
+    ("2^32-1 bytes", BYT, "FFFFFFFF", 1, 0),
     (
         "2^32-1 bytes of which 4 are there",
         BYT,
         "FFFFFFFF 61626364",
-        4,
+        1,
         9,
     ),
     (
         "2^32-4 bytes of which 4 are there",
         BYT,
         "FFFFFFFC 61626364",
-        4,
+        1,
         9,
     ),
-    ("2^32-1 uint32 elements", E, "FFFFFFFF 61626364", 4, 9),
+    ("2^32-1 uint32 elements", E, "FFFFFFFF 61626364", 1, 9),
     (
         "2^32-1 uint64 elements",
         A64,
         "FFFFFFFF 6162636465666768",
-        4,
+        1,
         9,
     ),
 ];
 
 fn refused(list: &mut List) {
-    for (name, grammar, record, words, store) in REFUSED {
-        import_text(list, name, grammar, record, words, store);
+    for (name, grammar, record, rows, store) in REFUSED {
+        import_text(list, name, grammar, record, rows, store);
     }
     let (t, xdr) = (numbers::<u32>(T), hex(T_XDR));
     for length in 0..xdr.len() {
         let name = format!("the first {length} bytes of example T");
-        import(list, &name, &t, &xdr[..length], 16, 8);
+        import(list, &name, &t, &xdr[..length], 4, 8);
     }
-    for words in (0..16).step_by(3) {
-        import(
-            list,
-            &format!("example T, {words} words"),
-            &t,
-            &xdr,
-            words,
-            8,
-        );
+    for words in (0..20).step_by(3).chain([4, 14, 16, 19]) {
+        let name = format!("example T, {words} words");
+        import_words(list, &name, &t, &xdr, words, 8);
     }
     for store in 1..5 {
         let name = format!("example T, a store of {store} bytes");
-        import(list, &name, &t, &xdr, 16, store);
+        import(list, &name, &t, &xdr, 4, store);
     }
     let (file, xdr) = (numbers::<u32>(FILE), hex(FILE_XDR));
     for at in [13, 14, 15, 46, 47] {
         let mut other = xdr.clone();
         other[at] = 1;
         let name = format!("the file of RFC 4506, byte {at} of padding set");
-        import(list, &name, &file, &other, 24, 23);
+        import(list, &name, &file, &other, 6, 23);
     }
     for store in [8, 12, 16] {
         let name = format!("the file of RFC 4506, a store of {store} bytes");
-        import(list, &name, &file, &xdr, 24, store);
+        import(list, &name, &file, &xdr, 6, store);
     }
 }
 
@@ -693,7 +697,7 @@ fn long_slices(list: &mut List) {
             &format!("{number} before 6 of the record"),
             &grammar,
             &long,
-            4,
+            1,
             0,
         );
         import(
@@ -701,7 +705,7 @@ fn long_slices(list: &mut List) {
             &format!("{number} before 6 of the store"),
             &grammar,
             &[],
-            4,
+            1,
             MAX_BYTES + 1,
         );
         import(list, &format!("{number} before 8"), &grammar, &[], 0, 0);
@@ -710,23 +714,23 @@ fn long_slices(list: &mut List) {
             &format!("{number}, nothing else"),
             &grammar,
             &[],
-            4,
+            1,
             0,
         );
     }
     let (b, byt) = (numbers::<u32>(B), numbers::<u32>(BYT));
-    import(list, "a record of 1,048,576 bytes, 11", &b, &most, 4, 0);
-    import(list, "a record of 1,048,577 bytes", &b, &long, 4, 0);
-    import(list, "a store of 1,048,576 bytes", &b, &[], 4, MAX_BYTES);
+    import(list, "a record of 1,048,576 bytes, 11", &b, &most, 1, 0);
+    import(list, "a record of 1,048,577 bytes", &b, &long, 1, 0);
+    import(list, "a store of 1,048,576 bytes", &b, &[], 1, MAX_BYTES);
     import(
         list,
         "a store of 1,048,577 bytes",
         &b,
         &[],
-        4,
+        1,
         MAX_BYTES + 1,
     );
-    import(list, "both of 1,048,577 bytes", &b, &long, 4, MAX_BYTES + 1);
+    import(list, "both of 1,048,577 bytes", &b, &long, 1, MAX_BYTES + 1);
     import(list, "6 of the record before 8", &b, &long, 0, 0);
     for (name, grammar, start) in [
         ("6 of the record before 9", BYT, "FFFFFFFF"),
@@ -737,19 +741,19 @@ fn long_slices(list: &mut List) {
         let mut record = hex(start);
         record.resize(MAX_BYTES + 1, 0);
         let store = usize::from(name.ends_with("23"));
-        import(list, name, &numbers::<u32>(grammar), &record, 4, store);
+        import(list, name, &numbers::<u32>(grammar), &record, 1, store);
     }
     import(list, "6 of the store before 8", &b, &[], 0, MAX_BYTES + 1);
-    import(list, "6 of the store before 9", &byt, &[], 4, MAX_BYTES + 1);
+    import(list, "6 of the store before 9", &byt, &[], 1, MAX_BYTES + 1);
     import(
         list,
         "6 of the store before 10",
         &numbers::<u32>(D),
         &[0; 4],
-        4,
+        1,
         MAX_BYTES + 1,
     );
-    import(list, "6 of the store before 11", &b, &[0], 4, MAX_BYTES + 1);
+    import(list, "6 of the store before 11", &b, &[0], 1, MAX_BYTES + 1);
     let array = |count: usize, padding: u8| {
         let mut bytes = (count as u32).to_be_bytes().to_vec();
         bytes.resize(4 + count, 0x61);
@@ -762,7 +766,7 @@ fn long_slices(list: &mut List) {
         "6 of the store before 23",
         &byt,
         &bad,
-        4,
+        1,
         MAX_BYTES + 1,
     );
     for (count, store) in [
@@ -774,53 +778,48 @@ fn long_slices(list: &mut List) {
         (MAX_BYTES - 7, MAX_BYTES - 8),
     ] {
         let name = format!("{count} bytes into a store of {store}");
-        import(list, &name, &byt, &array(count, 0), 4, store);
+        import(list, &name, &byt, &array(count, 0), 1, store);
     }
     let name = "1,048,571 bytes, the padding is not zero";
-    import(list, name, &byt, &array(MAX_BYTES - 5, 1), 4, MAX_BYTES);
+    import(list, name, &byt, &array(MAX_BYTES - 5, 1), 1, MAX_BYTES);
     let name = "1,048,571 bytes, the padding is missing";
     let cut = array(MAX_BYTES - 5, 0);
-    import(list, name, &byt, &cut[..MAX_BYTES - 1], 4, MAX_BYTES);
+    import(list, name, &byt, &cut[..MAX_BYTES - 1], 1, MAX_BYTES);
     for (kind, what, width) in [(6, "uint32", 4), (7, "uint64", 8)] {
         let count = (MAX_BYTES - 4) / width;
         let mut bytes = (count as u32).to_be_bytes().to_vec();
         bytes.resize(4 + count * width, 0x5a);
         let name = format!("{count} {what} elements");
-        import(list, &name, &leaf(kind), &bytes, 4, count * width);
+        import(list, &name, &leaf(kind), &bytes, 1, count * width);
         let name = format!("{count} {what} elements, a byte of store less");
-        import(list, &name, &leaf(kind), &bytes, 4, count * width - 1);
+        import(list, &name, &leaf(kind), &bytes, 1, count * width - 1);
         bytes[..4].copy_from_slice(&(count as u32 + 1).to_be_bytes());
         let name = format!("{} {what} elements, the last is missing", count + 1);
-        import(list, &name, &leaf(kind), &bytes, 4, MAX_BYTES);
+        import(list, &name, &leaf(kind), &bytes, 1, MAX_BYTES);
     }
 }
 
 /// The most rows, and one more; the deepest value.
 fn rows_imported(list: &mut List) {
     for (count, words) in [
-        (4_095u32, 16_384),
-        (4_095, 16_383),
-        (4_095, 20_000),
-        (4_096, 16_384),
-        (4_096, 20_000),
-        (u32::MAX, 16_384),
-        (256, 8),
-        (65_536, 8),
-        (1 << 31, 8),
-        (257, 8),
-        (65_537, 8),
-        ((1 << 31) + 1, 8),
-        (300, 1_204),
+        (4_095u32, 20_480),
+        (4_095, 20_479),
+        (4_095, 16_384),
+        (4_095, 25_000),
+        (4_096, 20_480),
+        (4_096, 25_000),
+        (u32::MAX, 20_480),
+        (256, 10),
+        (65_536, 10),
+        (1 << 31, 10),
+        (257, 10),
+        (65_537, 10),
+        ((1 << 31) + 1, 10),
+        (300, 1_505),
     ] {
         let name = format!("{count} constants, {words} words");
-        import(
-            list,
-            &name,
-            &numbers::<u32>(C),
-            &count.to_be_bytes(),
-            words,
-            0,
-        );
+        let record = count.to_be_bytes();
+        import_words(list, &name, &numbers::<u32>(C), &record, words, 0);
     }
     let grammar = numbers::<u32>(BYTE_ARRAYS);
     let empty = [&4_095u32.to_be_bytes()[..], &vec![0; 4 * 4_095]].concat();
@@ -829,7 +828,7 @@ fn rows_imported(list: &mut List) {
         "4,095 arrays without elements",
         &grammar,
         &empty,
-        16_384,
+        4_096,
         0,
     );
     let arrays = [
@@ -838,16 +837,16 @@ fn rows_imported(list: &mut List) {
     ]
     .concat();
     let name = |what: &str| format!("300 arrays of a byte{what}");
-    import(list, &name(""), &grammar, &arrays, 1_204, 300);
+    import(list, &name(""), &grammar, &arrays, 301, 300);
     import(
         list,
         &name(", a byte of store less"),
         &grammar,
         &arrays,
-        1_204,
+        301,
         299,
     );
-    import(list, &name(", a row less"), &grammar, &arrays, 1_200, 300);
+    import(list, &name(", a row less"), &grammar, &arrays, 300, 300);
     for (kind, what) in [(3, "arrays"), (8, "cases")] {
         let head = if kind == 3 { [0, 0, 0, 1] } else { [0; 4] };
         let record = [&head.repeat(255)[..], &[0, 0, 7, 2]].concat();
@@ -856,18 +855,18 @@ fn rows_imported(list: &mut List) {
             &format!("255 levels of {what}"),
             &chain(kind),
             &record,
-            1_024,
+            256,
             0,
         );
         let name = format!("255 levels of {what}, a row less");
-        import(list, &name, &chain(kind), &record, 1_020, 0);
+        import(list, &name, &chain(kind), &record, 255, 0);
     }
     import(
         list,
         "255 levels of tuples",
         &chain(4),
         &[0, 0, 7, 2],
-        1_024,
+        256,
         0,
     );
 }
@@ -875,24 +874,24 @@ fn rows_imported(list: &mut List) {
 /// Counts and tags whose low bits are those of a value that is there.
 fn magnitudes(list: &mut List) {
     for more in [1u32 << 8, 1 << 16, 1 << 24, 1 << 31] {
-        for (what, grammar, low, behind, words, store) in [
-            ("bytes", BYT, 1, "61000000", 4, 9),
-            ("uint32 elements", E, 1, "01020304", 4, 9),
-            ("uint64 elements", A64, 1, "0102030405060708", 4, 9),
-            ("uint32 values", ARR, 1, "01020304", 8, 0),
-            ("as tag", UNI, 1, "00000009", 8, 0),
-            ("as tag of a constant", UNI, 0, "", 8, 0),
+        for (what, grammar, low, behind, rows, store) in [
+            ("bytes", BYT, 1, "61000000", 1, 9),
+            ("uint32 elements", E, 1, "01020304", 1, 9),
+            ("uint64 elements", A64, 1, "0102030405060708", 1, 9),
+            ("uint32 values", ARR, 1, "01020304", 2, 0),
+            ("as tag", UNI, 1, "00000009", 2, 0),
+            ("as tag of a constant", UNI, 0, "", 2, 0),
         ] {
             let record = [&(more + low).to_be_bytes()[..], &hex(behind)].concat();
             let name = format!("{more} + {low} {what}");
-            import(list, &name, &numbers::<u32>(grammar), &record, words, store);
+            import(list, &name, &numbers::<u32>(grammar), &record, rows, store);
         }
     }
     for tag in [0u32, 1, 99, 100, 255, 256, 700, 1_000, 1_023, 1_024, 1_100] {
         let record = [&tag.to_be_bytes()[..], &[0, 0, 0, 7]].concat();
         let end = if tag % 100 == 0 { 8 } else { 4 };
         let name = format!("tag {tag} of 1,024");
-        import(list, &name, &many_cases(), &record[..end], 8, 0);
+        import(list, &name, &many_cases(), &record[..end], 2, 0);
     }
     for count in [200usize, 300, 40_000, 70_000] {
         let mut record = (count as u32).to_be_bytes().to_vec();
@@ -903,13 +902,13 @@ fn magnitudes(list: &mut List) {
         let grammar = table(&nodes, &[1, 1, 2, 3]);
         let name = |what: &str| format!("{count} bytes, 3 bytes, 2 uint64 and a number, {what}");
         let store = count + 3 + 16;
-        import(list, &name("accepted"), &grammar, &record, 20, store + 2);
+        import(list, &name("accepted"), &grammar, &record, 5, store + 2);
         import(
             list,
             &name("a byte of store less"),
             &grammar,
             &record,
-            20,
+            5,
             store - 1,
         );
         import(
@@ -917,7 +916,7 @@ fn magnitudes(list: &mut List) {
             &name("no store for 3 bytes"),
             &grammar,
             &record,
-            20,
+            5,
             count + 2,
         );
         import(
@@ -925,15 +924,15 @@ fn magnitudes(list: &mut List) {
             &name("cut by a byte"),
             &grammar,
             &record[..record.len() - 1],
-            20,
+            5,
             store,
         );
         let mut other = record.clone();
         other[count + 11] = 1;
-        import(list, &name("padding set"), &grammar, &other, 20, store);
+        import(list, &name("padding set"), &grammar, &other, 5, store);
         let longer = [&record[..], &[0]].concat();
-        import(list, &name("a byte behind"), &grammar, &longer, 20, store);
-        import(list, &name("a row less"), &grammar, &record, 16, store);
+        import(list, &name("a byte behind"), &grammar, &longer, 5, store);
+        import(list, &name("a row less"), &grammar, &record, 4, store);
     }
 }
 
@@ -959,26 +958,25 @@ fn far_values(list: &mut List, bytes: usize) {
         let count = u32::from(matches!(kind, 3 | 4 | 8));
         let nodes = [[4, 0, 2], [5, 0, 0], [kind, 2 * count, count], [1, 0, 0]];
         let grammar = table(&nodes, &[1, 2, 3]);
-        let (record, words) = ([&front[..], &hex(behind)].concat(), 4 * (rows + 2));
+        let (record, rows) = ([&front[..], &hex(behind)].concat(), rows + 2);
         let store = bytes + used;
         let name = |what: &str| format!("kind {kind} behind {bytes} bytes, {what}");
-        import(list, &name("accepted"), &grammar, &record, words, store);
-        let row_less = words - 4;
+        import(list, &name("accepted"), &grammar, &record, rows, store);
         import(
             list,
             &name("a row less"),
             &grammar,
             &record,
-            row_less,
+            rows - 1,
             store,
         );
         if kind > 0 {
             let cut = &record[..record.len() - 1];
-            import(list, &name("cut by a byte"), &grammar, cut, words, store);
+            import(list, &name("cut by a byte"), &grammar, cut, rows, store);
         }
         if used > 0 {
             let name = name("a byte of store less");
-            import(list, &name, &grammar, &record, words, store - 1);
+            import(list, &name, &grammar, &record, rows, store - 1);
         }
         let mut other = record.clone();
         match kind {
@@ -986,7 +984,7 @@ fn far_values(list: &mut List, bytes: usize) {
             5 => other[bytes + 11] = 1,
             _ => continue,
         }
-        import(list, &name("another byte"), &grammar, &other, words, store);
+        import(list, &name("another byte"), &grammar, &other, rows, store);
     }
     for (kind, width) in [(5, 1), (6, 4), (7, 8)] {
         let grammar = table(&[[4, 0, 2], [kind, 0, 0], [1, 0, 0]], &[1, 2]);
@@ -994,7 +992,7 @@ fn far_values(list: &mut List, bytes: usize) {
         record.resize(4 + bytes, 0x62);
         record.extend([0, 0, 7, 2]);
         let name = format!("a uint32 behind {bytes} bytes of kind {kind}");
-        import(list, &name, &grammar, &record, 12, bytes);
+        import(list, &name, &grammar, &record, 3, bytes);
     }
 }
 
@@ -1006,7 +1004,7 @@ fn numbers_before_bytes(list: &mut List) {
             let mut record = [&vec![7; width][..], &bytes.to_be_bytes()].concat();
             record.resize(width + 4 + bytes as usize, 0x61);
             let name = format!("kind {kind} before {bytes} bytes");
-            import(list, &name, &grammar, &record, 12, bytes as usize);
+            import(list, &name, &grammar, &record, 3, bytes as usize);
         }
     }
 }
@@ -1016,34 +1014,27 @@ fn numbers_before_bytes(list: &mut List) {
 fn each_kind(list: &mut List) {
     let fields = fields_of_each_kind();
     let record = xdr(&fields);
-    let words = ROW_WORDS * fields.n;
+    let rows = fields.n;
     let used = 12 + 24 + 11;
     import(
         list,
         "fields of each kind",
         &fields.grammar,
         &record,
-        words,
+        rows,
         used,
     );
     for length in 0..record.len() {
         let name = format!("the first {length} bytes of fields of each kind");
-        import(list, &name, &fields.grammar, &record[..length], words, used);
+        import(list, &name, &fields.grammar, &record[..length], rows, used);
     }
     for rows in 0..fields.n {
         let name = format!("fields of each kind, {rows} rows");
-        import(
-            list,
-            &name,
-            &fields.grammar,
-            &record,
-            ROW_WORDS * rows,
-            used,
-        );
+        import(list, &name, &fields.grammar, &record, rows, used);
     }
     for store in [0, 11, 12, 35, 36, 46] {
         let name = format!("fields of each kind, a store of {store} bytes");
-        import(list, &name, &fields.grammar, &record, words, store);
+        import(list, &name, &fields.grammar, &record, rows, store);
     }
     for kind in 0..=10 {
         let count = u32::from(matches!(kind, 3 | 4 | 8));
@@ -1061,7 +1052,7 @@ fn each_kind(list: &mut List) {
             &name,
             &table(&nodes, &children),
             &record[..end],
-            1_212,
+            303,
             4,
         );
         let name = format!("kind {kind} behind 300 constants, no row");
@@ -1070,7 +1061,7 @@ fn each_kind(list: &mut List) {
             &name,
             &table(&nodes, &children),
             &record[..end],
-            1_204,
+            301,
             4,
         );
     }
@@ -1089,7 +1080,7 @@ fn each_kind(list: &mut List) {
         "arrays of three kinds",
         &arrays.grammar,
         &xdr(&arrays),
-        24,
+        6,
         25,
     );
 }
@@ -1099,8 +1090,8 @@ fn each_kind(list: &mut List) {
 fn other_bytes(list: &mut List) {
     let a = value(A, A_ROWS, &hex(A_RECORD));
     export(list, "example A", &a, 14, 1);
-    import_text(list, "the record of example A", A, A_RECORD, 12, 8);
-    import_text(list, "example A", A, "00000007 00000002 41420000", 12, 8);
+    import_text(list, "the record of example A", A, A_RECORD, 3, 8);
+    import_text(list, "example A", A, "00000007 00000002 41420000", 3, 8);
 }
 
 /// The cases of export and import.
