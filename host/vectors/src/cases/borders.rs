@@ -114,15 +114,13 @@ pub fn rows() -> Cases {
 
 /// Other numbers of words than the rows need, and each row of a value located.
 fn words_and_rows(list: &mut List) {
-    let example = sized(&[[4, 3, 2, 0], [1, 1, 7, 0], [5, 1, 2, 12]]);
-    let (mut longer, mut shorter) = (example.clone(), example);
-    longer.push(9);
-    shorter.pop();
+    let mut example = sized(&[[4, 3, 2, 0], [1, 1, 7, 0], [5, 1, 2, 12]]);
+    example.push(9);
     let mut most = vec![[4, 4_096, 4_095, 0]];
     most.resize(4_096, CONSTANT);
     let mut most = sized(&most);
     most.pop();
-    for (n, rows) in [(3, longer), (3, shorter), (4_096, most)] {
+    for (n, rows) in [(3, example), (4_096, most)] {
         let name = format!("{} words for {n} rows", rows.len());
         let store = vec![0x5a; 14];
         list.add(&name, Case::ComputeSizeOf { rows, n, store });

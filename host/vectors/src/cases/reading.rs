@@ -68,7 +68,7 @@ pub(super) fn check_val_with(
 }
 
 /// Name, grammar, record and its number of rows.
-pub(super) const ACCEPTED: [(&str, &str, &str, usize); 30] = [
+pub(super) const ACCEPTED: [(&str, &str, &str, usize); 31] = [
     ("example A", A, A_RECORD, 3),
     ("example B, constant", B, "", 1),
     ("example C, array of 3 constants", C, "0300000000000000", 4),
@@ -132,6 +132,12 @@ pub(super) const ACCEPTED: [(&str, &str, &str, usize); 30] = [
         "case 1, an int64",
         "3, 8 0 2, 9 0 0, 10 0 0, 2, 1 2",
         "0100000000000000 0000000000000080",
+        2,
+    ),
+    (
+        "case 0, an array of two uint64",
+        "2, 8 0 1, 7 0 0, 1, 1",
+        "0000000000000000 0200000000000000 0100000000000000 0200000000000000",
         2,
     ),
 ];

@@ -2,9 +2,9 @@
 
 use compare::Case;
 
-use super::magnitudes;
 use super::sized::{sized, Bare};
 use super::{hex, numbers, Cases, List, A_RECORD, MAX_BYTES, MIX_ROWS};
+use super::{magnitudes, row_sizes};
 
 const CONSTANT: Bare = [0, 1, 0, 0];
 
@@ -437,6 +437,7 @@ pub fn rows() -> Cases {
     located(&mut list);
     refused_located(&mut list);
     limits(&mut list);
+    list.0.extend(row_sizes::rows());
     list.0.extend(magnitudes::rows());
     list.0
 }

@@ -3,6 +3,7 @@
 use compare::Case;
 
 use super::magnitudes::{self, sound_row};
+use super::row_sizes;
 use super::sized::sized;
 use super::{numbers, Cases, List, MAX_BYTES};
 
@@ -210,6 +211,7 @@ pub fn signed() -> Cases {
     }
     other_kinds(&mut list);
     limits(&mut list);
+    list.0.extend(row_sizes::signed());
     list.0.extend(magnitudes::signed());
     list.0
 }

@@ -4,7 +4,7 @@ use compare::{Case, Value};
 
 use super::sized::{sized, Bare};
 use super::{hex, numbers, table, Cases, List, MAX_BYTES, ROW_WORDS};
-use super::{long, magnitudes};
+use super::{long, magnitudes, row_sizes};
 use super::{A, A64, ARR, A_RECORD, B, BYT, C, D, E, MIX, MIX_RECORD, MIX_ROWS, PAIR};
 use super::{I32, I64, NUMBERS, REFUSED_GRAMMARS, TUP0, U32, U64, UNI};
 
@@ -20,12 +20,12 @@ pub(super) fn value(grammar: &str, rows: &str, store: &[u8]) -> Value {
 }
 
 /// The writing of a value at byte 0 to an output of so many bytes.
-fn marshall(value: &Value, length: usize) -> Case {
+pub(super) fn marshall(value: &Value, length: usize) -> Case {
     value.clone().marshall_case(vec![0xee; length])
 }
 
 /// The writing of a value at an index of an output of so many bytes.
-fn marshall_val(value: &Value, length: usize, index: usize) -> Case {
+pub(super) fn marshall_val(value: &Value, length: usize, index: usize) -> Case {
     let out = vec![0xee; length];
     value.clone().marshall_val_case(out, index)
 }
@@ -412,6 +412,7 @@ pub(super) fn refusals() -> Cases {
     stores(&mut list);
     grammars(&mut list);
     many_rows(&mut list);
+    list.0.extend(row_sizes::writing());
     list.0
 }
 

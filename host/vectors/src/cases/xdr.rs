@@ -5,10 +5,10 @@ use std::collections::BTreeSet;
 
 use compare::{chain, leaf, Case, Value};
 
-use super::borders;
 use super::long::{fields_of_each_kind, tuple};
 use super::sized::{sized, Bare};
 use super::writing::{self, value, A_ROWS};
+use super::{borders, row_sizes};
 use super::{hex, numbers, table, Cases, List, MAX_BYTES, ROW_WORDS};
 use super::{A, A64, ARR, A_RECORD, B, BYT, C, D, E, PAIR, TUP0, UNI};
 use super::{I32, I64, REFUSED_GRAMMARS, U32, U64};
@@ -25,7 +25,7 @@ const FILE_STORE: &[u8] = b"sillyproglispjohn(quit)";
 const FILE_XDR: &str = "00000009 73696C6C 7970726F 67000000 00000002 00000004 6C697370 00000004
     6A6F686E 00000006 28717569 74290000";
 /// An array of byte arrays.
-const BYTE_ARRAYS: &str = "2, 3 0 1, 5 0 0, 1, 1";
+pub(super) const BYTE_ARRAYS: &str = "2, 3 0 1, 5 0 0, 1, 1";
 /// A tuple of two byte arrays, and of three.
 const BYT2: &str = "2, 4 0 2, 5 0 0, 2, 1 1";
 const BYT3: &str = "2, 4 0 3, 5 0 0, 3, 1 1 1";
@@ -871,6 +871,15 @@ fn rows_imported(list: &mut List) {
     );
 }
 
+/// XDR of at most 1,048,576 bytes whose values have about as many bytes as a record may have, and the
+/// most.
+fn great_sizes(list: &mut List) {
+    for (name, arrays) in row_sizes::great_arrays() {
+        let (record, store) = (xdr(&arrays), arrays.store.len());
+        import(list, name, &arrays.grammar, &record, arrays.n, store);
+    }
+}
+
 /// Counts and tags whose low bits are those of a value that is there.
 fn magnitudes(list: &mut List) {
     for more in [1u32 << 8, 1 << 16, 1 << 24, 1 << 31] {
@@ -1106,6 +1115,7 @@ pub fn xdr_calls() -> Cases {
     refused(&mut list);
     long_slices(&mut list);
     rows_imported(&mut list);
+    great_sizes(&mut list);
     magnitudes(&mut list);
     for bytes in [200, 40_000, 72_000] {
         far_values(&mut list, bytes);
