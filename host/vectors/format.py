@@ -2,9 +2,9 @@
 
 The check of grammars, the readings and their checks, the check of row tables, the size, the signed
 number, the writers, preview, same route, the chooser, export, import and yes or no answer as each line
-says. Preview also answers as each line of `marshall_val` says that writing does, and the checks,
-preview, same route, the chooser, export, import, the least lengths and yes or no as each row of the
-page's own tables says. Prints a line for each failure, the number of lines of each call and, last,
+says. Preview also answers as each line of `marshall_val` says that writing does, and the readings, the
+checks, the calls that take rows, same route, the chooser, import, the least lengths and yes or no as
+each row of the page's own tables says. Prints a line for each failure, the number of lines of each call and, last,
 'N passed, M failed'.
 """
 
@@ -20,6 +20,7 @@ page = {}
 text = (ROOT / "docs/FORMAT.md").read_text()
 exec("\n".join(re.findall(r"^```python\n(.*?)^```$", text, re.M | re.S)), page)
 sys.setrecursionlimit(10000)
+ROW_WORDS = 5
 
 
 def texts(parts):
@@ -52,10 +53,10 @@ def check_grammar(line):
 
 
 def read(line):
-    index, whole = int(line.get("index", 0)), line["call"] == "demarshall"
+    index, whole = int(line.get("index", 0)), "index" not in line
     lent = words(line, "rows")
     grammar, record = words(line, "grammar"), data(line, "record")
-    rows, rest_index = page["read"](grammar, record, index, len(lent) // 4, whole)
+    rows, rest_index = page["read"](grammar, record, index, len(lent) // ROW_WORDS, whole)
     filled = [word for row in rows for word in row]
     if "rows_after" in line and filled + lent[len(filled):] != words(line, "rows_after"):
         return False
@@ -158,16 +159,21 @@ CALLS = {
     "check_grammar": check_grammar,
     "parse_val": read,
     "demarshall": read,
+    "read on the page": read,
     "check_val": check,
     "check_whole": check,
     "check_val_with": check,
     "check_whole_with": check,
     "check on the page": check,
     "compute_size_of": compute_size_of,
+    "size on the page": compute_size_of,
     "locate_array": locate_array,
+    "locate on the page": locate_array,
     "signed_number": signed_number,
+    "signed on the page": signed_number,
     "marshall_val": marshall,
     "marshall": marshall,
+    "write on the page": marshall,
     "preview": preview,
     "preview of marshall_val": preview,
     "preview on the page": preview,
@@ -213,6 +219,65 @@ def page_table(title, call):
         yield {"name": row, "call": call}, [cell.strip() for cell in row.split("|")][1:-1]
 
 
+def lent_words(number):
+    """So many lent words, as a line has them."""
+    return [{"repeat": "99", "times": number}]
+
+
+def readings_on_page():
+    for line, cells in page_table("Accepted, kind by kind", "read on the page"):
+        named, record, given, shown = cells
+        named, _, how = named.partition(", ")
+        line |= {"grammar": of_name(named), "record": parts(record)}
+        line |= {"index": how.removeprefix("index ")} if how.startswith("index ") else {}
+        rows = listed(re.match("`[^`]*`", shown)[0])
+        lent = ROW_WORDS * len(rows)
+        if how.endswith(" words lent"):
+            lent = int(how.removesuffix(" words lent"))
+        line["rows"] = lent_words(lent)
+        line["rows_after"] = rows + lent_words(lent - ROW_WORDS * len(rows))
+        n, rest_index = given.split(", ")
+        yield line | {"accepted": {"row_count": n, "rest_index": rest_index}}
+    for line, cells in page_table("Reading refused", "read on the page"):
+        named, record, index, capacity, answer, _ = cells
+        line |= {"grammar": of_name(named), "record": parts(record)}
+        line |= {} if index == "whole" else {"index": index}
+        capacity, _, lent = capacity.removesuffix(" words").partition(", of ")
+        line["rows"] = lent_words(int(lent or ROW_WORDS * int(capacity)))
+        yield line | {"refused": refused_in(answer)}
+
+
+def row_tables_on_page():
+    for line, cells in page_table("Row tables", "size"):
+        call, named, rows, n, store, room, answer, why = cells
+        call, _, row = call.partition(" ")
+        line |= {"call": f"{call} on the page", "row": row, "n": n, "store": parts(store)}
+        line["rows"] = rows_in(rows)
+        if call == "write":
+            index, length = room.split(", ")
+            out = filling(int(length))
+            shown = re.search("the output becomes (`.*`)", why)
+            line |= {"grammar": of_name(named), "index": index, "out": out}
+            line["out_after"] = parts(shown[1]) if shown else out
+        if call == "signed" and " at " not in answer:
+            line["accepted"] = {"number": answer.replace("−", "-")}
+        else:
+            form = r"size (?P<size>\d+)|start (?P<start>\d+), length (?P<length>\d+)"
+            line |= numbers_or_refusal(form, answer)
+            if "accepted" in line:
+                given = line["accepted"].items()
+                line["accepted"] = {name: number for name, number in given if number is not None}
+        yield line
+
+
+def rows_in(cell):
+    """The rows of a cell, of which the last may come again, as a line has them."""
+    first, _, other = cell.partition(" and ")
+    times, _, row = other.partition(" times ")
+    again = [{"repeat": row.strip("`"), "times": int(times.replace(",", ""))}] if row else []
+    return listed(first) + again
+
+
 def checks_on_page():
     for line, cells in page_table("Checks", "check on the page"):
         named, record, index, capacities, answer, _ = cells
@@ -256,14 +321,19 @@ def exports_on_page():
         named, rows, n, store, index_and_length, answer, shown = cells
         index, length = map(int, index_and_length.split(", "))
         shared = re.fullmatch(r"`\((\d+)\)`", rows)
-        row = f"5 1 {shared[1]} 0" if shared else ""
-        rows = ["3 4096 4095 0", {"repeat": row, "times": 4095}] if shared else listed(rows)
+        rows = byte_arrays(int(shared[1])) if shared else listed(rows)
         line |= {"grammar": of_name(named), "rows": rows, "n": n, "store": parts(store), "index": index}
         line |= {"out": filling(length)} | numbers_or_refusal(r"size (?P<size>\d+)", answer)
         if "accepted" in line:
             behind = length - index - int(line["accepted"]["size"])
             line["out_after"] = filling(index) + parts(shown) + filling(behind)
         yield line
+
+
+def byte_arrays(count):
+    """The rows of 4,095 byte arrays of so many bytes that share a store."""
+    size = 8 + count
+    return [f"3 4096 4095 0 {8 + 4095 * size}", {"repeat": f"5 1 {count} 0 {size}", "times": 4095}]
 
 
 def filling(length):
@@ -275,13 +345,13 @@ def imports_on_page():
     for line, cells in page_table("Import", "import_xdr on the page"):
         named, record, lent, store, answer, shown = cells
         line |= {"grammar": of_name(named), "record": parts(record), "store": parts(store)}
-        line |= {"rows": [{"repeat": "99", "times": int(lent)}]}
+        line |= {"rows": lent_words(int(lent))}
         line |= numbers_or_refusal(r"n (?P<row_count>\d+), used (?P<used>\d+)", answer)
         after = re.fullmatch(r"(`[^`]*`), (`[^`]*`)", shown)
         if after:
             rows = listed(after[1])
-            left = int(lent) - 4 * len(rows)
-            line["rows_after"] = rows + [{"repeat": "99", "times": left}]
+            left = int(lent) - ROW_WORDS * len(rows)
+            line["rows_after"] = rows + lent_words(left)
             line["store_after"] = parts(after[2])
         yield line
 
@@ -363,8 +433,10 @@ def run_parts(run):
 SOURCES = [
     vectors("grammar"),
     vectors("reading"),
+    readings_on_page(),
     checks_on_page(),
     vectors("rows"),
+    row_tables_on_page(),
     vectors("signed"),
     vectors("writing"),
     vectors("preview"),
