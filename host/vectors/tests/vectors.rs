@@ -96,7 +96,9 @@ fn no_line_is_long() {
         }
     }
     let expected = [
+        "compute_size_of: 1,024 levels of cases",
         "compute_size_of: 4,096 levels of cases",
+        "compute_size_of: 4,096 levels of cases, the size of row 4095",
         "locate_array: 14 in the last of 4,096 levels of cases",
     ];
     assert_eq!(long, BTreeSet::from(expected));
@@ -704,6 +706,122 @@ fn imports_export_to_their_record() {
     assert!(just_enough >= 10, "{just_enough}");
 }
 
+/// The number of bytes that a row adds to its record.
+fn own_size(row: &[u64]) -> u64 {
+    match row[0] {
+        0 | 4 => 0,
+        1 | 9 => 4,
+        _ => 8 + bytes_of_elements(row),
+    }
+}
+
+/// The size of the value that starts with a row: what the rows of its span add.
+fn size_of(rows: &[u64], row: usize) -> u64 {
+    let span = rows[ROW_WORDS * row + 1] as usize;
+    let rows = rows[ROW_WORDS * row..].chunks_exact(ROW_WORDS);
+    rows.take(span).map(own_size).sum()
+}
+
+/// The rows that an accepted reading or import gives.
+fn rows_given(line: &Line) -> Option<Vec<u64>> {
+    let Answer::Accepted(given) = &line.outcome.answer else {
+        return None;
+    };
+    match line.outcome.after() {
+        Case::ParseVal { mut rows, .. }
+        | Case::Demarshall { mut rows, .. }
+        | Case::ImportXdr { mut rows, .. } => {
+            rows.truncate(ROW_WORDS * given[0] as usize);
+            Some(rows)
+        }
+        _ => None,
+    }
+}
+
+/// Each row of a reading and of an import has the size of its value. There are such rows of each kind,
+/// and imports of more bytes than a record may have, up to the most.
+#[test]
+fn rows_have_their_sizes() {
+    let (mut kinds, mut greatest) = (BTreeMap::new(), 0);
+    for line in calls() {
+        let Some(rows) = rows_given(&line) else {
+            continue;
+        };
+        for (row, words) in rows.chunks(ROW_WORDS).enumerate() {
+            assert_eq!(words[4], size_of(&rows, row), "{}, row {row}", line.name);
+            let call: &mut BTreeSet<u64> = kinds.entry(line.case.call()).or_default();
+            call.insert(words[0]);
+            greatest = greatest.max(words[4]);
+        }
+    }
+    assert_eq!(kinds.len(), 3);
+    for kinds in kinds.into_values() {
+        assert_eq!(kinds, (0..=10).collect());
+    }
+    assert_eq!(greatest, 1_064_960);
+}
+
+/// The rows that a call takes, and n.
+fn rows_taken(case: &Case) -> Option<(&[u64], usize)> {
+    match case {
+        Case::ComputeSizeOf { rows, n, .. }
+        | Case::LocateArray { rows, n, .. }
+        | Case::SignedNumber { rows, n, .. }
+        | Case::MarshallVal { rows, n, .. }
+        | Case::Marshall { rows, n, .. }
+        | Case::Preview { rows, n, .. }
+        | Case::ExportXdr { rows, n, .. } => Some((rows, *n)),
+        _ => None,
+    }
+}
+
+/// Each call that takes rows is refused for a size alone, at the first row and behind others: with the
+/// right size in its place the table passes. The size call is so of each kind, and with a size that is
+/// one more, one less, 0 and 2^64-1.
+#[test]
+fn a_wrong_size_alone() {
+    on_large_stack(wrong_sizes);
+}
+
+fn wrong_sizes() {
+    let (mut places, mut sizes) = (BTreeSet::new(), BTreeMap::new());
+    let store = vec![0; MAX_BYTES];
+    for line in calls() {
+        let Answer::Refused { refusal, .. } = &line.outcome.answer else {
+            continue;
+        };
+        let (13, Place::Row(row)) = (refusal.number, refusal.place) else {
+            continue;
+        };
+        let (rows, n) = rows_taken(&line.case).expect("a call that takes rows");
+        let (mut rows, row) = (rows[..ROW_WORDS * n].to_vec(), row as usize);
+        let (kind, given) = (rows[ROW_WORDS * row], rows[ROW_WORDS * row + 4]);
+        if kind > 10 || rows[ROW_WORDS * row + 2] > MAX_BYTES as u64 && matches!(kind, 5..=7) {
+            continue;
+        }
+        let right = size_of(&rows, row);
+        rows[ROW_WORDS * row + 4] = right;
+        let passes = model::compute_size_of(&rows, n, &store).is_ok();
+        if given == right || !passes {
+            continue;
+        }
+        places.insert((line.case.call(), row > 0));
+        if line.case.call() == "compute_size_of" {
+            let sizes: &mut BTreeSet<u64> = sizes.entry(kind).or_default();
+            sizes.insert(given.wrapping_sub(right));
+            sizes.extend((given == 0).then_some(0));
+            sizes.extend((given == u64::MAX).then_some(2));
+        }
+    }
+    assert_eq!(places.len(), 2 * 7, "{places:?}");
+    assert_eq!(sizes.len(), 11);
+    for (kind, sizes) in sizes {
+        assert!(sizes.is_superset(&BTreeSet::from([1, 2])), "kind {kind}");
+        let below = BTreeSet::from([u64::MAX, 0]);
+        assert!(kind == 0 || sizes.is_superset(&below), "kind {kind}");
+    }
+}
+
 /// What each accepted export writes is imported with rows and a store that are just enough, and is an
 /// equal value then: it exports to the same bytes and, where it may be written, its record is the same.
 /// There are exports of roots of each kind, and of values that are too long to be written.
@@ -766,7 +884,7 @@ fn front_parts_of_imports() {
 /// Refusals with their borders: the number, the call, what the line shows that just passes its test,
 /// and what the one that just does not.
 #[rustfmt::skip]
-const BORDERS: [(u64, &str, &str, &str); 173] = [
+const BORDERS: [(u64, &str, &str, &str); 192] = [
     (1, "check_grammar", "example F, N 256", "example F, N 257"),
     (1, "check_grammar", "example B, constant", "N 0"),
     (1, "preview", "N 256", "N 257"),
@@ -837,8 +955,10 @@ const BORDERS: [(u64, &str, &str, &str); 173] = [
     (7, "check_val_with", "capacity 1, three bytes, index 3, the length",
         "capacity 1, three bytes, index 4, above the length"),
     (8, "demarshall", "example C, capacity 4", "example C, capacity 3"),
-    (8, "demarshall", "17 words for 4 rows", "15 words for 4 rows"),
-    (8, "demarshall", "4 words for 1 row", "3 words for 1 row"),
+    (8, "demarshall", "21 words for 4 rows", "19 words for 4 rows"),
+    (8, "demarshall", "5 words for 1 row", "4 words for 1 row"),
+    (8, "demarshall", "example A, 3 rows", "example A, 14 words"),
+    (8, "demarshall", "4,096 rows", "20,479 words for 4,096 rows"),
     (8, "demarshall", "count at the rows left", "count above the rows left"),
     (8, "demarshall", "as many rows as needed", "no row left at the last field"),
     (8, "demarshall", "tuple of numbers of four kinds", "no row for an int64 behind three numbers"),
@@ -864,7 +984,8 @@ const BORDERS: [(u64, &str, &str, &str); 173] = [
     (8, "import_xdr", "constant", "constant, a word less"),
     (8, "import_xdr", "array of constants", "array of constants, a row less"),
     (8, "import_xdr", "example T", "example T, a row less"),
-    (8, "import_xdr", "4095 constants, 16384 words", "4096 constants, 16384 words"),
+    (8, "import_xdr", "4095 constants, 20480 words", "4096 constants, 20480 words"),
+    (8, "import_xdr", "4095 constants, 20480 words", "4095 constants, 20479 words"),
     (9, "demarshall", "uint32", "uint32, 3 bytes"),
     (9, "demarshall", "uint64", "uint64, 7 bytes"),
     (9, "demarshall", "example I, int32 -1", "example I, int32, 3 bytes"),
@@ -895,6 +1016,13 @@ const BORDERS: [(u64, &str, &str, &str); 173] = [
     (12, "export_xdr", "n 4,096", "n 4,097"),
     (12, "compute_size_of", "constant", "n 0"),
     (12, "compute_size_of", "constant", "a word missing for n"),
+    (12, "compute_size_of", "example A", "14 words for 3 rows"),
+    (12, "locate_array", "example A, the byte array", "14 words for 3 rows"),
+    (12, "signed_number", "the int32 -3 in a tuple", "14 words for 3 rows"),
+    (12, "marshall", "example G, 14 bytes", "14 words for 3 rows"),
+    (12, "marshall_val", "example G, 14 bytes", "14 words for 3 rows"),
+    (12, "preview", "example A over bytes EE", "14 words for 3 rows"),
+    (12, "export_xdr", "example A", "14 words for 3 rows"),
     (12, "signed_number", "row 4,095 of 4,096", "n 4,097"),
     (12, "preview", "n 4,096", "n 4,097"),
     (13, "compute_size_of", "int64 pattern 2^64-1", "kind 11"),
@@ -903,6 +1031,15 @@ const BORDERS: [(u64, &str, &str, &str); 173] = [
     (13, "signed_number", "example I, -1 of an int32", "example I, 2^32 is no pattern of an int32"),
     (13, "preview", "example H, number 4,294,967,295", "example H, number 4,294,967,296"),
     (13, "export_xdr", "example H, number 4,294,967,295", "example H, number 4,294,967,296"),
+    (13, "compute_size_of", "example A", "the size of row 0 is too great"),
+    (13, "compute_size_of", "example A", "the size of row 0 is too small"),
+    (13, "compute_size_of", "constant", "kind 0 of size 0, given as 1"),
+    (13, "locate_array", "example A, the byte array", "the size of row 0 is too great"),
+    (13, "signed_number", "the int32 -3 in a tuple", "the size of row 0 is too great"),
+    (13, "marshall", "example G, 14 bytes", "the size of row 0 is too great"),
+    (13, "marshall_val", "example G, 14 bytes", "the size of row 0 is too great"),
+    (13, "preview", "example A over bytes EE", "the size of row 0 is too great"),
+    (13, "export_xdr", "example A", "the size of row 0 is too great"),
     (14, "compute_size_of", "byte array up to the store's end", "byte array a byte beyond the store"),
     (14, "compute_size_of", "uint32 array up to the store's end", "uint32 array a byte beyond the store"),
     (14, "compute_size_of", "uint64 array up to the store's end", "uint64 array a byte beyond the store"),

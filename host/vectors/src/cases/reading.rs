@@ -436,7 +436,8 @@ fn from_an_index(list: &mut List) {
 /// Words that are no multiple of 5, and words behind the rows.
 fn words_lent(list: &mut List) {
     let (a, record) = (numbers::<u32>(A), hex(A_RECORD));
-    for words in 0..=20 {
+    // With 10 and with 15 words it is among the front parts.
+    for words in (0..=20).filter(|words| ![10, 15].contains(words)) {
         let name = format!("example A, {words} words");
         list.add(&name, demarshall(&a, &record, words));
     }
@@ -451,7 +452,7 @@ fn words_lent(list: &mut List) {
         list.add(&name, demarshall(&c, &three, words));
     }
     let most = counted(4_095, &[]);
-    for words in [16_384, 20_479, 20_480] {
+    for words in [16_384, 20_479] {
         let name = format!("{} words for 4,096 rows", grouped(words as u64));
         list.add(&name, demarshall(&c, &most, words));
     }
