@@ -58,6 +58,14 @@ fn outcome(result: Result<(Vec<u64>, Vec<Given>), Refusal>) -> Outcome {
     }
 }
 
+/// The number of words of a row.
+const ROW_WORDS: usize = 5;
+
+/// The number of rows of these words.
+fn row_count(rows: &[u64]) -> u64 {
+    (rows.len() / ROW_WORDS) as u64
+}
+
 /// The lent rows with these in the place of the first.
 fn filled(lent: &[u64], rows: &[u64]) -> Given {
     Given::Words([rows, &lent[rows.len()..]].concat())
@@ -66,7 +74,7 @@ fn filled(lent: &[u64], rows: &[u64]) -> Given {
 /// The outcome of a reading whose rows are put into the lent ones.
 fn read(reading: Result<Reading, Refusal>, lent: Option<&[u64]>) -> Outcome {
     outcome(reading.map(|reading| {
-        let numbers = vec![reading.rows.len() as u64 / 4, reading.rest_index as u64];
+        let numbers = vec![row_count(&reading.rows), reading.rest_index as u64];
         let after = lent.map(|lent| filled(lent, &reading.rows));
         (numbers, after.into_iter().collect())
     }))
@@ -80,7 +88,7 @@ fn written(writing: Result<Writing, Refusal>) -> Outcome {
 /// The outcome of an import, whose rows are put into the lent ones.
 fn imported(importing: Result<Importing, Refusal>, lent: &[u64]) -> Outcome {
     outcome(importing.map(|importing| {
-        let numbers = vec![importing.rows.len() as u64 / 4, importing.used as u64];
+        let numbers = vec![row_count(&importing.rows), importing.used as u64];
         let rows = filled(lent, &importing.rows);
         (numbers, vec![rows, Given::Bytes(importing.store)])
     }))

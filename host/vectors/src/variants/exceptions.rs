@@ -35,7 +35,7 @@ const LIST_WORDS: u64 = 28_722;
 pub const LONG: &str = "only a slice of 2^31 or more elements can tell";
 
 /// The bounds. A number that is written down is below the next one; those are not listed.
-const BOUNDS: [Bound; 90] = [
+const BOUNDS: [Bound; 93] = [
     Bound {
         file: "accepts.rs",
         functions: &["node_length"],
@@ -263,8 +263,15 @@ const BOUNDS: [Bound; 90] = [
     Bound {
         file: "reading.rs",
         functions: &["rows"],
+        texts: &["size"],
+        below: BYTES,
+        why: "a record is at most 1,048,576 bytes long",
+    },
+    Bound {
+        file: "reading.rs",
+        functions: &["rows"],
         texts: &["below.len()"],
-        below: 16_381,
+        below: 20_476,
         why: "the words of at most 4,095 rows",
     },
     Bound {
@@ -388,8 +395,8 @@ const BOUNDS: [Bound; 90] = [
     Bound {
         file: "rows.rs",
         functions: &["table"],
-        texts: &["n#2", "n#3", "MOST_ROWS", "4 * n"],
-        below: 16_385,
+        texts: &["n#2", "n#3", "MOST_ROWS", "ROW_WORDS * n"],
+        below: 20_481,
         why: "n is compared before",
     },
     Bound {
@@ -434,6 +441,13 @@ const BOUNDS: [Bound; 90] = [
         ],
         below: BYTES,
         why: "a store is at most 1,048,576 bytes long, and the row is checked before",
+    },
+    Bound {
+        file: "rows.rs",
+        functions: &["value"],
+        texts: &["size_of_v(&value)"],
+        below: 4_293_951_489,
+        why: "the greatest size of checked rows is 4,293,951,488",
     },
     Bound {
         file: "rows.rs",
@@ -613,7 +627,7 @@ const BOUNDS: [Bound; 90] = [
     Bound {
         file: "xdr.rs",
         functions: &["~"],
-        texts: &["children.len()", "cases.len()"],
+        texts: &["fields.len()", "cases.len()"],
         below: 1_025,
         why: "a node has at most 1,024 children",
     },
@@ -647,9 +661,16 @@ const BOUNDS: [Bound; 90] = [
     },
     Bound {
         file: "xdr.rs",
+        functions: &["values", "array", "case", "tuple", "value"],
+        texts: &["size", "own_size"],
+        below: 1_064_961,
+        why: "the record of an import is at most 1,064,960 bytes long",
+    },
+    Bound {
+        file: "xdr.rs",
         functions: &["value"],
         texts: &["below.len()"],
-        below: 16_381,
+        below: 20_476,
         why: "the words of at most 4,095 rows",
     },
     Bound {
@@ -950,7 +971,7 @@ const EXCEPTIONS: [Exception; 92] = [
         functions: &["rows"],
         texts: &["below.len()"],
         ways: &["+1"],
-        why: "a multiple of 4, which is divided by 4",
+        why: "a multiple of 5, which is divided by 5",
     },
     Exception {
         file: "rows.rs",
@@ -997,7 +1018,7 @@ const EXCEPTIONS: [Exception; 92] = [
     Exception {
         file: "rows.rs",
         functions: &["table"],
-        texts: &["4 * n > rows.len()", "rows.len()"],
+        texts: &["ROW_WORDS * n > rows.len()", "rows.len()"],
         ways: &["right32", "signed", "cut32", "extend32"],
         why: LONG,
     },
@@ -1048,7 +1069,7 @@ const EXCEPTIONS: [Exception; 92] = [
         functions: &["row_lines"],
         texts: &["words.len()"],
         ways: &["+1"],
-        why: "a multiple of 4, which is divided by 4",
+        why: "a multiple of 5, which is divided by 5",
     },
     Exception {
         file: "signed.rs",
@@ -1370,7 +1391,7 @@ const EXCEPTIONS: [Exception; 92] = [
         functions: &["value"],
         texts: &["below.len()"],
         ways: &["+1"],
-        why: "a multiple of 4, which is divided by 4",
+        why: "a multiple of 5, which is divided by 5",
     },
     Exception {
         file: "xdr.rs",
@@ -1417,7 +1438,7 @@ const EXCEPTIONS: [Exception; 92] = [
 ];
 
 /// Variants by hand: file, pieces of its text with what stands for each, what is broken.
-pub(super) const BY_HAND: [(&str, &[(&str, &str)], &str); 122] = [
+pub(super) const BY_HAND: [(&str, &[(&str, &str)], &str); 142] = [
     (
         "rows.rs",
         &[
@@ -1426,13 +1447,13 @@ pub(super) const BY_HAND: [(&str, &[(&str, &str)], &str); 122] = [
                 "    if rows[row][0] != 5 && !is_valid(rows[row], end - row) {",
             ),
             (
-                "        5 => elements(rows, row, 1, store).map(V::ByteArray),",
+                "        5 => V::ByteArray(elements(rows, row, 1, store)?),",
                 "        5 => {
                     let elements = elements(rows, row, 1, store)?;
-                    match is_valid(rows[row], end - row) {
-                        true => Ok(V::ByteArray(elements)),
-                        false => Err(at_row(13, row)),
+                    if !is_valid(rows[row], end - row) {
+                        return Err(at_row(13, row));
                     }
+                    V::ByteArray(elements)
                 }",
             ),
         ],
@@ -1446,13 +1467,13 @@ pub(super) const BY_HAND: [(&str, &[(&str, &str)], &str); 122] = [
                 "    if rows[row][0] != 6 && !is_valid(rows[row], end - row) {",
             ),
             (
-                "        6 => elements(rows, row, 4, store).map(V::Uint32Array),",
+                "        6 => V::Uint32Array(elements(rows, row, 4, store)?),",
                 "        6 => {
                     let elements = elements(rows, row, 4, store)?;
-                    match is_valid(rows[row], end - row) {
-                        true => Ok(V::Uint32Array(elements)),
-                        false => Err(at_row(13, row)),
+                    if !is_valid(rows[row], end - row) {
+                        return Err(at_row(13, row));
                     }
+                    V::Uint32Array(elements)
                 }",
             ),
         ],
@@ -1466,13 +1487,13 @@ pub(super) const BY_HAND: [(&str, &[(&str, &str)], &str); 122] = [
                 "    if rows[row][0] != 7 && !is_valid(rows[row], end - row) {",
             ),
             (
-                "        7 => elements(rows, row, 8, store).map(V::Uint64Array),",
+                "        7 => V::Uint64Array(elements(rows, row, 8, store)?),",
                 "        7 => {
                     let elements = elements(rows, row, 8, store)?;
-                    match is_valid(rows[row], end - row) {
-                        true => Ok(V::Uint64Array(elements)),
-                        false => Err(at_row(13, row)),
+                    if !is_valid(rows[row], end - row) {
+                        return Err(at_row(13, row));
                     }
+                    V::Uint64Array(elements)
                 }",
             ),
         ],
@@ -2145,8 +2166,8 @@ pub(super) const BY_HAND: [(&str, &[(&str, &str)], &str); 122] = [
         "xdr.rs",
         &[
             (
-                "Ok((count, place as u64, vec![]))",
-                "Ok((count, (start + 4) as u64, vec![]))",
+                "Ok((count, place as u64, vec![], 8 + length as u64))",
+                "Ok((count, (start + 4) as u64, vec![], 8 + length as u64))",
             ),
         ],
         "the offset is the place in the record",
@@ -2155,8 +2176,8 @@ pub(super) const BY_HAND: [(&str, &[(&str, &str)], &str); 122] = [
         "xdr.rs",
         &[
             (
-                "Ok((count, place as u64, vec![]))",
-                "Ok((count, if count == 0 { 0 } else { place as u64 }, vec![]))",
+                "Ok((count, place as u64, vec![], 8 + length as u64))",
+                "Ok((count, if count == 0 { 0 } else { place as u64 }, vec![], 8 + length as u64))",
             ),
         ],
         "the offset of an array without elements is 0",
@@ -2165,8 +2186,8 @@ pub(super) const BY_HAND: [(&str, &[(&str, &str)], &str); 122] = [
         "xdr.rs",
         &[
             (
-                "Ok((count, place as u64, vec![]))",
-                "Ok((count, 0, vec![]))",
+                "Ok((count, place as u64, vec![], 8 + length as u64))",
+                "Ok((count, 0, vec![], 8 + length as u64))",
             ),
         ],
         "every offset is 0",
@@ -2319,11 +2340,9 @@ pub(super) const BY_HAND: [(&str, &[(&str, &str)], &str); 122] = [
                 "        V::Tuple(values) => [number_bytes(values.len() as u64, 4), all_bytes(values)].concat(),",
             ),
             (
-                "(children.len() as u64, 0, self.values(children)?)",
-                "{
-                self.number(4)?;
-                (children.len() as u64, 0, self.values(children)?)
-            }",
+                "        let (rows, size) = self.values(fields)?;",
+                "        self.number(4)?;
+        let (rows, size) = self.values(fields)?;",
             ),
         ],
         "a tuple has a count",
@@ -2336,10 +2355,10 @@ pub(super) const BY_HAND: [(&str, &[(&str, &str)], &str); 122] = [
                 "        V::Constant => vec![0; 4],",
             ),
             (
-                "            0 => (0, 0, vec![]),",
+                "            0 => (0, 0, vec![], 0),",
                 "            0 => {
                 self.number(4)?;
-                (0, 0, vec![])
+                (0, 0, vec![], 0)
             }",
             ),
         ],
@@ -2416,14 +2435,14 @@ pub(super) const BY_HAND: [(&str, &[(&str, &str)], &str); 122] = [
         "xdr.rs",
         &[
             (
-                "    let rows = importer.value(0)?;",
-                "    let rows = importer.value(0)?;
-    if record.len() + rows.len() > MOST_BYTES {
+                "    let (rows, _) = importer.value(0)?;",
+                "    let (rows, size) = importer.value(0)?;
+    if size > MOST_BYTES as u64 {
         return Err(at_row(16, 0));
     }",
             ),
         ],
-        "an import that may be too long to write is refused",
+        "an import that is too long to write is refused",
     ),
     (
         "xdr.rs",
@@ -2794,6 +2813,304 @@ pub(super) const BY_HAND: [(&str, &[(&str, &str)], &str); 122] = [
             ),
         ],
         "the rows taken are counted with no",
+    ),
+    (
+        "rows.rs",
+        &[
+            (
+                "    if size != size_of_v(&value) {",
+                "    if row == 0 && size != size_of_v(&value) {",
+            ),
+        ],
+        "the size of the root alone is compared",
+    ),
+    (
+        "rows.rs",
+        &[
+            (
+                "    if size != size_of_v(&value) {",
+                "    if row > 0 && size != size_of_v(&value) {",
+            ),
+        ],
+        "the size of the root is not compared",
+    ),
+    (
+        "rows.rs",
+        &[
+            (
+                "    if size != size_of_v(&value) {",
+                "    if end - row > 1 && size != size_of_v(&value) {",
+            ),
+        ],
+        "the size of the last row of a span is not compared",
+    ),
+    (
+        "rows.rs",
+        &[
+            (
+                "    if size != size_of_v(&value) {",
+                "    if !matches!(kind, 3 | 4 | 8) && size != size_of_v(&value) {",
+            ),
+        ],
+        "the sizes of values with children are not compared",
+    ),
+    (
+        "rows.rs",
+        &[
+            (
+                "    if size != size_of_v(&value) {",
+                "    if size < size_of_v(&value) {",
+            ),
+        ],
+        "a size that is too great passes",
+    ),
+    (
+        "rows.rs",
+        &[
+            (
+                "    if size != size_of_v(&value) {",
+                "    if size != 0 && size != size_of_v(&value) {",
+            ),
+        ],
+        "a size of 0 passes",
+    ),
+    (
+        "rows.rs",
+        &[
+            (
+                "    if size != size_of_v(&value) {",
+                "    if size != u64::MAX && size != size_of_v(&value) {",
+            ),
+        ],
+        "a size of 2^64-1 passes",
+    ),
+    (
+        "rows.rs",
+        &[
+            (
+                "    let [kind, _, word2, _, size] = rows[row];",
+                "    let [kind, _, word2, _, size] = rows[row];
+    let own = |row: &Row| match row[0] {
+        0 | 4 => 0,
+        1 | 9 => 4,
+        5 => row[2].wrapping_add(8),
+        6 => row[2].wrapping_mul(4).wrapping_add(8),
+        7 => row[2].wrapping_mul(8).wrapping_add(8),
+        _ => 8,
+    };
+    let span = rows[row][1] as usize;
+    let all = rows[row..row + span].iter().map(own);
+    if size != all.fold(0, u64::wrapping_add) {
+        return Err(at_row(13, row));
+    }",
+            ),
+        ],
+        "a size is compared before 14 and before the children",
+    ),
+    (
+        "rows.rs",
+        &[
+            (
+                "    let [kind, _, word2, _, size] = rows[row];",
+                "    let [kind, _, word2, _, size] = rows[row];
+    let width = match kind {
+        5 => 1,
+        6 => 4,
+        _ => 8,
+    };
+    if matches!(kind, 5..=7) && size != word2.wrapping_mul(width).wrapping_add(8) {
+        return Err(at_row(13, row));
+    }",
+            ),
+        ],
+        "the size of an array in the store is compared before 14",
+    ),
+    (
+        "rows.rs",
+        &[
+            (
+                "    if size != size_of_v(&value) {
+        return Err(at_row(13, row));
+    }
+",
+                "    let _ = size;
+",
+            ),
+            (
+                "    value(&rows, 0, n, store)
+",
+                "    fn all<'v, 'a>(value: &'v V<'a>, values: &mut Vec<&'v V<'a>>) {
+        values.push(value);
+        match value {
+            V::Array(parts) | V::Tuple(parts) => parts.iter().for_each(|part| all(part, values)),
+            V::Case(_, part) => all(part, values),
+            _ => {}
+        }
+    }
+    let value = value(&rows, 0, n, store)?;
+    let mut values = vec![];
+    all(&value, &mut values);
+    for (row, part) in values.into_iter().enumerate() {
+        if rows[row][4] != size_of_v(part) {
+            return Err(at_row(13, row));
+        }
+    }
+    Ok(value)
+",
+            ),
+        ],
+        "the sizes are compared in a walk of their own, parents first",
+    ),
+    (
+        "rows.rs",
+        &[
+            (
+                "    if size != size_of_v(&value) {
+        return Err(at_row(13, row));
+    }
+",
+                "    let _ = size;
+",
+            ),
+            (
+                "    value(&rows, 0, n, store)
+",
+                "    fn wrong(value: &V, row: usize, rows: &[Row]) -> Result<usize, Refusal> {
+        let parts: Vec<&V> = match value {
+            V::Array(parts) | V::Tuple(parts) => parts.iter().collect(),
+            V::Case(_, part) => vec![part],
+            _ => vec![],
+        };
+        let mut behind = row + 1;
+        for part in parts {
+            behind = wrong(part, behind, rows)?;
+        }
+        match rows[row][4] == size_of_v(value) {
+            true => Ok(behind),
+            false => Err(at_row(13, row)),
+        }
+    }
+    let value = value(&rows, 0, n, store)?;
+    wrong(&value, 0, &rows)?;
+    Ok(value)
+",
+            ),
+        ],
+        "the sizes are compared in a walk of their own, children first",
+    ),
+    (
+        "rows.rs",
+        &[
+            (
+                "    whole_value(rows, n, store).map(|value| size_of_v(&value))
+",
+                "    check_length(store)?;
+    Ok(table(rows, n)?[0][4])
+",
+            ),
+        ],
+        "the size call answers row 0's word and checks no row",
+    ),
+    (
+        "rows.rs",
+        &[
+            (
+                "    whole_value(rows, n, store).map(|value| size_of_v(&value))
+",
+                "    whole_value(rows, n, store)?;
+    Ok(table(rows, n)?[n.min(2) - 1][4])
+",
+            ),
+        ],
+        "the size call answers row 1's word",
+    ),
+    (
+        "reading.rs",
+        &[
+            (
+                "    let size = size_of_v(value);",
+                "    let size = match value {
+        V::Array(_) | V::Case(..) => size_of_v(value) - 8,
+        _ => size_of_v(value),
+    };",
+            ),
+        ],
+        "the size of a value with children is without its count or tag",
+    ),
+    (
+        "reading.rs",
+        &[
+            (
+                "    let size = size_of_v(value);",
+                "    let size = match parts(value) {
+        [] => size_of_v(value),
+        parts => size_of_v(value) - parts.iter().map(size_of_v).sum::<u64>(),
+    };",
+            ),
+        ],
+        "the size is what the row itself adds",
+    ),
+    (
+        "reading.rs",
+        &[
+            (
+                "    let rows = rows(&value);
+    Ok(Reading { rows, rest_index })",
+                "    let mut rows = rows(&value);
+    rows[4] += index as u64;
+    Ok(Reading { rows, rest_index })",
+            ),
+        ],
+        "the size of the root is counted from byte 0",
+    ),
+    (
+        "show.rs",
+        &[
+            (
+                "        let words: Vec<String> = row.iter().map(u64::to_string).collect();",
+                "        let row = [&row[..4], &[words[4]]].concat();
+        let words: Vec<String> = row.iter().map(u64::to_string).collect();",
+            ),
+        ],
+        "the size of the root is on every line",
+    ),
+    (
+        "show.rs",
+        &[
+            (
+                "        let words: Vec<String> = row.iter().map(u64::to_string).collect();",
+                "        let words: Vec<String> = row[..4].iter().map(u64::to_string).collect();",
+            ),
+        ],
+        "the size is not printed",
+    ),
+    (
+        "xdr.rs",
+        &[
+            (
+                "Ok((count, place as u64, vec![], 8 + length as u64))",
+                "Ok((count, place as u64, vec![], 4 + (length + zeros) as u64))",
+            ),
+            (
+                "Ok((count, 0, rows, 8 + size))",
+                "Ok((count, 0, rows, 4 + size))",
+            ),
+            (
+                "Ok((tag, 0, rows, 8 + size))",
+                "Ok((tag, 0, rows, 4 + size))",
+            ),
+        ],
+        "the sizes of an import are those of the XDR",
+    ),
+    (
+        "xdr.rs",
+        &[
+            (
+                "8 + length as u64",
+                "8 + (length + zeros) as u64",
+            ),
+        ],
+        "the padding is in the size",
     ),
 ];
 
