@@ -706,6 +706,9 @@ fn imports_export_to_their_record() {
     assert!(just_enough >= 10, "{just_enough}");
 }
 
+/// Which word of a row is its size.
+const SIZE: usize = ROW_WORDS - 1;
+
 /// The number of bytes that a row adds to its record.
 fn own_size(row: &[u64]) -> u64 {
     match row[0] {
@@ -748,10 +751,10 @@ fn rows_have_their_sizes() {
             continue;
         };
         for (row, words) in rows.chunks(ROW_WORDS).enumerate() {
-            assert_eq!(words[4], size_of(&rows, row), "{}, row {row}", line.name);
+            assert_eq!(words[SIZE], size_of(&rows, row), "{}, row {row}", line.name);
             let call: &mut BTreeSet<u64> = kinds.entry(line.case.call()).or_default();
             call.insert(words[0]);
-            greatest = greatest.max(words[4]);
+            greatest = greatest.max(words[SIZE]);
         }
     }
     assert_eq!(kinds.len(), 3);
@@ -795,12 +798,12 @@ fn wrong_sizes() {
         };
         let (rows, n) = rows_taken(&line.case).expect("a call that takes rows");
         let (mut rows, row) = (rows[..ROW_WORDS * n].to_vec(), row as usize);
-        let (kind, given) = (rows[ROW_WORDS * row], rows[ROW_WORDS * row + 4]);
+        let (kind, given) = (rows[ROW_WORDS * row], rows[ROW_WORDS * row + SIZE]);
         if kind > 10 || rows[ROW_WORDS * row + 2] > MAX_BYTES as u64 && matches!(kind, 5..=7) {
             continue;
         }
         let right = size_of(&rows, row);
-        rows[ROW_WORDS * row + 4] = right;
+        rows[ROW_WORDS * row + SIZE] = right;
         let passes = model::compute_size_of(&rows, n, &store).is_ok();
         if given == right || !passes {
             continue;

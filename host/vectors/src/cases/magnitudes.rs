@@ -5,7 +5,7 @@ use compare::{grammar_list, Case, Value};
 
 use super::packed::{pack_u32, pack_u64};
 use super::signed::signed_number;
-use super::sized::{sized, Bare};
+use super::sized::{sized, Bare, SIZE};
 use super::{counted, numbers, table, Cases, List, MAX_BYTES, ROW_WORDS};
 use super::{A64, ARR, B, BYT, C, E, I32, I64, U32, U64, UNI};
 
@@ -409,7 +409,7 @@ const WORDS: [(usize, &str); ROW_WORDS] = [
     (1, "span"),
     (2, "word 2"),
     (3, "word 3"),
-    (4, "size"),
+    (SIZE, "size"),
 ];
 
 /// Each word of a row of each kind, with the low bits of a sound one.

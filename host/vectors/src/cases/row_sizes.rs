@@ -6,7 +6,7 @@ use compare::{Case, Value};
 
 use super::borders;
 use super::signed::signed_number;
-use super::sized::{sized, Bare};
+use super::sized::{sized, Bare, SIZE};
 use super::writing::{marshall, marshall_val, value};
 use super::xdr::BYTE_ARRAYS;
 use super::{hex, numbers, Cases, List, MAX_BYTES, ROW_WORDS};
@@ -109,20 +109,20 @@ fn each_kind(list: &mut List) {
         let own = of_kind(kind);
         let n = own.len();
         let sound = sized(&own);
-        let right = sound[4];
+        let right = sound[SIZE];
         let near = [right.wrapping_sub(1), right + 1, 0, 2, 4, 8, 16, u64::MAX];
         for wrong in BTreeSet::from(near)
             .into_iter()
             .filter(|&size| size != right)
         {
             let mut rows = sound.clone();
-            rows[4] = wrong;
+            rows[SIZE] = wrong;
             let name = format!("kind {kind} of size {right}, given as {wrong}");
             size(list, &name, rows, n);
             let root = [[4, n as u64 + 2, 2, 0], [2, 1, 7, 0]];
             let mut rows = sized(&[&root[..], &own].concat());
-            rows[2 * ROW_WORDS + 4] = wrong;
-            rows[4] = wrong.wrapping_add(8);
+            rows[2 * ROW_WORDS + SIZE] = wrong;
+            rows[SIZE] = wrong.wrapping_add(8);
             size(list, &format!("{name}, in a tuple"), rows, n + 2);
         }
     }
@@ -134,7 +134,7 @@ fn each_row(list: &mut List) {
     let with = |wrong: &[usize]| {
         let mut rows = sound.clone();
         for row in wrong {
-            rows[ROW_WORDS * row + 4] += 1;
+            rows[ROW_WORDS * row + SIZE] += 1;
         }
         rows
     };
@@ -169,7 +169,7 @@ fn far_rows(list: &mut List) {
     for (what, rows, wrong) in listed {
         for row in wrong {
             let mut words = sized(&rows);
-            words[ROW_WORDS * row + 4] += 1;
+            words[ROW_WORDS * row + SIZE] += 1;
             let name = format!("{what}, the size of row {row}");
             size(list, &name, words, rows.len());
         }
@@ -177,7 +177,7 @@ fn far_rows(list: &mut List) {
 }
 
 /// An array of 4,095 byte arrays, of which the last alone has elements: its XDR has at most 1,048,576
-/// bytes, its record 16,384 more.
+/// bytes, its record up to 16,384 more.
 pub(super) fn great_arrays() -> [(&'static str, Value); 3] {
     let listed = [
         ("byte arrays of 1,064,960 bytes in all", 1_032_192),
@@ -222,7 +222,7 @@ pub fn rows() -> Cases {
         ("13 of a size before 18 of no row", 1, 3),
     ] {
         let (mut rows, n, store) = (rows.clone(), 3, vec![0x5a; 2]);
-        rows[ROW_WORDS * wrong + 4] += 1;
+        rows[ROW_WORDS * wrong + SIZE] += 1;
         let case = Case::LocateArray {
             rows,
             n,

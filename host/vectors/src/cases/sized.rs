@@ -2,8 +2,11 @@
 
 use super::ROW_WORDS;
 
+/// Which word of a row is its size.
+pub(super) const SIZE: usize = ROW_WORDS - 1;
+
 /// A row without its size: kind, span, word 2 and word 3.
-pub(super) type Bare = [u64; ROW_WORDS - 1];
+pub(super) type Bare = [u64; SIZE];
 
 /// The bytes that a row adds to its record. Those of a kind that is none are as many as most kinds
 /// add.
