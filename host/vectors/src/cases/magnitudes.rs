@@ -445,6 +445,12 @@ fn row_words(list: &mut List) {
         let name = format!("row number {step}");
         list.add(&name, locate(&array, 1, 0, add as usize));
     }
+    // 5 times the first wraps to 1, and 5 times the second, whose lowest 16 bits are 0, to 2^16.
+    for (n, words) in [(0xcccc_cccc_cccc_cccd, 5), (0xcccc_cccc_cccd_0000, 1 << 16)] {
+        let mut rows = sized(&[CONSTANT_ROW]);
+        rows.resize(words, 9);
+        list.add(&format!("n {n}, {words} words"), size(&rows, n, 0));
+    }
     for kind in [5, 6, 7] {
         for (span, what) in [(2, "span 2"), (0, "span 0"), (1, "span 1")] {
             let rows = sized(&[[4, 3, 2, 0], [kind, span, 9, 0], CONSTANT_ROW]);

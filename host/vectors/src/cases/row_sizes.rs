@@ -2,9 +2,10 @@
 
 use std::collections::BTreeSet;
 
-use compare::{Case, Value};
+use compare::Value;
 
 use super::borders;
+use super::rows::{locate, size};
 use super::signed::signed_number;
 use super::sized::{sized, Bare, SIZE};
 use super::writing::{marshall, marshall_val, value};
@@ -87,9 +88,8 @@ fn of_a(rows: &str, n: usize) -> Value {
 }
 
 /// Adds the size of rows, with a store of 16 bytes.
-fn size(list: &mut List, name: &str, rows: Vec<u64>, n: usize) {
-    let store = vec![0x5a; 16];
-    list.add(name, Case::ComputeSizeOf { rows, n, store });
+fn add_size(list: &mut List, name: &str, rows: &[u64], n: usize) {
+    list.add(name, size(rows, n, &[0x5a; 16]));
 }
 
 /// The rows of a value of each kind: arrays of two elements, a tuple of two fields.
@@ -118,12 +118,12 @@ fn each_kind(list: &mut List) {
             let mut rows = sound.clone();
             rows[SIZE] = wrong;
             let name = format!("kind {kind} of size {right}, given as {wrong}");
-            size(list, &name, rows, n);
+            add_size(list, &name, &rows, n);
             let root = [[4, n as u64 + 2, 2, 0], [2, 1, 7, 0]];
             let mut rows = sized(&[&root[..], &own].concat());
             rows[2 * ROW_WORDS + SIZE] = wrong;
             rows[SIZE] = wrong.wrapping_add(8);
-            size(list, &format!("{name}, in a tuple"), rows, n + 2);
+            add_size(list, &format!("{name}, in a tuple"), &rows, n + 2);
         }
     }
 }
@@ -139,9 +139,8 @@ fn each_row(list: &mut List) {
         rows
     };
     let mut add = |what: String, rows: Vec<u64>| {
-        let (n, store) = (7, vec![0x5a; 41]);
         let name = format!("nested, the size of {what}");
-        list.add(&name, Case::ComputeSizeOf { rows, n, store });
+        list.add(&name, size(&rows, 7, &[0x5a; 41]));
     };
     for first in 0..7 {
         add(format!("row {first}"), with(&[first]));
@@ -171,7 +170,7 @@ fn far_rows(list: &mut List) {
             let mut words = sized(&rows);
             words[ROW_WORDS * row + SIZE] += 1;
             let name = format!("{what}, the size of row {row}");
-            size(list, &name, words, rows.len());
+            add_size(list, &name, &words, rows.len());
         }
     }
 }
@@ -193,58 +192,53 @@ pub(super) fn great_arrays() -> [(&'static str, Value); 3] {
     })
 }
 
-/// The cases of the size call and of the locator.
-pub fn rows() -> Cases {
-    let mut list = List::default();
-    for (name, rows, n) in OF_A {
-        let Value { rows, n, store, .. } = of_a(rows, n);
-        let (again, copy, row) = (rows.clone(), store.clone(), 2);
-        list.add(name, Case::ComputeSizeOf { rows, n, store });
-        let (rows, store) = (again, copy);
-        let case = Case::LocateArray {
-            rows,
-            n,
-            store,
-            row,
-        };
-        list.add(name, case);
-    }
+/// The sizes of other rows than example A's: nested values, rows without sizes, and great values.
+fn sizes(list: &mut List) {
     for (name, rows) in NESTED {
         let rows: Vec<u64> = numbers(rows);
-        let n = rows.len() / ROW_WORDS;
-        size(&mut list, name, rows, n);
+        add_size(list, name, &rows, rows.len() / ROW_WORDS);
     }
-    let rows = sized(&[[4, 3, 2, 0], [5, 1, 2, 0], [1, 1, 7, 0]]);
-    for (what, wrong, row) in [
+    add_size(list, "12 of rows without sizes", &[0, 1, 0, 0], 1);
+    let without = numbers::<u64>("3 4 3 0, 0 1 0 0, 0 1 0 0, 0 1 0 0, 0 0 0 0");
+    add_size(list, "13 of rows without sizes", &without, 4);
+    let (wrong, long) = (numbers::<u64>("1 1 7 0 5"), vec![0x5a; MAX_BYTES + 1]);
+    list.add("6 before 13 of a size", size(&wrong, 1, &long));
+    for (name, arrays) in great_arrays() {
+        list.add(name, size(&arrays.rows, arrays.n, &arrays.store));
+    }
+    let store = vec![0x5a; 70_000];
+    for kind in [3, 4, 8] {
+        let rows = sized(&[[kind, 2, 1, 0], [5, 1, 70_000, 0]]);
+        let name = format!("kind {kind} of a value of 70,008 bytes");
+        list.add(&name, size(&rows, 2, &store));
+    }
+}
+
+/// The locator, of a row whose size is wrong and of others.
+fn located(list: &mut List) {
+    let sound = sized(&[[4, 3, 2, 0], [5, 1, 2, 0], [1, 1, 7, 0]]);
+    for (name, wrong, row) in [
         ("13 of another row's size", 2, 1),
         ("13 of the row's own size", 1, 1),
         ("13 of a size before 18", 0, 2),
         ("13 of a size before 18 of no row", 1, 3),
     ] {
-        let (mut rows, n, store) = (rows.clone(), 3, vec![0x5a; 2]);
+        let mut rows = sound.clone();
         rows[ROW_WORDS * wrong + SIZE] += 1;
-        let case = Case::LocateArray {
-            rows,
-            n,
-            store,
-            row,
-        };
-        list.add(what, case);
+        list.add(name, locate(&rows, 3, &[0x5a; 2], row));
     }
-    size(&mut list, "12 of rows without sizes", vec![0, 1, 0, 0], 1);
-    let behind = numbers("3 4 3 0, 0 1 0 0, 0 1 0 0, 0 1 0 0, 0 0 0 0");
-    size(&mut list, "13 of rows without sizes", behind, 4);
-    let long = vec![0x5a; MAX_BYTES + 1];
-    let case = Case::ComputeSizeOf {
-        rows: numbers("1 1 7 0 5"),
-        n: 1,
-        store: long,
-    };
-    list.add("6 before 13 of a size", case);
-    for (name, arrays) in great_arrays() {
-        let Value { rows, n, store, .. } = arrays;
-        list.add(name, Case::ComputeSizeOf { rows, n, store });
+}
+
+/// The cases of the size call and of the locator.
+pub fn rows() -> Cases {
+    let mut list = List::default();
+    for (name, rows, n) in OF_A {
+        let Value { rows, n, store, .. } = of_a(rows, n);
+        list.add(name, size(&rows, n, &store));
+        list.add(name, locate(&rows, n, &store, 2));
     }
+    sizes(&mut list);
+    located(&mut list);
     each_kind(&mut list);
     each_row(&mut list);
     far_rows(&mut list);

@@ -9,7 +9,7 @@ use super::{magnitudes, row_sizes};
 const CONSTANT: Bare = [0, 1, 0, 0];
 
 /// The size of these rows, of which `n` are the value's.
-fn size(rows: &[u64], n: usize, store: &[u8]) -> Case {
+pub(super) fn size(rows: &[u64], n: usize, store: &[u8]) -> Case {
     Case::ComputeSizeOf {
         rows: rows.to_vec(),
         n,
@@ -18,7 +18,7 @@ fn size(rows: &[u64], n: usize, store: &[u8]) -> Case {
 }
 
 /// Where the array of a row lies.
-fn locate(rows: &[u64], n: usize, store: &[u8], row: usize) -> Case {
+pub(super) fn locate(rows: &[u64], n: usize, store: &[u8], row: usize) -> Case {
     Case::LocateArray {
         rows: rows.to_vec(),
         n,

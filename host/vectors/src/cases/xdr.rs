@@ -878,6 +878,13 @@ fn great_sizes(list: &mut List) {
         let (record, store) = (xdr(&arrays), arrays.store.len());
         import(list, name, &arrays.grammar, &record, arrays.n, store);
     }
+    for kind in [3, 4, 8] {
+        let grammar = table(&[[kind, 0, 1], [5, 0, 0]], &[1]);
+        let rows = [[kind.into(), 2, u64::from(kind != 8), 0], [5, 1, 70_000, 0]];
+        let value = borders::value(grammar, &rows, &vec![0x5a; 70_000]);
+        let name = format!("kind {kind} of a byte array of 70,000 bytes");
+        import(list, &name, &value.grammar, &xdr(&value), 2, 70_000);
+    }
 }
 
 /// Counts and tags whose low bits are those of a value that is there.
