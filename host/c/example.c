@@ -34,19 +34,20 @@ static const uint32_t serial_grammar[] = {1, ROUTE_KIND_UINT32, 0, 0, 0};
 static uint8_t store[24];
 
 /* The value: serial number 7, channel 1 with trim -3 and two steps, channel 2 with trim 4 and one
- * step. A row is kind, span, word 2, and for an array of numbers the offset in the store. */
+ * step. A row is kind, span, word 2, for an array of numbers the offset in the store, and the size:
+ * the bytes of the row's value in the record, its children's included. */
 static const uint64_t rows[] = {
-    ROUTE_KIND_TUPLE, 11, 2, 0,           /* the tuple: 11 rows in all, 2 fields */
-    ROUTE_KIND_UINT32, 1, 7, 0,           /* serial number 7 */
-    ROUTE_KIND_ARRAY, 9, 2, 0,            /* 2 channels */
-    ROUTE_KIND_TUPLE, 4, 3, 0,            /* a channel: 3 fields */
-    ROUTE_KIND_UINT32, 1, 1, 0,           /* its number */
-    ROUTE_KIND_INT32, 1, (uint32_t)-3, 0, /* its trim, as its pattern of 32 bits */
-    ROUTE_KIND_UINT64_ARRAY, 1, 2, 0,     /* 2 steps, from byte 0 of the store on */
-    ROUTE_KIND_TUPLE, 4, 3, 0,            /* the other channel */
-    ROUTE_KIND_UINT32, 1, 2, 0,           /* its number */
-    ROUTE_KIND_INT32, 1, 4, 0,            /* its trim */
-    ROUTE_KIND_UINT64_ARRAY, 1, 1, 16,    /* 1 step, from byte 16 on */
+    ROUTE_KIND_TUPLE, 11, 2, 0, 68,          /* the tuple: 11 rows in all, 2 fields, 4 + 64 bytes */
+    ROUTE_KIND_UINT32, 1, 7, 0, 4,           /* serial number 7 */
+    ROUTE_KIND_ARRAY, 9, 2, 0, 64,           /* 2 channels: 8 bytes for the count, and 32 + 24 */
+    ROUTE_KIND_TUPLE, 4, 3, 0, 32,           /* a channel: 3 fields, 4 + 4 + 24 bytes */
+    ROUTE_KIND_UINT32, 1, 1, 0, 4,           /* its number */
+    ROUTE_KIND_INT32, 1, (uint32_t)-3, 0, 4, /* its trim, as its pattern of 32 bits */
+    ROUTE_KIND_UINT64_ARRAY, 1, 2, 0, 24,    /* 2 steps, from byte 0 of the store on */
+    ROUTE_KIND_TUPLE, 4, 3, 0, 24,           /* the other channel */
+    ROUTE_KIND_UINT32, 1, 2, 0, 4,           /* its number */
+    ROUTE_KIND_INT32, 1, 4, 0, 4,            /* its trim */
+    ROUTE_KIND_UINT64_ARRAY, 1, 1, 16, 16,   /* 1 step, from byte 16 on */
 };
 
 enum {
@@ -118,8 +119,9 @@ static int print_rows(const uint8_t *record, size_t length)
     printf("rows %zu\n", n);
     for (size_t row = 0; row < n; row++) {
         const uint64_t *words = read + ROUTE_ROW_WORDS * row;
-        printf("%" PRIu64 " %" PRIu64 " %" PRIu64 " %" PRIu64 "\n", words[0], words[1], words[2],
-               words[3]);
+        for (size_t i = 0; i < ROUTE_ROW_WORDS; i++)
+            printf(i == 0 ? "%" PRIu64 : " %" PRIu64, words[i]);
+        printf("\n");
     }
     answer = route_signed_number(read, WORDS, n, record, length, TRIM_ROW);
     if (answer.number != 0) {

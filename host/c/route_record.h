@@ -43,7 +43,7 @@ enum {
     ROUTE_MAX_BYTES = 1048576,      /* the bytes of the longest record, XDR or store */
     ROUTE_MAX_ROWS = 4096,          /* the rows of the largest value */
     ROUTE_CHECK_ROWS = 1024,        /* the rows of a check that is not told how many */
-    ROUTE_ROW_WORDS = 4             /* the words of a row */
+    ROUTE_ROW_WORDS = 5             /* the words of a row */
 };
 
 /* The kinds of grammar nodes and of rows. */
@@ -238,19 +238,22 @@ route_answer route_pack_u64_seq(const uint64_t *numbers, size_t numbers_len, uin
 ROUTE_NODISCARD
 route_answer route_check_grammar(const uint32_t *words, size_t words_len);
 
-/* Value rows: row i is the words kind, span, word 2 and word 3, from word 4i on. Kinds are those of
- * grammar tables. The span is the number of rows of the value, its own included; the rows of its
- * children follow its own, child after child. Word 2 is 0 for kind 0, the number for kinds 1 and 2,
- * the count of elements for kinds 3 to 7, the tag for kind 8; for kinds 9 and 10 it is the number's
- * two's complement pattern as an unsigned number, (uint32_t)-3 for the int32 -3, so for kind 9
- * below 4294967296. Word 3 is the offset of the first element in the store for kinds 5 to 7, else
- * 0. Words behind row n - 1 are not looked at. A call uses less than 1 MiB of stack, on values as
- * deep as 4096 rows can be. */
+/* Value rows: row i is the words kind, span, word 2, word 3 and size, from word 5i on. Kinds are
+ * those of grammar tables. The span is the number of rows of the value, its own included; the rows
+ * of its children follow its own, child after child. Word 2 is 0 for kind 0, the number for kinds 1
+ * and 2, the count of elements for kinds 3 to 7, the tag for kind 8; for kinds 9 and 10 it is the
+ * number's two's complement pattern as an unsigned number, (uint32_t)-3 for the int32 -3, so for
+ * kind 9 below 4294967296. Word 3 is the offset of the first element in the store for kinds 5 to 7,
+ * else 0. The size is that of the value in bytes, the length of its record: for kind 0, 0; kinds 1
+ * and 9, 4; kinds 2 and 10, 8; kind 3, 8 and the sizes of its children; kind 4, the sizes of its
+ * children; kinds 5 to 7, 8 and the count times 1, 4 or 8; kind 8, 8 and the size of its child.
+ * Words behind row n - 1 are not looked at. A call uses less than 1 MiB of stack, on values as deep
+ * as 4096 rows can be. */
 
-/* Gives in `first` the size in bytes of the value that rows 0 to n - 1 stand for: the length of its
- * record, at most 4293951488. Changes nothing.
+/* Gives in `first` the size in bytes of the value that rows 0 to n - 1 stand for, which is the size
+ * in row 0: the length of its record, at most 4293951488. Changes nothing.
  * Refused: 6 at byte 0, when store_len is above 1048576;
- * 12 at row 0, when n is 0 or above 4096, or 4 * n is above rows_len;
+ * 12 at row 0, when n is 0 or above 4096, or 5 * n is above rows_len;
  * 13 at row 0, when its span is not n;
  * then, row after row, from row 0 on:
  * 13 at the row, when its kind is above 10; when its span is 0, reaches past its parent's end, or
@@ -260,7 +263,7 @@ route_answer route_check_grammar(const uint32_t *words, size_t words_len);
  * store_len, count 0 too;
  * then its children, as many as word 2 says for kinds 3 and 4, one for kind 8, and behind them
  * 13 at the row, when a child is missing or rows of its span are left over, which are not
- * looked at. */
+ * looked at; or when its size is not that of its value. */
 ROUTE_NODISCARD
 route_answer route_compute_size_of(const uint64_t *rows, size_t rows_len, size_t n,
                                    const uint8_t *store, size_t store_len);
@@ -307,9 +310,9 @@ route_answer route_signed_number(const uint64_t *rows, size_t rows_len, size_t n
  * grammar accepts it the answer is 22. route_accepts says no to every proper front part of a record
  * to which it says yes, and does not say why. */
 
-/* Reads from byte index on. The rows lent are rows_len divided by 4, rounded down, at most 4096;
- * none with rows_len 0. Changes only rows 0 to n - 1, which stand for the value, with the record as
- * store.
+/* Reads from byte index on. The rows lent are rows_len divided by 5, rounded down, at most 4096;
+ * none with rows_len below 5. Changes only rows 0 to n - 1, which stand for the value, with the
+ * record as store.
  * Refused: 1 to 5 as route_check_grammar;
  * 6 at byte 0, when record_len is above 1048576;
  * 7 at byte index, when index is above record_len;
@@ -489,7 +492,8 @@ route_answer route_export_xdr(const uint32_t *grammar, size_t grammar_len, const
  * counted as for route_parse_val. Changes only rows 0 to n - 1, which stand for the value, and
  * bytes 0 to `second` - 1 of the store: the elements of the arrays, one array behind the other in
  * the order of their rows, without padding. The offset of an array is where those before it end,
- * count 0 too. It uses less than 128 KiB of stack, on grammars as deep as 256 nodes can be.
+ * count 0 too. A row's size is that of the record, not of the XDR, so it may be above 1048576, at
+ * most 1064960. It uses less than 128 KiB of stack, on grammars as deep as 256 nodes can be.
  * Refused: 1 to 5 as route_check_grammar;
  * 6 at byte 0, when record_len or store_len is above 1048576;
  * then, value after value, from the root on, at the byte where the value starts, but for 17:

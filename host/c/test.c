@@ -352,8 +352,9 @@ static void test_lengths(void)
         CHECK(refused(route_choose_grammar(list, of_u32[i], bytes, 8), 21, 1, 0));
         CHECK(refused(route_accepts(no_nodes, of_u32[i], bytes, 8), 1, 1, 0));
         CHECK(refused(route_accepts(constant, of_u32[i], bytes, 8), 2, 1, 4));
-        CHECK(refused(route_import_xdr(constant, of_u32[i], bytes, 8, u64, 4, forbidden, 8), 2, 1,
-                      4));
+        CHECK(refused(
+            route_import_xdr(constant, of_u32[i], bytes, 8, u64, ROUTE_ROW_WORDS, forbidden, 8), 2,
+            1, 4));
         CHECK(refused(route_import_xdr(constant, 5, bytes, 8, u64, of_u64[i], forbidden, 8), 11, 2,
                       0));
     }
@@ -365,17 +366,21 @@ static void test_lengths(void)
         CHECK(refused(route_check_val(constant, 5, forbidden, of_u8[i], 1), 6, 2, 0));
         CHECK(refused(route_check_val_with(constant, 5, forbidden, of_u8[i], 1, 0), 6, 2, 0));
         CHECK(refused(route_check_whole_with(constant, 5, forbidden, of_u8[i], 0), 6, 2, 0));
-        CHECK(refused(route_compute_size_of(u64, 4, 1, forbidden, of_u8[i]), 6, 2, 0));
+        CHECK(
+            refused(route_compute_size_of(u64, ROUTE_ROW_WORDS, 1, forbidden, of_u8[i]), 6, 2, 0));
         CHECK(refused(route_demarshall(constant, 5, forbidden, of_u8[i], u64, of_u64[0]), 6, 2, 0));
         CHECK(equal(route_same_route(constant, 5, bytes, 0, forbidden, of_u8[i]),
                     (route_answer){6, 2, 0, 0, 2}));
         CHECK(refused(route_choose_grammar(list, 7, forbidden, of_u8[i]), 6, 2, 0));
         CHECK(gives_two(route_accepts(constant, 5, forbidden, of_u8[i]), 0, 0));
-        CHECK(refused(route_import_xdr(constant, 5, forbidden, of_u8[i], u64, 4, out, 8), 6, 2, 0));
-        CHECK(
-            refused(route_import_xdr(constant, 5, bytes, 0, u64, 4, forbidden, of_u8[i]), 6, 2, 0));
-        CHECK(gives(route_marshall(constant, 5, (const uint64_t[]){0, 1, 0, 0}, of_u64[i], 1, NULL,
-                                   0, forbidden, of_u8[i]),
+        CHECK(refused(
+            route_import_xdr(constant, 5, forbidden, of_u8[i], u64, ROUTE_ROW_WORDS, out, 8), 6, 2,
+            0));
+        CHECK(refused(
+            route_import_xdr(constant, 5, bytes, 0, u64, ROUTE_ROW_WORDS, forbidden, of_u8[i]), 6,
+            2, 0));
+        CHECK(gives(route_marshall(constant, 5, (const uint64_t[]){0, 1, 0, 0, 0}, of_u64[i], 1,
+                                   NULL, 0, forbidden, of_u8[i]),
                     0));
     }
 }
@@ -385,25 +390,25 @@ static void test_lengths(void)
 static void test_output_lengths(void)
 {
     static const uint32_t constant[] = {1, 0, 0, 0, 0}, number[] = {1, 1, 0, 0, 0};
-    static const uint64_t constant_row[] = {0, 1, 0, 0}, number_row[] = {1, 1, 7, 0};
+    static const uint64_t constant_row[] = {0, 1, 0, 0, 0}, number_row[] = {1, 1, 7, 0, 4};
     uint8_t *forbidden = pages[0] + PAGES_SIZE;
     const size_t lengths[] = {SIZE_MAX / 2, SIZE_MAX};
 
     subject = "lengths of an output";
     for (int i = 0; i < 2; i++) {
         size_t length = lengths[i];
-        CHECK(gives_two(
-            route_preview(constant, 5, constant_row, 4, 1, NULL, 0, forbidden, length, length), 0,
-            0));
-        CHECK(refused(
-            route_preview(number, 5, number_row, 4, 1, NULL, 0, forbidden, length, length - 3), 17,
-            2, length));
-        CHECK(gives(
-            route_export_xdr(constant, 5, constant_row, 4, 1, NULL, 0, forbidden, length, length),
-            0));
-        CHECK(refused(
-            route_export_xdr(number, 5, number_row, 4, 1, NULL, 0, forbidden, length, length - 3),
-            17, 2, length));
+        CHECK(gives_two(route_preview(constant, 5, constant_row, ROUTE_ROW_WORDS, 1, NULL, 0,
+                                      forbidden, length, length),
+                        0, 0));
+        CHECK(refused(route_preview(number, 5, number_row, ROUTE_ROW_WORDS, 1, NULL, 0, forbidden,
+                                    length, length - 3),
+                      17, 2, length));
+        CHECK(gives(route_export_xdr(constant, 5, constant_row, ROUTE_ROW_WORDS, 1, NULL, 0,
+                                     forbidden, length, length),
+                    0));
+        CHECK(refused(route_export_xdr(number, 5, number_row, ROUTE_ROW_WORDS, 1, NULL, 0,
+                                       forbidden, length, length - 3),
+                      17, 2, length));
     }
 }
 
@@ -424,7 +429,8 @@ static void test_longest(void)
     }
     CHECK(gives_two(route_demarshall(grammar, 5, record, ROUTE_MAX_BYTES, rows, ROUTE_ROW_WORDS), 1,
                     ROUTE_MAX_BYTES));
-    CHECK(rows[0] == ROUTE_KIND_BYTE_ARRAY && rows[1] == 1 && rows[2] == COUNT && rows[3] == 8);
+    CHECK(rows[0] == ROUTE_KIND_BYTE_ARRAY && rows[1] == 1 && rows[2] == COUNT && rows[3] == 8 &&
+          rows[4] == ROUTE_MAX_BYTES);
     memset(out, FILL, OUT);
     CHECK(gives_two(
         route_preview(grammar, 5, rows, ROUTE_ROW_WORDS, 1, record, ROUTE_MAX_BYTES, out, OUT, 5),
@@ -454,8 +460,8 @@ static void test_longest_xdr(void)
 {
     enum { COUNT = ROUTE_MAX_BYTES - 4, OUT = ROUTE_MAX_BYTES + 14 };
     static const uint32_t grammar[] = {1, ROUTE_KIND_BYTE_ARRAY, 0, 0, 0};
-    static const uint64_t row[] = {ROUTE_KIND_BYTE_ARRAY, 1, COUNT, 0};
-    static const uint64_t longer[] = {ROUTE_KIND_BYTE_ARRAY, 1, COUNT + 1, 0};
+    static const uint64_t row[] = {ROUTE_KIND_BYTE_ARRAY, 1, COUNT, 0, 8 + COUNT};
+    static const uint64_t longer[] = {ROUTE_KIND_BYTE_ARRAY, 1, COUNT + 1, 0, 8 + COUNT + 1};
     static uint8_t elements[ROUTE_MAX_BYTES], store[ROUTE_MAX_BYTES], out[OUT];
     uint64_t rows[ROUTE_ROW_WORDS];
 
@@ -464,12 +470,14 @@ static void test_longest_xdr(void)
         elements[i] = (uint8_t)(i % 251);
     memset(out, FILL, OUT);
     memset(store, FILL, ROUTE_MAX_BYTES);
-    CHECK(
-        refused(route_export_xdr(grammar, 5, longer, 4, 1, elements, ROUTE_MAX_BYTES, out, OUT, 5),
-                16, 3, 0));
-    CHECK(refused(route_marshall_val(grammar, 5, row, 4, 1, elements, ROUTE_MAX_BYTES, out, OUT, 5),
+    CHECK(refused(route_export_xdr(grammar, 5, longer, ROUTE_ROW_WORDS, 1, elements,
+                                   ROUTE_MAX_BYTES, out, OUT, 5),
                   16, 3, 0));
-    CHECK(gives(route_export_xdr(grammar, 5, row, 4, 1, elements, ROUTE_MAX_BYTES, out, OUT, 5),
+    CHECK(refused(route_marshall_val(grammar, 5, row, ROUTE_ROW_WORDS, 1, elements, ROUTE_MAX_BYTES,
+                                     out, OUT, 5),
+                  16, 3, 0));
+    CHECK(gives(route_export_xdr(grammar, 5, row, ROUTE_ROW_WORDS, 1, elements, ROUTE_MAX_BYTES,
+                                 out, OUT, 5),
                 ROUTE_MAX_BYTES));
     CHECK(out[5] == 0 && out[6] == 0x0f && out[7] == 0xff && out[8] == 0xfc);
     CHECK(memcmp(out + 9, elements, COUNT) == 0);
@@ -532,6 +540,13 @@ static void test_rows(void)
                         ROUTE_MAX_ROWS, 0));
         CHECK(refused(route_import_xdr(grammar, 9, more_xdr, 4, rows, words, NULL, 0), 8, 2, 0));
     }
+
+    subject = "a word too few for the last row";
+    size_t words = ROUTE_ROW_WORDS * ROUTE_MAX_ROWS - 1;
+    CHECK(refused(route_demarshall(grammar, 9, most, 8, rows, words), 8, 2, 0));
+    CHECK(gives_two(route_demarshall(grammar, 9, most, 8, rows, words + 1), ROUTE_MAX_ROWS, 8));
+    CHECK(refused(route_compute_size_of(rows, words, ROUTE_MAX_ROWS, NULL, 0), 12, 3, 0));
+    CHECK(gives(route_compute_size_of(rows, words + 1, ROUTE_MAX_ROWS, NULL, 0), 8));
 }
 
 /* Arrays that are only read may be the same one, or overlap. */
@@ -539,7 +554,7 @@ static void test_overlapping(void)
 {
     static const uint32_t bytes[] = {1, ROUTE_KIND_BYTE_ARRAY, 0, 0, 0};
     static const uint8_t record[] = {2, 0, 0, 0, 0, 0, 0, 0, 0, 0, 0, 0, 0, 0, 0, 0};
-    static const uint64_t row[] = {ROUTE_KIND_BYTE_ARRAY, 1, 2, 8};
+    static const uint64_t row[] = {ROUTE_KIND_BYTE_ARRAY, 1, 2, 8, 10};
     static const uint32_t list[] = {1, 5, 1, ROUTE_KIND_UINT32, 0, 0, 0};
 
     subject = "records that overlap";
@@ -558,14 +573,18 @@ static void test_overlapping(void)
     CHECK(gives_two(route_accepts(list + 2, 5, (const uint8_t *)(list + 2), 3), 0, 0));
 
     subject = "a store and an output that overlap";
-    CHECK(gives_two(route_preview(bytes, 5, row, 4, 1, record, 10, record, 10, 0), 10, 0));
-    CHECK(gives_two(route_preview(bytes, 5, row, 4, 1, record, 10, record + 1, 10, 0), 10, 1));
-    CHECK(gives_two(route_preview(bytes, 5, row, 4, 1, record + 1, 10, record, 16, 6), 10, 1));
+    CHECK(gives_two(route_preview(bytes, 5, row, ROUTE_ROW_WORDS, 1, record, 10, record, 10, 0), 10,
+                    0));
+    CHECK(gives_two(route_preview(bytes, 5, row, ROUTE_ROW_WORDS, 1, record, 10, record + 1, 10, 0),
+                    10, 1));
+    CHECK(gives_two(route_preview(bytes, 5, row, ROUTE_ROW_WORDS, 1, record + 1, 10, record, 16, 6),
+                    10, 1));
 
     static const uint8_t of_the_row[] = {0, 0, 0, 2, 1, 0, 0, 0};
     uint8_t out[8];
     subject = "rows that are the store";
-    CHECK(gives(route_export_xdr(bytes, 5, row, 4, 1, (const uint8_t *)row, sizeof row, out, 8, 0),
+    CHECK(gives(route_export_xdr(bytes, 5, row, ROUTE_ROW_WORDS, 1, (const uint8_t *)row,
+                                 sizeof row, out, 8, 0),
                 8));
     CHECK(memcmp(out, of_the_row, 8) == 0);
 }
@@ -579,10 +598,10 @@ static void test_casts(void)
 
     subject = "casts";
     for (int i = 0; i < NUMBERS; i++) {
-        const uint64_t row_32[] = {ROUTE_KIND_INT32, 1, (uint32_t)of_32[i], 0};
+        const uint64_t row_32[] = {ROUTE_KIND_INT32, 1, (uint32_t)of_32[i], 0, 4};
         route_answer a = route_signed_number(row_32, ROUTE_ROW_WORDS, 1, NULL, 0, 0);
         CHECK(gives(a, (uint64_t)of_32[i]) && (int64_t)a.first == of_32[i]);
-        const uint64_t row_64[] = {ROUTE_KIND_INT64, 1, (uint64_t)of_64[i], 0};
+        const uint64_t row_64[] = {ROUTE_KIND_INT64, 1, (uint64_t)of_64[i], 0, 8};
         a = route_signed_number(row_64, ROUTE_ROW_WORDS, 1, NULL, 0, 0);
         CHECK(gives(a, (uint64_t)of_64[i]) && (int64_t)a.first == of_64[i]);
     }
