@@ -26,6 +26,8 @@ pub struct Builder {
     store: Vec<u8>,
     /// How many children the value whose children are being made has so far.
     children: u64,
+    /// The sizes of these children together.
+    children_size: u64,
 }
 
 impl Value<'_> {
@@ -38,7 +40,7 @@ impl Value<'_> {
     /// use route_record::Value;
     ///
     /// let value = Value::build(|value| value.uint32(7))?;
-    /// assert_eq!(value.row_words(), [1, 1, 7, 0]);
+    /// assert_eq!(value.row_words(), [1, 1, 7, 0, 4]);
     ///
     /// let refusal = Value::build(|value| value.tagged_union(0, |_| ())).unwrap_err();
     /// assert_eq!(refusal.number, 13);
@@ -49,6 +51,7 @@ impl Value<'_> {
             rows: Vec::new(),
             store: Vec::new(),
             children: 0,
+            children_size: 0,
         };
         make(&mut builder);
         let Builder { rows, store, .. } = builder;
@@ -60,17 +63,17 @@ impl Value<'_> {
 impl Builder {
     /// A constant.
     pub fn constant(&mut self) {
-        self.row(Kind::CONSTANT, 0, 0);
+        self.row(Kind::CONSTANT, 0, 0, 0);
     }
 
     /// A uint32.
     pub fn uint32(&mut self, number: u32) {
-        self.row(Kind::UINT32, number.into(), 0);
+        self.row(Kind::UINT32, number.into(), 0, 4);
     }
 
     /// A uint64.
     pub fn uint64(&mut self, number: u64) {
-        self.row(Kind::UINT64, number, 0);
+        self.row(Kind::UINT64, number, 0, 8);
     }
 
     /// An int32. Its row holds the number's 32-bit two's complement pattern.
@@ -79,27 +82,27 @@ impl Builder {
     /// use route_record::Value;
     ///
     /// let value = Value::build(|value| value.int32(-3))?;
-    /// assert_eq!(value.row_words(), [9, 1, 4_294_967_293, 0]);
+    /// assert_eq!(value.row_words(), [9, 1, 4_294_967_293, 0, 4]);
     /// # Ok::<(), route_record::Refusal>(())
     /// ```
     pub fn int32(&mut self, number: i32) {
-        self.row(Kind::INT32, u64::from(number as u32), 0);
+        self.row(Kind::INT32, u64::from(number as u32), 0, 4);
     }
 
     /// An int64. Its row holds the number's 64-bit two's complement pattern.
     pub fn int64(&mut self, number: i64) {
-        self.row(Kind::INT64, number as u64, 0);
+        self.row(Kind::INT64, number as u64, 0, 8);
     }
 
     /// An array whose elements the closure makes.
     pub fn array(&mut self, elements: impl FnOnce(&mut Builder)) {
-        let (word2, count) = self.parent(Kind::ARRAY, elements);
+        let (word2, count) = self.parent(Kind::ARRAY, 8, elements);
         self.rows[word2] = count;
     }
 
     /// A tuple whose fields the closure makes.
     pub fn tuple(&mut self, fields: impl FnOnce(&mut Builder)) {
-        let (word2, count) = self.parent(Kind::TUPLE, fields);
+        let (word2, count) = self.parent(Kind::TUPLE, 0, fields);
         self.rows[word2] = count;
     }
 
@@ -125,26 +128,36 @@ impl Builder {
 
     /// The case of this tag of a union, whose one value the closure makes.
     pub fn tagged_union(&mut self, tag: u64, value: impl FnOnce(&mut Builder)) {
-        let (word2, _) = self.parent(Kind::TAGGED_UNION, value);
+        let (word2, _) = self.parent(Kind::TAGGED_UNION, 8, value);
         self.rows[word2] = tag;
     }
 
     /// Puts a row of span 1.
-    fn row(&mut self, kind: u32, word2: u64, word3: u64) {
-        self.rows.extend([kind.into(), 1, word2, word3]);
+    fn row(&mut self, kind: u32, word2: u64, word3: u64, size: u64) {
+        self.rows.extend([kind.into(), 1, word2, word3, size]);
         self.children += 1;
+        self.children_size += size;
     }
 
     /// Puts the row of a value with children and the rows that the closure makes; gives where the
-    /// row's word 2 stands and how many children were made. The span is 0, which no value has, until
-    /// the children are made.
-    fn parent(&mut self, kind: u32, children: impl FnOnce(&mut Builder)) -> (usize, u64) {
+    /// row's word 2 stands and how many children were made. The value's size is `own_size` more than
+    /// its children's. The span is 0, which no value has, until the children are made.
+    fn parent(
+        &mut self,
+        kind: u32,
+        own_size: u64,
+        children: impl FnOnce(&mut Builder),
+    ) -> (usize, u64) {
         let start = self.rows.len();
-        self.rows.extend([kind.into(), 0, 0, 0]);
+        self.rows.extend([kind.into(), 0, 0, 0, 0]);
         let siblings = mem::take(&mut self.children);
+        let siblings_size = mem::take(&mut self.children_size);
         children(self);
+        let size = own_size + self.children_size;
         let count = mem::replace(&mut self.children, siblings + 1);
+        self.children_size = siblings_size + size;
         self.rows[start + 1] = ((self.rows.len() - start) / ROW_WORDS) as u64;
+        self.rows[start + 4] = size;
         (start + 2, count)
     }
 
@@ -160,7 +173,8 @@ impl Builder {
         let offset = self.store.len();
         self.store.resize(offset + count * width, 0);
         pack(&mut self.store[offset..]).expect("the store has room for the numbers");
-        self.row(kind, count as u64, offset as u64);
+        let size = 8 + (count * width) as u64;
+        self.row(kind, count as u64, offset as u64, size);
     }
 }
 

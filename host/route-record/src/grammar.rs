@@ -14,7 +14,7 @@ use crate::{
 /// let grammar = "tuple(u32, bytes)".parse::<Grammar>()?;
 /// let record = [7, 0, 0, 0, 2, 0, 0, 0, 0, 0, 0, 0, 0x41, 0x42];
 /// let value = grammar.demarshall_vec(&record)?;
-/// assert_eq!(value.row_words(), [4, 3, 2, 0, 1, 1, 7, 0, 5, 1, 2, 12]);
+/// assert_eq!(value.row_words(), [4, 3, 2, 0, 14, 1, 1, 7, 0, 4, 5, 1, 2, 12, 10]);
 /// assert_eq!(grammar.marshall_vec(&value)?, record);
 ///
 /// let refusal = Refusal { number: Refusal::BYTES_MISSING, place: Place::Byte(4) };
@@ -179,9 +179,9 @@ impl Grammar {
     /// use route_record::Grammar;
     ///
     /// let uint32 = Grammar::check(&[1, 1, 0, 0, 0])?;
-    /// let (record, mut rows) = ([0xff, 7, 0, 0, 0, 0xff], [0; 4]);
+    /// let (record, mut rows) = ([0xff, 7, 0, 0, 0, 0xff], [0; 5]);
     /// let (value, rest_index) = uint32.parse_val(&record, 1, &mut rows)?;
-    /// assert_eq!((value.row_words(), rest_index), (&[1, 1, 7, 0][..], 5));
+    /// assert_eq!((value.row_words(), rest_index), (&[1, 1, 7, 0, 4][..], 5));
     /// # Ok::<(), route_record::Refusal>(())
     /// ```
     pub fn parse_val<'a>(
@@ -203,11 +203,11 @@ impl Grammar {
     /// use route_record::Grammar;
     ///
     /// let array_of_constants = Grammar::check(&[2, 3, 0, 1, 0, 0, 0, 1, 1])?;
-    /// let (record, mut rows) = ([3, 0, 0, 0, 0, 0, 0, 0], [0; 16]);
+    /// let (record, mut rows) = ([3, 0, 0, 0, 0, 0, 0, 0], [0; 20]);
     /// let value = array_of_constants.demarshall(&record, &mut rows)?;
     /// assert_eq!(value.root().children().count(), 3);
     ///
-    /// let refusal = array_of_constants.demarshall(&record, &mut rows[..15]).unwrap_err();
+    /// let refusal = array_of_constants.demarshall(&record, &mut rows[..19]).unwrap_err();
     /// assert_eq!(refusal.number, 8);
     /// # Ok::<(), route_record::Refusal>(())
     /// ```
@@ -230,7 +230,7 @@ impl Grammar {
     /// let record = [7, 0, 0, 0, 8, 0, 0, 0];
     /// let (_, rest_index) = uint32.parse_val_vec(&record, 0)?;
     /// let (second, _) = uint32.parse_val_vec(&record, rest_index)?;
-    /// assert_eq!(second.row_words(), [1, 1, 8, 0]);
+    /// assert_eq!(second.row_words(), [1, 1, 8, 0, 4]);
     /// # Ok::<(), route_record::Refusal>(())
     /// ```
     pub fn parse_val_vec<'a>(
@@ -472,9 +472,9 @@ impl Grammar {
     ///
     /// let bytes = Grammar::check(&[1, 5, 0, 0, 0])?;
     /// let xdr = [0, 0, 0, 2, 0x41, 0x42, 0, 0];
-    /// let (mut rows, mut store) = ([0; 4], [0; 8]);
+    /// let (mut rows, mut store) = ([0; 5], [0; 8]);
     /// let value = bytes.import_xdr(&xdr, &mut rows, &mut store)?;
-    /// assert_eq!((value.row_words(), value.store()), (&[5, 1, 2, 0][..], &b"AB"[..]));
+    /// assert_eq!((value.row_words(), value.store()), (&[5, 1, 2, 0, 10][..], &b"AB"[..]));
     ///
     /// let refusal = bytes.import_xdr(&xdr, &mut rows, &mut store[..1]).unwrap_err();
     /// assert_eq!(refusal.number, 17);
@@ -501,7 +501,8 @@ impl Grammar {
     /// let grammar = "tuple(i32, bytes)".parse::<Grammar>()?;
     /// let mut xdr = [0xff, 0xff, 0xff, 0xfd, 0, 0, 0, 2, 0x41, 0x42, 0, 0];
     /// let value = grammar.import_xdr_vec(&xdr)?;
-    /// assert_eq!(value.row_words(), [4, 3, 2, 0, 9, 1, 4_294_967_293, 0, 5, 1, 2, 0]);
+    /// let rows = [4, 3, 2, 0, 14, 9, 1, 4_294_967_293, 0, 4, 5, 1, 2, 0, 10];
+    /// assert_eq!(value.row_words(), rows);
     /// assert_eq!(grammar.export_xdr_vec(&value)?, xdr);
     ///
     /// // The value's record has other bytes.

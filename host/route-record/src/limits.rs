@@ -1,7 +1,7 @@
 //! The numbers of the format that callers size their slices by.
 
-/// The words of a row.
-pub const ROW_WORDS: usize = 4;
+/// The words of a row: kind, span, word 2, word 3 and size.
+pub const ROW_WORDS: usize = 5;
 
 /// The most rows of a value.
 pub const MAX_ROWS: usize = 4_096;

@@ -39,10 +39,10 @@ impl<'a> Value<'a> {
     /// ```
     /// use route_record::Value;
     ///
-    /// let value = Value::check(&[1, 1, 7, 0], 1, &[])?;
+    /// let value = Value::check(&[1, 1, 7, 0, 4], 1, &[])?;
     /// assert_eq!(value.size(), 4);
     ///
-    /// let refusal = Value::check(&[1, 1, 4_294_967_296, 0], 1, &[]).unwrap_err();
+    /// let refusal = Value::check(&[1, 1, 4_294_967_296, 0, 4], 1, &[]).unwrap_err();
     /// assert_eq!(refusal.to_string(), "refused 13 at row 0: the row breaks the layout of a value");
     /// # Ok::<(), route_record::Refusal>(())
     /// ```
@@ -83,10 +83,10 @@ impl<'a> Value<'a> {
         (&self.rows, self.row_count(), &self.store)
     }
 
-    /// The size in bytes: the length of the value's record.
+    /// The size in bytes: the length of the value's record. It is read off row 0, which the library
+    /// wrote or checked.
     pub fn size(&self) -> u64 {
-        let (rows, n, store) = self.parts();
-        calls::compute_size_of(rows, n, store).expect("the library accepted these rows")
+        self.root().size()
     }
 
     /// The row of the whole value.
@@ -146,7 +146,7 @@ impl<'v> Row<'v> {
         self.index
     }
 
-    /// The row's words: kind, span, word 2 and word 3.
+    /// The row's words: kind, span, word 2, word 3 and size.
     pub fn words(&self) -> &'v [u64] {
         &self.value.rows[ROW_WORDS * self.index..][..ROW_WORDS]
     }
@@ -154,6 +154,23 @@ impl<'v> Row<'v> {
     /// The row's kind.
     pub fn kind(&self) -> &'static Kind {
         &KINDS[self.words()[0] as usize]
+    }
+
+    /// The size in bytes of the row's value: how many bytes of the record it has, its children's
+    /// included.
+    ///
+    /// ```
+    /// use route_record::Grammar;
+    ///
+    /// let grammar = "tuple(u32, bytes)".parse::<Grammar>()?;
+    /// let record = [7, 0, 0, 0, 2, 0, 0, 0, 0, 0, 0, 0, 0x41, 0x42];
+    /// let value = grammar.demarshall_vec(&record)?;
+    /// let sizes: Vec<_> = value.rows().map(|(_, row)| row.size()).collect();
+    /// assert_eq!(sizes, [14, 4, 10]);
+    /// # Ok::<(), Box<dyn std::error::Error>>(())
+    /// ```
+    pub fn size(&self) -> u64 {
+        self.words()[4]
     }
 
     /// What the row's value is made of.
@@ -308,7 +325,7 @@ impl<'v> Elements<'v> {
     /// ```
     /// use route_record::Value;
     ///
-    /// let value = Value::check(&[6, 1, 1, 3], 1, &[0, 0, 0, 0x78, 0x56, 0x34, 0x12])?;
+    /// let value = Value::check(&[6, 1, 1, 3, 12], 1, &[0, 0, 0, 0x78, 0x56, 0x34, 0x12])?;
     /// let elements = value.root().elements().unwrap();
     /// assert_eq!(elements.range(), 3..7);
     /// assert_eq!(elements.bytes(), &value.store()[3..7]);

@@ -2,11 +2,11 @@
 //! `host/compare`.
 
 use route_record::calls::{marshall_val, preview};
-use route_record::{Grammar, Place, Preview, Refusal, Value, MAX_BYTES};
+use route_record::{Grammar, Place, Preview, Refusal, Value, MAX_BYTES, ROW_WORDS};
 
 /// Case A of document 01: a tuple of a uint32 and bytes, its rows, and its record.
 const TUPLE: [u32; 13] = [3, 4, 0, 2, 1, 0, 0, 5, 0, 0, 2, 1, 2];
-const ROWS: [u64; 12] = [4, 3, 2, 0, 1, 1, 7, 0, 5, 1, 2, 12];
+const ROWS: [u64; 3 * ROW_WORDS] = [4, 3, 2, 0, 14, 1, 1, 7, 0, 4, 5, 1, 2, 12, 10];
 const RECORD: [u8; 14] = [7, 0, 0, 0, 2, 0, 0, 0, 0, 0, 0, 0, 0x41, 0x42];
 
 const CONSTANT: [u32; 5] = [1, 0, 0, 0, 0];
@@ -57,7 +57,7 @@ fn the_bytes_that_would_differ_are_counted() {
     assert_eq!(over(&longer, 1), accepted(14, 6));
 
     let out = [1, 0, 0, 0, 0, 0, 0, 0, 0x78, 0, 0x34, 0];
-    let row: (&[u64], usize) = (&[6, 1, 1, 0], 1);
+    let row: (&[u64], usize) = (&[6, 1, 1, 0, 12], 1);
     let answer = previewed(&UINT32S, row, &[0x78, 0x56, 0x34, 0x12], &out, 0);
     assert_eq!(answer, accepted(12, 2));
 }
@@ -70,7 +70,7 @@ fn an_output_that_ends_too_early() {
     assert_eq!(over(&[0; 14], usize::MAX), too_short(14));
     assert_eq!(over(&[], 0), too_short(0));
 
-    let row: (&[u64], usize) = (&[0, 1, 0, 0], 1);
+    let row: (&[u64], usize) = (&[0, 1, 0, 0, 0], 1);
     let constant = |index| previewed(&CONSTANT, row, &[], &[7; 2], index);
     assert_eq!(constant(2), accepted(0, 0));
     assert_eq!(constant(3), too_short(2));
@@ -81,14 +81,16 @@ fn an_output_that_ends_too_early() {
 #[test]
 fn the_refusals_are_those_of_writing_in_their_order() {
     let too_long = vec![0; MAX_BYTES + 1];
-    let with_row = |row: usize, words: [u64; 4]| {
-        let mut rows = ROWS;
-        rows[4 * row..][..4].copy_from_slice(&words);
+    let with_row = |mut rows: [u64; 3 * ROW_WORDS], row: usize, words: [u64; ROW_WORDS]| {
+        rows[ROW_WORDS * row..][..ROW_WORDS].copy_from_slice(&words);
         rows
     };
-    let span = with_row(0, [4, 2, 2, 0]);
-    let outside = with_row(2, [5, 1, 2, 13]);
-    let too_large = with_row(2, [5, 1, MAX_BYTES as u64 - 11, 0]);
+    let outside = with_row(ROWS, 2, [5, 1, 2, 13, 10]);
+    let span = with_row(outside, 0, [4, 2, 2, 0, 14]);
+    let size = with_row(outside, 1, [1, 1, 7, 0, 5]);
+    let most = MAX_BYTES as u64;
+    let too_large = with_row(ROWS, 0, [4, 3, 2, 0, most + 1]);
+    let too_large = with_row(too_large, 2, [5, 1, most - 11, 0, most - 3]);
     let kind = [1, 11, 0, 0, 0];
     let record = &RECORD[..];
     for (grammar, rows, n, store, number, place) in [
@@ -100,6 +102,7 @@ fn the_refusals_are_those_of_writing_in_their_order() {
         (&CONSTANT, span, 0, &too_long, 6, Place::Byte(0)),
         (&CONSTANT, span, 0, record, 12, Place::Row(0)),
         (&CONSTANT, span, 3, record, 13, Place::Row(0)),
+        (&CONSTANT, size, 3, record, 13, Place::Row(1)),
         (&CONSTANT, outside, 3, record, 14, Place::Row(2)),
         (&BYTES, too_large, 3, &too_long[1..], 15, Place::Row(0)),
         (&TUPLE, too_large, 3, &too_long[1..], 16, Place::Row(0)),
@@ -114,7 +117,7 @@ fn the_refusals_are_those_of_writing_in_their_order() {
 fn the_longest_record_and_longer_outputs() {
     let store = vec![1; MAX_BYTES];
     let bytes = |count: usize, out: &[u8], index| {
-        let row: (&[u64], usize) = (&[5, 1, count as u64, 0], 1);
+        let row: (&[u64], usize) = (&[5, 1, count as u64, 0, count as u64 + 8], 1);
         previewed(&BYTES, row, &store, out, index)
     };
     let out = vec![0; MAX_BYTES + 5];
@@ -183,8 +186,8 @@ fn every_index_of_several_outputs() {
 #[test]
 fn a_store_that_is_the_output() {
     let bytes = [2, 0, 0, 0, 0, 0, 0, 0, 0x41, 0x42];
-    let row: (&[u64], usize) = (&[5, 1, 2, 8], 1);
+    let row: (&[u64], usize) = (&[5, 1, 2, 8, 10], 1);
     assert_eq!(previewed(&BYTES, row, &bytes, &bytes, 0), accepted(10, 0));
-    let row: (&[u64], usize) = (&[5, 1, 1, 9], 1);
+    let row: (&[u64], usize) = (&[5, 1, 1, 9, 9], 1);
     assert_eq!(previewed(&BYTES, row, &bytes, &bytes, 0), accepted(9, 2));
 }

@@ -4,7 +4,7 @@
 use std::collections::HashSet;
 use std::thread;
 
-use route_record::calls::signed_number;
+use route_record::calls::{compute_size_of, signed_number};
 use route_record::{
     Builder, Grammar, Place, Refusal, Value, CHECK_ROWS, KINDS, MAX_BYTES, MAX_ROWS, REFUSALS,
     ROW_WORDS,
@@ -33,14 +33,14 @@ fn the_rows_in_preorder_with_their_depths() {
     let value = grammar().demarshall_vec(&record).unwrap();
     let rows = value.rows().map(|(depth, row)| format!("{depth} {row:?}"));
     let expected = [
-        "0 Row(0: tuple [4, 8, 3, 0])",
-        "1 Row(1: u32 [1, 1, 7, 0])",
-        "1 Row(2: array [3, 5, 2, 0])",
-        "2 Row(3: union [8, 2, 0, 0])",
-        "3 Row(4: bytes [5, 1, 2, 28])",
-        "2 Row(5: union [8, 2, 1, 0])",
-        "3 Row(6: u64s [7, 1, 2, 46])",
-        "1 Row(7: tuple [4, 1, 0, 0])",
+        "0 Row(0: tuple [4, 8, 3, 0, 62])",
+        "1 Row(1: u32 [1, 1, 7, 0, 4])",
+        "1 Row(2: array [3, 5, 2, 0, 58])",
+        "2 Row(3: union [8, 2, 0, 0, 18])",
+        "3 Row(4: bytes [5, 1, 2, 28, 10])",
+        "2 Row(5: union [8, 2, 1, 0, 32])",
+        "3 Row(6: u64s [7, 1, 2, 46, 24])",
+        "1 Row(7: tuple [4, 1, 0, 0, 0])",
     ];
     assert_eq!(rows.collect::<Vec<_>>(), expected);
 }
@@ -60,7 +60,7 @@ fn what_is_shown_of_a_large_value_is_short() {
             format!("{:?}", value.rows()),
             "Rows(next 0 of Value(rows 4001, bytes of the store 800000))",
         ),
-        (format!("{child:?}"), "Row(8: bytes [5, 1, 200, 1400])"),
+        (format!("{child:?}"), "Row(8: bytes [5, 1, 200, 1400, 208])"),
         (
             format!("{:?}", child.contents()),
             "Elements(Elements(width 1, bytes 1400..1600))",
@@ -140,8 +140,8 @@ fn a_refusal_changes_no_slice() {
 #[test]
 fn a_value_of_more_bytes_than_may_be_written_has_a_size() {
     let store = vec![0; MAX_BYTES];
-    let mut rows = vec![3, MAX_ROWS as u64, MAX_ROWS as u64 - 1, 0];
-    rows.extend([5, 1, MAX_BYTES as u64, 0].repeat(MAX_ROWS - 1));
+    let mut rows = vec![3, MAX_ROWS as u64, MAX_ROWS as u64 - 1, 0, 4_293_951_488];
+    rows.extend([5, 1, MAX_BYTES as u64, 0, MAX_BYTES as u64 + 8].repeat(MAX_ROWS - 1));
     let value = Value::check(&rows, MAX_ROWS, &store).unwrap();
     assert_eq!(value.size(), 4_293_951_488);
 
@@ -152,13 +152,109 @@ fn a_value_of_more_bytes_than_may_be_written_has_a_size() {
 
 #[test]
 fn elements_are_equal_by_bytes_and_width_wherever_they_lie() {
-    let rows = [[4, 4, 3, 0], [5, 1, 4, 0], [5, 1, 4, 4], [6, 1, 1, 4]].concat();
+    let rows = [
+        [4, 4, 3, 0, 36],
+        [5, 1, 4, 0, 12],
+        [5, 1, 4, 4, 12],
+        [6, 1, 1, 4, 12],
+    ]
+    .concat();
     let value = Value::check(&rows, 4, &[7, 0, 0, 0, 7, 0, 0, 0]).unwrap();
     let elements = value.root().children().map(|row| row.elements().unwrap());
     let elements: Vec<_> = elements.collect();
     assert_eq!(elements[0], elements[1]);
     assert_ne!(elements[1], elements[2]);
     assert_eq!(elements.iter().collect::<HashSet<_>>().len(), 2);
+}
+
+/// A value of every kind, in which each kind with children has some.
+fn every_kind() -> Value<'static> {
+    let value = Value::build(|value| {
+        value.tuple(|fields| {
+            fields.constant();
+            fields.uint32(u32::MAX);
+            fields.uint64(u64::MAX);
+            fields.array(|trims| {
+                trims.int32(-1);
+                trims.int32(i32::MIN);
+            });
+            fields.byte_array(&[0xff; 8]);
+            fields.uint32_array(&[u32::MAX]);
+            fields.uint64_array(&[u64::MAX]);
+            fields.tagged_union(9, |value| value.int64(i64::MIN));
+            fields.int32(i32::MAX);
+            fields.int64(-3);
+        });
+    });
+    value.unwrap()
+}
+
+/// A builder sets the size of every value that it closes: that of the part of the table that starts
+/// with the row.
+#[test]
+fn each_row_has_the_size_that_the_library_gives() {
+    let value = every_kind();
+    let mut kinds = HashSet::new();
+    for (_, row) in value.rows() {
+        let span = row.words()[1] as usize;
+        let part = &value.row_words()[ROW_WORDS * row.index()..][..ROW_WORDS * span];
+        let size = compute_size_of(part, span, value.store());
+        assert_eq!(Ok(row.size()), size, "{row:?}");
+        kinds.insert(row.kind());
+    }
+    assert_eq!(kinds.len(), KINDS.len());
+    assert_eq!(value.size(), 100);
+}
+
+#[test]
+fn a_wrong_size_is_refused_at_its_row() {
+    let value = every_kind();
+    let n = value.row_count();
+    for row in 0..n {
+        for wrong in [1, u64::MAX, 1 << 32] {
+            let mut rows = value.row_words().to_vec();
+            let size = &mut rows[ROW_WORDS * row + 4];
+            *size = size.wrapping_add(wrong);
+            let refusal = Value::check(&rows, n, value.store()).unwrap_err();
+            let place = Place::Row(row as u64);
+            assert_eq!((refusal.number, refusal.place), (13, place));
+        }
+    }
+}
+
+/// The order of a wrong size and of other faults, on the rows of case A of document 01.
+#[test]
+fn a_wrong_size_is_found_behind_the_children_of_its_row() {
+    let case_a = [4, 3, 2, 0, 14, 1, 1, 7, 0, 4, 5, 1, 2, 12, 10];
+    let (size_0, size_1, size_2) = ((0, 4, 13), (1, 4, 5), (2, 4, 9));
+    let (kind_2, place_2) = ((2, 0, 11), (2, 3, 13));
+    for (faults, number, row) in [
+        (&[size_0][..], 13, 0),
+        (&[size_1], 13, 1),
+        (&[size_0, size_1], 13, 1),
+        (&[size_1, kind_2], 13, 1),
+        (&[size_1, place_2], 13, 1),
+        (&[size_2, place_2], 14, 2),
+        (&[size_0, place_2], 14, 2),
+        (&[size_0, size_2], 13, 2),
+        (&[(0, 2, 1), size_0], 13, 0),
+        (&[(0, 2, 3), size_2], 13, 2),
+    ] {
+        let mut rows = case_a;
+        for &(row, word, number) in faults {
+            rows[ROW_WORDS * row + word] = number;
+        }
+        let refusal = Value::check(&rows, 3, &[0; 14]).unwrap_err();
+        assert_eq!((refusal.number, refusal.place), (number, Place::Row(row)));
+    }
+}
+
+/// Rows of four words, with no word behind them, are too few words.
+#[test]
+fn a_table_without_sizes_is_refused() {
+    let without_sizes = [4, 3, 2, 0, 1, 1, 7, 0, 5, 1, 2, 12];
+    let refusal = Value::check(&without_sizes, 3, &[0; 14]).unwrap_err();
+    assert_eq!((refusal.number, refusal.place), (12, Place::Row(0)));
 }
 
 /// A signed number is written as these bytes under its type, and read back from them.
@@ -206,24 +302,7 @@ fn signed_numbers_at_the_ends_of_both_widths() {
 /// Every kind stands in a row, and each row has a signed number where the library gives one.
 #[test]
 fn a_row_has_the_signed_number_that_the_library_gives() {
-    let value = Value::build(|value| {
-        value.tuple(|fields| {
-            fields.constant();
-            fields.uint32(u32::MAX);
-            fields.uint64(u64::MAX);
-            fields.array(|trims| {
-                trims.int32(-1);
-                trims.int32(i32::MIN);
-            });
-            fields.byte_array(&[0xff; 8]);
-            fields.uint32_array(&[u32::MAX]);
-            fields.uint64_array(&[u64::MAX]);
-            fields.tagged_union(9, |value| value.int64(i64::MIN));
-            fields.int32(i32::MAX);
-            fields.int64(-3);
-        });
-    });
-    let value = value.unwrap();
+    let value = every_kind();
     let (rows, n, store) = (value.row_words(), value.row_count(), value.store());
     let (mut kinds, mut numbers) = (HashSet::new(), Vec::new());
     for (_, row) in value.rows() {
@@ -257,9 +336,9 @@ fn signed_and_unsigned_numbers_are_two_kinds() {
 
 #[test]
 fn words_behind_the_rows_are_not_the_value_s() {
-    let words = [4, 2, 1, 0, 1, 1, 7, 0, 9, 9, 9, 9];
+    let words = [4, 2, 1, 0, 4, 1, 1, 7, 0, 4, 9, 9, 9, 9, 9];
     let value = Value::check(&words, 2, &[]).unwrap();
-    assert_eq!(value.row_words(), [4, 2, 1, 0, 1, 1, 7, 0]);
+    assert_eq!(value.row_words(), [4, 2, 1, 0, 4, 1, 1, 7, 0, 4]);
     assert_eq!((value.row_count(), value.rows().count()), (2, 2));
 }
 

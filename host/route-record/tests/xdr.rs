@@ -8,7 +8,7 @@ use route_record::{Grammar, Imported, Place, Refusal, Value, MAX_BYTES, MAX_ROWS
 const MINUS_ONE: u64 = 4_294_967_295;
 
 /// A tuple of an int32, bytes and an array of uint32: the grammar, the record and the XDR of a
-/// value, the rows of an import, and what it puts into the store.
+/// value, the rows of an import, with the sizes of the record, and what it puts into the store.
 const TUPLE: [u32; 17] = [4, 4, 0, 3, 9, 0, 0, 5, 0, 0, 6, 0, 0, 3, 1, 2, 3];
 const RECORD: [u8; 26] = [
     0xff, 0xff, 0xff, 0xff, 2, 0, 0, 0, 0, 0, 0, 0, 0x41, 0x42, 1, 0, 0, 0, 0, 0, 0, 0, 0x78, 0x56,
@@ -17,7 +17,9 @@ const RECORD: [u8; 26] = [
 const XDR: [u8; 20] = [
     0xff, 0xff, 0xff, 0xff, 0, 0, 0, 2, 0x41, 0x42, 0, 0, 0, 0, 0, 1, 0x12, 0x34, 0x56, 0x78,
 ];
-const ROWS: [u64; 16] = [4, 4, 3, 0, 9, 1, MINUS_ONE, 0, 5, 1, 2, 0, 6, 1, 1, 2];
+const ROWS: [u64; 4 * ROW_WORDS] = [
+    4, 4, 3, 0, 26, 9, 1, MINUS_ONE, 0, 4, 5, 1, 2, 0, 10, 6, 1, 1, 2, 12,
+];
 const STORE: [u8; 6] = [0x41, 0x42, 0x78, 0x56, 0x34, 0x12];
 
 /// The file of RFC 4506, section 7: a name, a type with a creator or an interpreter, an owner and
@@ -61,7 +63,7 @@ fn import_refused(grammar: &[u32], record: &[u8], words: usize, bytes: usize) ->
 
 #[test]
 fn a_tuple_is_exported() {
-    let mut rows = [0; 16];
+    let mut rows = [0; 4 * ROW_WORDS];
     let n = demarshall(&TUPLE, &RECORD, &mut rows).unwrap().rows;
     for (length, index) in [(20, 0), (24, 4), (30, 4)] {
         let mut out = vec![0xee; length];
@@ -77,7 +79,7 @@ fn a_tuple_is_exported() {
         assert_eq!(size, refused(17, Place::Byte(length as u64)));
         assert_eq!(out, vec![0xee; length]);
     }
-    let nothing = |index| export_xdr(&CONSTANT, &[0, 1, 0, 0], 1, &[], &mut [7; 2], index);
+    let nothing = |index| export_xdr(&CONSTANT, &[0, 1, 0, 0, 0], 1, &[], &mut [7; 2], index);
     assert_eq!(
         (nothing(2), nothing(3)),
         (Ok(0), refused(17, Place::Byte(2)))
@@ -86,7 +88,13 @@ fn a_tuple_is_exported() {
 
 #[test]
 fn a_tuple_is_imported() {
-    for (words, bytes) in [(16, 6), (19, 8), (4 * 4_097, MAX_BYTES)] {
+    let four_rows = 4 * ROW_WORDS;
+    let more_than_all = ROW_WORDS * (MAX_ROWS + 1);
+    for (words, bytes) in [
+        (four_rows, 6),
+        (four_rows + ROW_WORDS - 1, 8),
+        (more_than_all, MAX_BYTES),
+    ] {
         let (imported, rows, store) = import(&TUPLE, &XDR, words, bytes).unwrap();
         assert_eq!(imported, Imported { rows: 4, used: 6 });
         assert_eq!((&rows[..], &store[..]), (&ROWS[..], &STORE[..]));
@@ -99,20 +107,20 @@ fn a_tuple_is_imported() {
     };
     let byte = Place::Byte;
     for (record, words, bytes, expected) in [
-        (&XDR[..], 16, 5, (17, byte(5))),
-        (&XDR, 16, 1, (17, byte(1))),
-        (&XDR, 16, 0, (17, byte(0))),
-        (&XDR, 15, 8, (8, byte(12))),
-        (&XDR, 3, 8, (8, byte(0))),
-        (&XDR[..19], 16, 8, (9, byte(12))),
-        (&XDR[..11], 16, 8, (9, byte(4))),
-        (&[], 16, 8, (9, byte(0))),
-        (&longer, 16, 8, (11, byte(20))),
-        (&padded(10), 16, 8, (23, byte(4))),
-        (&padded(11), 16, 8, (23, byte(4))),
-        (&padded(11), 16, 2, (23, byte(4))),
-        (&padded(11), 16, 1, (17, byte(1))),
-        (&padded(11)[..19], 16, 8, (23, byte(4))),
+        (&XDR[..], four_rows, 5, (17, byte(5))),
+        (&XDR, four_rows, 1, (17, byte(1))),
+        (&XDR, four_rows, 0, (17, byte(0))),
+        (&XDR, four_rows - 1, 8, (8, byte(12))),
+        (&XDR, ROW_WORDS - 1, 8, (8, byte(0))),
+        (&XDR[..19], four_rows, 8, (9, byte(12))),
+        (&XDR[..11], four_rows, 8, (9, byte(4))),
+        (&[], four_rows, 8, (9, byte(0))),
+        (&longer, four_rows, 8, (11, byte(20))),
+        (&padded(10), four_rows, 8, (23, byte(4))),
+        (&padded(11), four_rows, 8, (23, byte(4))),
+        (&padded(11), four_rows, 2, (23, byte(4))),
+        (&padded(11), four_rows, 1, (17, byte(1))),
+        (&padded(11)[..19], four_rows, 8, (23, byte(4))),
     ] {
         assert_eq!(import_refused(&TUPLE, record, words, bytes), expected);
     }
@@ -123,12 +131,12 @@ fn the_file_of_the_rfc() {
     let (imported, rows, store) = import(&FILE, FILE_XDR, 6 * ROW_WORDS, 23).unwrap();
     assert_eq!(imported, Imported { rows: 6, used: 23 });
     let expected = [
-        [4, 6, 4, 0],
-        [5, 1, 9, 0],
-        [8, 2, 2, 0],
-        [5, 1, 4, 9],
-        [5, 1, 4, 13],
-        [5, 1, 6, 17],
+        [4, 6, 4, 0, 63],
+        [5, 1, 9, 0, 17],
+        [8, 2, 2, 0, 20],
+        [5, 1, 4, 9, 12],
+        [5, 1, 4, 13, 12],
+        [5, 1, 6, 17, 14],
     ];
     assert_eq!(rows, expected.concat());
     assert_eq!(store, b"sillyproglispjohn(quit)");
@@ -148,14 +156,16 @@ fn the_file_of_the_rfc() {
 #[test]
 fn the_refusals_of_an_export_in_their_order() {
     let too_long = vec![0; MAX_BYTES + 1];
-    let with_row = |row: usize, words: [u64; 4]| {
-        let mut rows = ROWS;
-        rows[4 * row..][..4].copy_from_slice(&words);
+    let with_row = |mut rows: [u64; 4 * ROW_WORDS], row: usize, words: [u64; ROW_WORDS]| {
+        rows[ROW_WORDS * row..][..ROW_WORDS].copy_from_slice(&words);
         rows
     };
-    let span = with_row(0, [4, 3, 3, 0]);
-    let outside = with_row(2, [5, 1, 2, 5]);
-    let too_large = with_row(2, [5, 1, MAX_BYTES as u64 - 15, 0]);
+    let outside = with_row(ROWS, 2, [5, 1, 2, 5, 10]);
+    let span = with_row(outside, 0, [4, 3, 3, 0, 26]);
+    let size = with_row(outside, 1, [9, 1, MINUS_ONE, 0, 5]);
+    let most = MAX_BYTES as u64;
+    let too_large = with_row(ROWS, 0, [4, 4, 3, 0, most + 9]);
+    let too_large = with_row(too_large, 2, [5, 1, most - 15, 0, most - 7]);
     let kind = [1, 11, 0, 0, 0];
     for (grammar, rows, n, store, number, place) in [
         (&[][..], ROWS, 0, &too_long[..], 1, Place::Word(0)),
@@ -166,6 +176,7 @@ fn the_refusals_of_an_export_in_their_order() {
         (&CONSTANT, span, 0, &too_long, 6, Place::Byte(0)),
         (&CONSTANT, span, 0, &STORE, 12, Place::Row(0)),
         (&CONSTANT, span, 4, &STORE, 13, Place::Row(0)),
+        (&CONSTANT, size, 4, &STORE, 13, Place::Row(1)),
         (&CONSTANT, outside, 4, &STORE, 14, Place::Row(2)),
         (&BYTES, too_large, 4, &too_long[1..], 15, Place::Row(0)),
         (&TUPLE, too_large, 4, &too_long[1..], 16, Place::Row(0)),
@@ -194,9 +205,13 @@ fn the_refusals_before_a_value_is_read() {
         (&CONSTANT, &[], MAX_BYTES + 1, (6, byte(0))),
         (&CONSTANT, most, MAX_BYTES, (8, byte(0))),
     ] {
-        assert_eq!(import_refused(grammar, record, 3, bytes), expected);
+        assert_eq!(
+            import_refused(grammar, record, ROW_WORDS - 1, bytes),
+            expected
+        );
     }
-    assert_eq!(import_refused(&CONSTANT, most, 4, MAX_BYTES), (11, byte(0)));
+    let refusal = import_refused(&CONSTANT, most, ROW_WORDS, MAX_BYTES);
+    assert_eq!(refusal, (11, byte(0)));
 }
 
 /// Padding of every length: all of it has to be there and to be zero, and it is not put into the
@@ -208,22 +223,24 @@ fn byte_arrays_of_each_remainder_by_four() {
         let padding = (4 - length as usize % 4) % 4;
         let xdr = [&[0, 0, 0, length], &elements[..], &vec![0; padding]].concat();
         let size = xdr.len();
-        let (imported, rows, store) = import(&BYTES, &xdr, 4, 9).unwrap();
+        let (imported, rows, store) = import(&BYTES, &xdr, ROW_WORDS, 9).unwrap();
         let used = elements.len();
         assert_eq!(imported, Imported { rows: 1, used });
-        assert_eq!((rows, store), (vec![5, 1, used as u64, 0], elements));
+        let row = vec![5, 1, used as u64, 0, used as u64 + 8];
+        assert_eq!((rows, store), (row, elements));
         for front in 0..size {
-            let refusal = import_refused(&BYTES, &xdr[..front], 4, 9);
+            let refusal = import_refused(&BYTES, &xdr[..front], ROW_WORDS, 9);
             assert_eq!(refusal, (9, Place::Byte(0)));
         }
         for place in size - padding..size {
             let mut other = xdr.clone();
             other[place] = 0x80;
-            assert_eq!(import_refused(&BYTES, &other, 4, 9), (23, Place::Byte(0)));
+            let refusal = import_refused(&BYTES, &other, ROW_WORDS, 9);
+            assert_eq!(refusal, (23, Place::Byte(0)));
         }
         let behind = (11, Place::Byte(size as u64));
         assert_eq!(
-            import_refused(&BYTES, &[&xdr[..], &[0]].concat(), 4, 9),
+            import_refused(&BYTES, &[&xdr[..], &[0]].concat(), ROW_WORDS, 9),
             behind
         );
     }
@@ -246,16 +263,18 @@ fn arrays_lie_one_behind_the_other() {
 #[test]
 fn no_store_is_enough_where_there_are_no_elements() {
     let constants = [2, 3, 0, 1, 0, 0, 0, 1, 1];
-    let (imported, rows, _) = import(&constants, &[0, 0, 0, 3], 16, 0).unwrap();
+    let (imported, rows, _) = import(&constants, &[0, 0, 0, 3], 4 * ROW_WORDS, 0).unwrap();
     assert_eq!(imported, Imported { rows: 4, used: 0 });
-    assert_eq!(rows[..8], [3, 4, 3, 0, 0, 1, 0, 0]);
-    assert_eq!(import(&BYTES, &[0; 4], 4, 0).unwrap().1, [5, 1, 0, 0]);
+    assert_eq!(rows[..2 * ROW_WORDS], [3, 4, 3, 0, 8, 0, 1, 0, 0, 0]);
+    let (_, row, _) = import(&BYTES, &[0; 4], ROW_WORDS, 0).unwrap();
+    assert_eq!(row, [5, 1, 0, 0, 8]);
     let many = [0xff; 4];
     assert_eq!(
-        import_refused(&constants, &many, 4 * MAX_ROWS, 0),
+        import_refused(&constants, &many, ROW_WORDS * MAX_ROWS, 0),
         (8, Place::Byte(0))
     );
-    assert_eq!(import_refused(&BYTES, &many, 4, 0), (9, Place::Byte(0)));
+    let refusal = import_refused(&BYTES, &many, ROW_WORDS, 0);
+    assert_eq!(refusal, (9, Place::Byte(0)));
 }
 
 /// A value with every kind, and its grammar.
@@ -348,8 +367,9 @@ fn a_value_that_only_xdr_can_hold() {
     let grammar = "array(bytes)".parse::<Grammar>().unwrap();
     let store = vec![7; 253];
     let arrays = |length: u64| -> Vec<u64> {
-        let row = [5, 1, length, 0];
-        [&[3, 4_096, 4_095, 0][..], &row.repeat(4_095)].concat()
+        let row = [5, 1, length, 0, length + 8];
+        let size = 8 + 4_095 * (length + 8);
+        [&[3, 4_096, 4_095, 0, size][..], &row.repeat(4_095)].concat()
     };
     let rows = arrays(252);
     assert_eq!(compute_size_of(&rows, 4_096, &store), Ok(1_064_708));
@@ -361,6 +381,7 @@ fn a_value_that_only_xdr_can_hold() {
         (imported.row_count(), imported.store().len()),
         (4_096, 1_031_940)
     );
+    assert_eq!(imported.size(), 1_064_708);
     assert_eq!(grammar.export_xdr_vec(&imported).unwrap(), xdr);
     assert_eq!(grammar.marshall_vec(&imported).unwrap_err().number, 16);
 
@@ -376,7 +397,7 @@ fn the_longest_xdr() {
     let bytes = Grammar::check(&BYTES).unwrap();
     let store = vec![1; MAX_BYTES];
     let of_length = |length: usize| {
-        let row = [5, 1, length as u64, 0];
+        let row = [5, 1, length as u64, 0, length as u64 + 8];
         let mut out = vec![0; MAX_BYTES];
         let exported = export_xdr(&BYTES, &row, 1, &store, &mut out, 0);
         exported.map(|size| out[..size].to_vec())

@@ -3,8 +3,8 @@
 //! The bytes of a constant are none, of a uint32 or int32 4, of a uint64 or int64 8, of a tuple its
 //! fields in order, of an array an 8-byte element count and the elements, of a case an 8-byte tag
 //! and its value; each number is least byte first, a signed one in two's complement. The record is
-//! the store of the rows. Rows are four words each; a slice has as many rows as its words divided
-//! by 4, rounded down, at most 4,096.
+//! the store of the rows. Rows are five words each; a slice has as many rows as its words divided
+//! by 5, rounded down, at most 4,096.
 //!
 //! A call uses less than 64 KiB of stack, on grammars as deep as 256 nodes can be.
 
@@ -40,10 +40,10 @@ fn parsed(answer: Answer) -> Result<Parsed, Refusal> {
 ///
 /// let tuple_of_u32_and_bytes = [3, 4, 0, 2, 1, 0, 0, 5, 0, 0, 2, 1, 2];
 /// let record = [0xff, 7, 0, 0, 0, 2, 0, 0, 0, 0, 0, 0, 0, 0x41, 0x42, 0xff];
-/// let mut rows = [99; 13];
+/// let mut rows = [99; 16];
 /// let parsed = parse_val(&tuple_of_u32_and_bytes, &record, 1, &mut rows);
 /// assert_eq!(parsed, Ok(Parsed { rows: 3, rest_index: 15 }));
-/// assert_eq!(rows, [4, 3, 2, 0, 1, 1, 7, 0, 5, 1, 2, 13, 99]);
+/// assert_eq!(rows, [4, 3, 2, 0, 14, 1, 1, 7, 0, 4, 5, 1, 2, 13, 10, 99]);
 ///
 /// let refusal = Refusal { number: 9, place: Place::Byte(5) };
 /// let parsed = parse_val(&tuple_of_u32_and_bytes, &record[..14], 1, &mut rows);
@@ -69,14 +69,14 @@ pub fn parse_val(
 /// use route_record::{Parsed, Place, Refusal};
 ///
 /// let uint32 = [1, 1, 0, 0, 0];
-/// let mut rows = [99; 5];
+/// let mut rows = [99; 6];
 /// let parsed = demarshall(&uint32, &[7, 0, 0, 0], &mut rows);
 /// assert_eq!(parsed, Ok(Parsed { rows: 1, rest_index: 4 }));
-/// assert_eq!(rows, [1, 1, 7, 0, 99]);
+/// assert_eq!(rows, [1, 1, 7, 0, 4, 99]);
 ///
 /// let refusal = Refusal { number: 11, place: Place::Byte(4) };
 /// assert_eq!(demarshall(&uint32, &[8, 0, 0, 0, 0], &mut rows), Err(refusal));
-/// assert_eq!(rows, [1, 1, 7, 0, 99]);
+/// assert_eq!(rows, [1, 1, 7, 0, 4, 99]);
 /// ```
 ///
 /// Every proper front part of a record that is accepted is refused with 9, with the same grammar
@@ -88,11 +88,11 @@ pub fn parse_val(
 ///
 /// let tuple_of_u32_and_bytes = [3, 4, 0, 2, 1, 0, 0, 5, 0, 0, 2, 1, 2];
 /// let record = [7, 0, 0, 0, 2, 0, 0, 0, 0, 0, 0, 0, 0x41, 0x42];
-/// let mut rows = [99; 12];
+/// let mut rows = [99; 15];
 /// for k in 0..record.len() {
 ///     let refusal = demarshall(&tuple_of_u32_and_bytes, &record[..k], &mut rows).unwrap_err();
 ///     assert_eq!(refusal.number, Refusal::BYTES_MISSING);
-///     assert_eq!(rows, [99; 12]);
+///     assert_eq!(rows, [99; 15]);
 /// }
 /// let parsed = demarshall(&tuple_of_u32_and_bytes, &record, &mut rows);
 /// assert_eq!(parsed, Ok(Parsed { rows: 3, rest_index: 14 }));

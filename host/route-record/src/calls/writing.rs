@@ -44,7 +44,7 @@ pub(super) fn size(answer: Answer) -> Result<usize, Refusal> {
 ///
 /// let tuple_of_u32_and_bytes = [3, 4, 0, 2, 1, 0, 0, 5, 0, 0, 2, 1, 2];
 /// let record = [7, 0, 0, 0, 2, 0, 0, 0, 0, 0, 0, 0, 0x41, 0x42];
-/// let mut rows = [0; 12];
+/// let mut rows = [0; 15];
 /// let n = demarshall(&tuple_of_u32_and_bytes, &record, &mut rows).unwrap().rows;
 ///
 /// let mut out = [0xff; 17];
@@ -75,11 +75,11 @@ pub fn marshall_val(
 ///
 /// let uint32 = [1, 1, 0, 0, 0];
 /// let mut out = [0xff; 5];
-/// assert_eq!(marshall(&uint32, &[1, 1, 7, 0], 1, &[], &mut out), Ok(4));
+/// assert_eq!(marshall(&uint32, &[1, 1, 7, 0, 4], 1, &[], &mut out), Ok(4));
 /// assert_eq!(out, [7, 0, 0, 0, 0xff]);
 ///
 /// let refusal = Refusal { number: 15, place: Place::Row(0) };
-/// assert_eq!(marshall(&uint32, &[2, 1, 8, 0], 1, &[], &mut out), Err(refusal));
+/// assert_eq!(marshall(&uint32, &[2, 1, 8, 0, 8], 1, &[], &mut out), Err(refusal));
 /// assert_eq!(out, [7, 0, 0, 0, 0xff]);
 /// ```
 pub fn marshall(
@@ -103,7 +103,7 @@ pub fn marshall(
 /// use route_record::{Place, Preview, Refusal};
 ///
 /// let tuple_of_u32_and_bytes = [3, 4, 0, 2, 1, 0, 0, 5, 0, 0, 2, 1, 2];
-/// let rows = [4, 3, 2, 0, 1, 1, 7, 0, 5, 1, 2, 12];
+/// let rows = [4, 3, 2, 0, 14, 1, 1, 7, 0, 4, 5, 1, 2, 12, 10];
 /// let record = [7, 0, 0, 0, 2, 0, 0, 0, 0, 0, 0, 0, 0x41, 0x42];
 /// let over = |out: &[u8], index| {
 ///     preview(&tuple_of_u32_and_bytes, &rows, 3, &record, out, index)

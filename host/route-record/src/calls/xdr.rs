@@ -34,7 +34,7 @@ use crate::{Imported, Refusal};
 /// use route_record::{Place, Refusal};
 ///
 /// let tuple_of_i32_and_bytes = [3, 4, 0, 2, 9, 0, 0, 5, 0, 0, 2, 1, 2];
-/// let rows = [4, 3, 2, 0, 9, 1, 4_294_967_295, 0, 5, 1, 2, 1];
+/// let rows = [4, 3, 2, 0, 14, 9, 1, 4_294_967_295, 0, 4, 5, 1, 2, 1, 10];
 /// let mut out = [0xee; 14];
 /// assert_eq!(export_xdr(&tuple_of_i32_and_bytes, &rows, 3, b"ABC", &mut out, 1), Ok(12));
 /// let xdr = [0xff, 0xff, 0xff, 0xff, 0, 0, 0, 2, 0x42, 0x43, 0, 0];
@@ -59,7 +59,8 @@ pub fn export_xdr(
 /// being its row count, and puts the elements of its byte arrays and arrays of numbers into the
 /// store from byte 0 on, one array behind the other, without padding. The offset of an array is
 /// where those before it end, count 0 too. The words behind row `n - 1` and the bytes behind the
-/// elements stay as they were. Rows are lent as for [`parse_val`](crate::calls::parse_val).
+/// elements stay as they were. Rows are lent as for [`parse_val`](crate::calls::parse_val). A row's
+/// size is that of the record, not of the XDR, so it may be above 1,048,576, at most 1,064,960.
 ///
 /// Refused by 1 to 5 as [`check_grammar`](crate::calls::check_grammar) refuses; then by 6 at byte 0
 /// when the record or the store has more than 1,048,576 bytes; then, for each value from the root
@@ -86,10 +87,13 @@ pub fn export_xdr(
 /// let mut xdr = [
 ///     0xff, 0xff, 0xff, 0xff, 0, 0, 0, 2, 0x41, 0x42, 0, 0, 0, 0, 0, 1, 0x12, 0x34, 0x56, 0x78,
 /// ];
-/// let (mut rows, mut store) = ([99; 17], [0xee; 8]);
+/// let (mut rows, mut store) = ([99; 21], [0xee; 8]);
 /// let imported = import_xdr(&grammar, &xdr, &mut rows, &mut store);
 /// assert_eq!(imported, Ok(Imported { rows: 4, used: 6 }));
-/// assert_eq!(rows, [4, 4, 3, 0, 9, 1, 4_294_967_295, 0, 5, 1, 2, 0, 6, 1, 1, 2, 99]);
+/// let of_record = [
+///     [4, 4, 3, 0, 26], [9, 1, 4_294_967_295, 0, 4], [5, 1, 2, 0, 10], [6, 1, 1, 2, 12],
+/// ];
+/// assert_eq!((&rows[..20], rows[20]), (&of_record.concat()[..], 99));
 /// assert_eq!(store, [0x41, 0x42, 0x78, 0x56, 0x34, 0x12, 0xee, 0xee]);
 ///
 /// let refusal = Refusal { number: 17, place: Place::Byte(5) };
