@@ -55,7 +55,8 @@ pub fn calls(report: &mut Report, programs: &[&dyn Program]) {
         };
         for call in [check].into_iter().chain(CALLS) {
             let limits = match (call, size) {
-                (Call::Size | Call::SameRoute, _) => &[],
+                (Call::SameRoute, _) => &[],
+                (Call::Size, "4,096 rows") => beside_rust,
                 (_, "300 rows") | (Call::Preview | Call::Import, "1 MiB") => beside_rust,
                 (Call::Write | Call::Export, "1 MiB") => beside_copy,
                 _ => &[],

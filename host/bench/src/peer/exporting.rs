@@ -26,7 +26,7 @@ pub fn export_xdr(
 }
 
 /// How many bytes of XDR a row has itself, without its children's.
-fn own_size(&[kind, _, count, _]: &Row) -> u64 {
+fn own_size(&[kind, _, count, ..]: &Row) -> u64 {
     match kind {
         0 | 4 => 0,
         1 | 3 | 8 | 9 => 4,
@@ -36,7 +36,7 @@ fn own_size(&[kind, _, count, _]: &Row) -> u64 {
 }
 
 /// Writes a row's own bytes, and gives how many.
-fn put_row(&[kind, _, word2, place]: &Row, store: &[u8], out: &mut [u8]) -> usize {
+fn put_row(&[kind, _, word2, place, _]: &Row, store: &[u8], out: &mut [u8]) -> usize {
     match kind {
         0 | 4 => 0,
         1 | 3 | 8 | 9 => put_u32(word2, out),

@@ -1,6 +1,7 @@
 //! Importing XDR (RFC 4506) whole, into rows and a store: refusals 6, 8 to 11, 17 and 23.
 
 use super::grammar::Grammar;
+use super::rows::Row;
 use super::xdr::{put_elements, Padded};
 use route_record::{MAX_BYTES, MAX_ROWS};
 
@@ -50,19 +51,21 @@ struct Lent {
     room: usize,
 }
 
-/// The position, the values begun and the bytes of the store used.
+/// The position, the values begun, the bytes of the store used, and the bytes that a record has of
+/// what was read.
 #[derive(Clone, Copy)]
 struct Filling {
     at: usize,
     begun: usize,
     used: usize,
+    size: usize,
 }
 
 /// A reading of XDR. Rows and store are empty where it is a check.
 struct Importer<'a> {
     grammar: Grammar<'a>,
     record: &'a [u8],
-    rows: &'a mut [[u64; 4]],
+    rows: &'a mut [Row],
     store: &'a mut [u8],
     lent: Lent,
     filling: Filling,
@@ -72,7 +75,7 @@ impl<'a> Importer<'a> {
     fn new(
         grammar: Grammar<'a>,
         record: &'a [u8],
-        rows: &'a mut [[u64; 4]],
+        rows: &'a mut [Row],
         store: &'a mut [u8],
         lent: Lent,
     ) -> Importer<'a> {
@@ -86,6 +89,7 @@ impl<'a> Importer<'a> {
                 at: 0,
                 begun: 0,
                 used: 0,
+                size: 0,
             },
         }
     }
@@ -98,36 +102,41 @@ impl<'a> Importer<'a> {
 
     /// Reads the value of a node that starts here.
     fn value(&mut self, k: usize) -> Result<(), Refusal> {
-        let start = self.filling.at;
+        let Filling {
+            at: start, size, ..
+        } = self.filling;
         let row = self.claim()?;
         let node = self.grammar.node(k);
         let children = self.grammar.children(node);
         let kind = u64::from(node[0]);
         match kind {
-            0 => self.put(row, [kind, 1, 0, 0]),
+            0 => self.put(row, [kind, 1, 0, 0, 0]),
             1 | 9 => {
                 let number = self.take_u32()?;
-                self.put(row, [kind, 1, u64::from(number), 0]);
+                self.filling.size += 4;
+                self.put(row, [kind, 1, u64::from(number), 0, 4]);
             }
             2 | 10 => {
                 let number = self.take_u64()?;
-                self.put(row, [kind, 1, number, 0]);
+                self.filling.size += 8;
+                self.put(row, [kind, 1, number, 0, 8]);
             }
             3 => {
                 let count = self.take_u32()?;
                 if count as usize > self.lent.capacity - self.filling.begun {
                     return Err(Refusal::at_byte(8, start));
                 }
+                self.filling.size += 8;
                 for _ in 0..count {
                     self.value(children[0] as usize)?;
                 }
-                self.put(row, [kind, self.span_from(row), u64::from(count), 0]);
+                self.close(row, size, [kind, u64::from(count)]);
             }
             4 => {
                 for &child in children {
                     self.value(child as usize)?;
                 }
-                self.put(row, [kind, self.span_from(row), children.len() as u64, 0]);
+                self.close(row, size, [kind, children.len() as u64]);
             }
             5 => self.elements(row, kind, 1)?,
             6 => self.elements(row, kind, 4)?,
@@ -137,8 +146,9 @@ impl<'a> Importer<'a> {
                 let Some(&child) = children.get(tag as usize) else {
                     return Err(Refusal::at_byte(10, start));
                 };
+                self.filling.size += 8;
                 self.value(child as usize)?;
-                self.put(row, [kind, self.span_from(row), u64::from(tag), 0]);
+                self.close(row, size, [kind, u64::from(tag)]);
             }
             _ => unreachable!("the grammar was checked"),
         }
@@ -162,12 +172,17 @@ impl<'a> Importer<'a> {
         if behind[..padding].iter().any(|&byte| byte != 0) {
             return Err(Refusal::at_byte(23, start));
         }
-        self.put(row, [kind, 1, u64::from(count), used as u64]);
+        let in_record = 8 + size;
+        self.put(
+            row,
+            [kind, 1, u64::from(count), used as u64, in_record as u64],
+        );
         if let Some(lent) = self.store.get_mut(used..used + size) {
             put_elements(width, elements, lent);
         }
         self.filling.at += size + padding;
         self.filling.used += size;
+        self.filling.size += in_record;
         Ok(())
     }
 
@@ -198,13 +213,16 @@ impl<'a> Importer<'a> {
         Ok(*bytes)
     }
 
-    /// The rows taken since this one, itself included.
-    fn span_from(&self, row: usize) -> u64 {
-        (self.filling.begun - row) as u64
+    /// Puts the row of a value with children once they are read: its span are the rows taken since
+    /// it, itself included, and its size the bytes that a record has more than before it.
+    fn close(&mut self, row: usize, before: usize, [kind, word2]: [u64; 2]) {
+        let Filling { begun, size, .. } = self.filling;
+        let (span, size) = (begun - row, size - before);
+        self.put(row, [kind, span as u64, word2, 0, size as u64]);
     }
 
     /// Puts a row, where rows are lent.
-    fn put(&mut self, row: usize, words: [u64; 4]) {
+    fn put(&mut self, row: usize, words: Row) {
         if let Some(lent) = self.rows.get_mut(row) {
             *lent = words;
         }

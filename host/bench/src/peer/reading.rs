@@ -2,6 +2,7 @@
 //! does not arise.
 
 use super::grammar::Grammar;
+use super::rows::Row;
 use route_record::{CHECK_ROWS, MAX_BYTES, MAX_ROWS};
 
 use super::Refusal;
@@ -81,7 +82,7 @@ fn read(
     grammar: Grammar,
     k: usize,
     record: &[u8],
-    rows: &mut [[u64; 4]],
+    rows: &mut [Row],
     capacity: usize,
 ) -> Result<Parsed, Refusal> {
     let mut reader = Reader::new(grammar, record, rows, capacity);
@@ -96,7 +97,7 @@ fn read(
 struct Reader<'a> {
     grammar: Grammar<'a>,
     record: &'a [u8],
-    rows: &'a mut [[u64; 4]],
+    rows: &'a mut [Row],
     capacity: usize,
     at: usize,
     begun: usize,
@@ -107,7 +108,7 @@ impl<'a> Reader<'a> {
     fn new(
         grammar: Grammar<'a>,
         record: &'a [u8],
-        rows: &'a mut [[u64; 4]],
+        rows: &'a mut [Row],
         capacity: usize,
     ) -> Reader<'a> {
         Reader {
@@ -128,14 +129,14 @@ impl<'a> Reader<'a> {
         let children = self.grammar.children(node);
         let kind = u64::from(node[0]);
         match kind {
-            0 => self.put(row, [kind, 1, 0, 0]),
+            0 => self.put(row, [kind, 1, 0, 0, 0]),
             1 | 9 => {
                 let number = self.take_u32()?;
-                self.put(row, [kind, 1, u64::from(number), 0]);
+                self.put(row, [kind, 1, u64::from(number), 0, 4]);
             }
             2 | 10 => {
                 let number = self.take_u64()?;
-                self.put(row, [kind, 1, number, 0]);
+                self.put(row, [kind, 1, number, 0, 8]);
             }
             3 => {
                 let count = self.take_u64()?;
@@ -145,13 +146,13 @@ impl<'a> Reader<'a> {
                 for _ in 0..count {
                     self.value(children[0] as usize)?;
                 }
-                self.put(row, [kind, self.span_from(row), count, 0]);
+                self.close(row, start, [kind, count]);
             }
             4 => {
                 for &child in children {
                     self.value(child as usize)?;
                 }
-                self.put(row, [kind, self.span_from(row), children.len() as u64, 0]);
+                self.close(row, start, [kind, children.len() as u64]);
             }
             5 => self.elements(row, kind, 1)?,
             6 => self.elements(row, kind, 4)?,
@@ -162,7 +163,7 @@ impl<'a> Reader<'a> {
                     return Err(Refusal::at_byte(10, start));
                 }
                 self.value(children[tag as usize] as usize)?;
-                self.put(row, [kind, self.span_from(row), tag, 0]);
+                self.close(row, start, [kind, tag]);
             }
             _ => unreachable!("the grammar was checked"),
         }
@@ -177,8 +178,10 @@ impl<'a> Reader<'a> {
         if count > (left / width) as u64 {
             return Err(Refusal::at_byte(9, start));
         }
-        self.put(row, [kind, 1, count, self.at as u64]);
+        let place = self.at;
         self.at += count as usize * width;
+        let size = (self.at - start) as u64;
+        self.put(row, [kind, 1, count, place as u64, size]);
         Ok(())
     }
 
@@ -208,13 +211,15 @@ impl<'a> Reader<'a> {
         Ok(*bytes)
     }
 
-    /// The rows taken since this one, itself included.
-    fn span_from(&self, row: usize) -> u64 {
-        (self.begun - row) as u64
+    /// Puts the row of a value with children once they are read: its span are the rows taken since
+    /// it, itself included, and its size the bytes since its start.
+    fn close(&mut self, row: usize, start: usize, [kind, word2]: [u64; 2]) {
+        let (span, size) = (self.begun - row, self.at - start);
+        self.put(row, [kind, span as u64, word2, 0, size as u64]);
     }
 
     /// Puts a row, where rows are lent.
-    fn put(&mut self, row: usize, words: [u64; 4]) {
+    fn put(&mut self, row: usize, words: Row) {
         if let Some(lent) = self.rows.get_mut(row) {
             *lent = words;
         }

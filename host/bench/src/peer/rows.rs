@@ -1,11 +1,11 @@
 //! The walk over value rows: refusals 6, 12, 13 and 14.
 
-use route_record::{MAX_BYTES, MAX_ROWS};
+use route_record::{MAX_BYTES, MAX_ROWS, ROW_WORDS};
 
 use super::Refusal;
 
-/// Kind, span, word 2 and word 3.
-pub type Row = [u64; 4];
+/// Kind, span, word 2, word 3 and size.
+pub type Row = [u64; ROW_WORDS];
 
 /// The rows of a value, if `n` rows stand for one.
 pub fn check_rows<'a>(words: &'a [u64], n: usize, store: &[u8]) -> Result<&'a [Row], Refusal> {
@@ -21,9 +21,7 @@ pub fn check_rows<'a>(words: &'a [u64], n: usize, store: &[u8]) -> Result<&'a [R
     if span != n as u64 {
         return Err(Refusal::at_row(13, 0));
     }
-    let walk = Walk { rows, store };
-    let children = walk.row(0, n)?;
-    walk.children(0, children, n)?;
+    Walk { rows, store }.value(0, n)?;
     Ok(rows)
 }
 
@@ -33,21 +31,39 @@ struct Walk<'a> {
     store: &'a [u8],
 }
 
+/// What a row says of itself: its bytes without its children's, and how many children it wants.
+struct Own {
+    size: u64,
+    children: u64,
+}
+
 impl Walk<'_> {
-    /// A row by itself, which may reach to `end`: how many children it wants.
-    fn row(&self, row: usize, end: usize) -> Result<u64, Refusal> {
-        let [kind, span, word2, word3] = self.rows[row];
+    /// The value that starts with a row, which may reach to `end`: its size.
+    fn value(&self, row: usize, end: usize) -> Result<u64, Refusal> {
+        let own = self.row(row, end)?;
+        let [_, span, _, _, size] = self.rows[row];
+        let end = row + span as usize;
+        if own.size + self.children(row, own.children, end)? != size {
+            return Err(Refusal::at_row(13, row));
+        }
+        Ok(size)
+    }
+
+    /// A row by itself, which may reach to `end`.
+    fn row(&self, row: usize, end: usize) -> Result<Own, Refusal> {
+        let [kind, span, word2, word3, _] = self.rows[row];
         let leaf = span == 1;
         let unused = word3 == 0;
-        let (kept, width, children) = match kind {
-            0 => (leaf && word2 == 0 && unused, None, 0),
-            1 | 9 => (leaf && word2 <= u64::from(u32::MAX) && unused, None, 0),
-            2 | 10 => (leaf && unused, None, 0),
-            3 | 4 => (unused, None, word2),
-            5 => (leaf, Some(1), 0),
-            6 => (leaf, Some(4), 0),
-            7 => (leaf, Some(8), 0),
-            8 => (unused, None, 1),
+        let (kept, size, width, children) = match kind {
+            0 => (leaf && word2 == 0 && unused, 0, None, 0),
+            1 | 9 => (leaf && word2 <= u64::from(u32::MAX) && unused, 4, None, 0),
+            2 | 10 => (leaf && unused, 8, None, 0),
+            3 => (unused, 8, None, word2),
+            4 => (unused, 0, None, word2),
+            5 => (leaf, 8, Some(1), 0),
+            6 => (leaf, 8, Some(4), 0),
+            7 => (leaf, 8, Some(8), 0),
+            8 => (unused, 8, None, 1),
             _ => return Err(Refusal::at_row(13, row)),
         };
         if !kept || span == 0 || span > (end - row) as u64 {
@@ -55,7 +71,11 @@ impl Walk<'_> {
         }
         match width {
             Some(width) if !self.holds(word3, word2, width) => Err(Refusal::at_row(14, row)),
-            _ => Ok(children),
+            Some(width) => Ok(Own {
+                size: size + word2 * width,
+                children,
+            }),
+            None => Ok(Own { size, children }),
         }
     }
 
@@ -65,21 +85,19 @@ impl Walk<'_> {
         place <= length && count <= (length - place) / width
     }
 
-    /// The children of a row, which are to fill its span.
-    fn children(&self, parent: usize, count: u64, end: usize) -> Result<(), Refusal> {
-        let mut row = parent + 1;
+    /// The children of a row, which are to fill its span: their sizes together.
+    fn children(&self, parent: usize, count: u64, end: usize) -> Result<u64, Refusal> {
+        let (mut row, mut size) = (parent + 1, 0);
         for _ in 0..count {
             if row == end {
                 return Err(Refusal::at_row(13, parent));
             }
-            let children = self.row(row, end)?;
-            let next = row + self.rows[row][1] as usize;
-            self.children(row, children, next)?;
-            row = next;
+            size += self.value(row, end)?;
+            row += self.rows[row][1] as usize;
         }
         if row != end {
             return Err(Refusal::at_row(13, parent));
         }
-        Ok(())
+        Ok(size)
     }
 }

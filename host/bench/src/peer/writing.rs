@@ -107,13 +107,15 @@ pub fn compute_size_of(rows: &[u64], n: usize, store: &[u8]) -> Result<u64, Refu
     check_rows(rows, n, store).map(size_of)
 }
 
+/// The size of the value of rows that were checked.
 fn size_of(rows: &[Row]) -> u64 {
-    rows.iter().map(own_size).sum()
+    let [.., size] = rows[0];
+    size
 }
 
 /// Checks that the value of a row is one of a node, its rows in order.
 fn check_value(grammar: Grammar, rows: &[Row], row: usize, k: usize) -> Result<(), Refusal> {
-    let [kind, span, word2, _] = rows[row];
+    let [kind, span, word2, ..] = rows[row];
     let node = grammar.node(k);
     let nodes = grammar.children(node);
     let fits = match kind {
@@ -156,7 +158,7 @@ pub(super) fn element_width(kind: u64) -> u64 {
 }
 
 /// How many bytes a row has itself, without its children's.
-fn own_size(&[kind, _, count, _]: &Row) -> u64 {
+fn own_size(&[kind, _, count, ..]: &Row) -> u64 {
     match kind {
         0 | 4 => 0,
         1 | 9 => 4,
@@ -165,7 +167,7 @@ fn own_size(&[kind, _, count, _]: &Row) -> u64 {
 }
 
 /// Writes a row's own bytes, and gives how many.
-fn put_row(&[kind, _, word2, place]: &Row, store: &[u8], out: &mut [u8]) -> usize {
+fn put_row(&[kind, _, word2, place, _]: &Row, store: &[u8], out: &mut [u8]) -> usize {
     match kind {
         0 | 4 => 0,
         1 | 9 => {
@@ -186,7 +188,7 @@ fn put_row(&[kind, _, word2, place]: &Row, store: &[u8], out: &mut [u8]) -> usiz
 }
 
 /// How many of a row's own bytes differ from those that the output begins with.
-fn differing_in_row(&[kind, _, word2, place]: &Row, store: &[u8], out: &[u8]) -> usize {
+fn differing_in_row(&[kind, _, word2, place, _]: &Row, store: &[u8], out: &[u8]) -> usize {
     match kind {
         0 | 4 => 0,
         1 | 9 => differing(&(word2 as u32).to_le_bytes(), out),
