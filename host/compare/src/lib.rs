@@ -29,7 +29,7 @@ pub use own_bytes::{own_bytes, OwnBytes};
 pub use packed::{Calls, Number, U32, U64};
 pub use random::Random;
 pub use record::Record;
-pub use row_table::{RowInput, RowTable};
+pub use row_table::{set_sizes, Row, RowInput, RowTable};
 pub use run::{on_large_stack, run, Answers};
 pub use shortest::shortest_record;
 pub use show::{show, show_by_model, show_by_program, show_from, show_in_pieces, show_input};

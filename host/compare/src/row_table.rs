@@ -29,11 +29,55 @@ pub(crate) fn head_width(kind: u64) -> usize {
     }
 }
 
+/// The words of a row: kind, span, word 2, word 3 and size.
+pub type Row = [u64; ROW_WORDS];
+
+/// The sizes that the values of rows have; of faulty rows, any.
+fn sizes(rows: &[Row]) -> Vec<u64> {
+    let mut sizes = vec![0u64; rows.len()];
+    for row in (0..rows.len()).rev() {
+        let [kind, span, word2, ..] = rows[row];
+        let width = element_width(kind).unwrap_or(0) as u64;
+        let mut size = width.wrapping_mul(word2);
+        size = size.wrapping_add(head_width(kind) as u64);
+        let end = row.saturating_add(span as usize).min(rows.len());
+        let mut child = row + 1;
+        while child < end {
+            size = size.wrapping_add(sizes[child]);
+            child = child.saturating_add(rows[child][1].max(1) as usize);
+        }
+        sizes[row] = size;
+    }
+    sizes
+}
+
+/// Makes the size of each row that of its value.
+pub fn set_sizes(rows: &mut [Row]) {
+    let sizes = sizes(rows);
+    for (row, size) in rows.iter_mut().zip(sizes) {
+        row[4] = size;
+    }
+}
+
+/// By how much the size of each row is above that of its value, modulo 2^64: 0 where it is right.
+pub(crate) fn size_errors(rows: &[Row]) -> Vec<u64> {
+    let pairs = rows.iter().zip(sizes(rows));
+    pairs.map(|(row, size)| row[4].wrapping_sub(size)).collect()
+}
+
+/// Makes the sizes of changed rows as right or as wrong as they were.
+pub(crate) fn restore_sizes(rows: &mut [Row], errors: &[u64]) {
+    set_sizes(rows);
+    for (row, error) in rows.iter_mut().zip(errors) {
+        row[4] = row[4].wrapping_add(*error);
+    }
+}
+
 /// A value laid out as rows, with its record as the store.
 #[derive(Default)]
 pub struct RowTable {
-    /// Kind, span, word 2 and word 3 of each row.
-    pub rows: Vec<[u64; 4]>,
+    /// The rows.
+    pub rows: Vec<Row>,
     /// The bytes of the value.
     pub record: Vec<u8>,
 }
@@ -41,9 +85,9 @@ pub struct RowTable {
 impl RowTable {
     /// The rows of these words, with their store.
     pub fn of(words: &[u64], record: Vec<u8>) -> RowTable {
-        let rows = words.chunks_exact(ROW_WORDS);
+        let (rows, _) = words.as_chunks();
         RowTable {
-            rows: rows.map(|row| [row[0], row[1], row[2], row[3]]).collect(),
+            rows: rows.to_vec(),
             record,
         }
     }
@@ -66,15 +110,17 @@ impl RowTable {
             8 => random.number(),
             _ => random.within(0..=9) as u64,
         };
+        let (row, start) = (self.rows.len(), self.record.len());
         self.record.extend(&word2.to_le_bytes()[..head_width(kind)]);
         let elements = element_width(kind).map(|width| random.bytes(width * word2 as usize));
         let place = elements.as_ref().map_or(0, |_| self.record.len());
         self.record.extend(elements.unwrap_or_default());
-        self.rows.push([kind, span as u64, word2, place as u64]);
+        self.rows.push([kind, span as u64, word2, place as u64, 0]);
         let children = if kind == 8 { 1 } else { word2 as usize };
         if span > 1 {
             self.add_children(random, children, span - 1);
         }
+        self.rows[row][4] = (self.record.len() - start) as u64;
     }
 
     /// Adds this many random values, at least 1, which have so many rows together.
@@ -113,7 +159,7 @@ impl RowTable {
 
     /// Moves each array to any place in the store where it has room.
     pub fn scatter(&mut self, random: &mut Random) {
-        for [kind, _, count, place] in &mut self.rows {
+        for [kind, _, count, place, _] in &mut self.rows {
             if let Some(width) = element_width(*kind) {
                 let last = self.record.len() - width * *count as usize;
                 *place = random.within(0..=last) as u64;
@@ -121,37 +167,71 @@ impl RowTable {
         }
     }
 
-    /// Makes a row one of any kind with as many children; a sound row stays sound.
+    /// Makes a row one of any kind with as many children; a sound table stays sound.
     pub fn change_kind(&mut self, random: &mut Random, row: usize) {
-        let [kind, span, word2, _] = self.rows[row];
+        let [kind, span, word2, _, size] = self.rows[row];
         let children = match kind {
             3 | 4 => word2,
             8 => 1,
             _ => 0,
         };
-        self.rows[row] = match children {
-            0 => [random.pick(&LEAVES), 1, 0, 0],
-            1 if random.below(3) == 0 => [8, span, random.pick(&[0, 1, u64::MAX]), 0],
-            _ => [random.pick(&[3, 4]), span, children, 0],
+        let other = match children {
+            0 => [random.pick(&LEAVES), 1, 0, 0, size],
+            1 if random.below(3) == 0 => [8, span, random.pick(&[0, 1, u64::MAX]), 0, size],
+            _ => [random.pick(&[3, 4]), span, children, 0, size],
         };
+        let errors = size_errors(&self.rows);
+        self.rows[row] = other;
+        restore_sizes(&mut self.rows, &errors);
     }
 
-    /// Changes one of the table's words to a limit or to a number next to one.
+    /// Changes one of the table's words: a size, or another one, with which the sizes often change.
     pub fn damage(&mut self, random: &mut Random) {
+        match random.below(3) {
+            0 => {
+                let row = random.below(self.rows.len());
+                self.damage_size(random, row);
+            }
+            1 => self.damage_word(random),
+            _ => {
+                let errors = size_errors(&self.rows);
+                self.damage_word(random);
+                restore_sizes(&mut self.rows, &errors);
+            }
+        }
+    }
+
+    /// Makes the size of a row another one: a little more or less, that of the row next to it, that
+    /// without its own bytes, one that is equal in its lower half, or a limit.
+    pub fn damage_size(&mut self, random: &mut Random, row: usize) {
+        let [kind, span, _, _, size] = self.rows[row];
+        let next = self.rows.get(row + 1).map_or(0, |next| next[4]);
+        let steps = [1, 4, 8, head_width(kind) as u64, next, 1 << 32, 1 << 63];
+        let near = steps.map(|step| [size.wrapping_add(step), size.wrapping_sub(step)]);
+        let length = self.record.len() as u64;
+        let limits = [0, 1, span, next, length, MAX_BYTES as u64, u64::MAX];
+        let others = [near.as_flattened(), &limits].concat();
+        while self.rows[row][4] == size {
+            self.rows[row][4] = random.pick(&others);
+        }
+    }
+
+    /// Changes one of the table's words, but no size, to a limit or to a number next to one.
+    fn damage_word(&mut self, random: &mut Random) {
         let (n, arrays) = (self.rows.len(), self.arrays());
         let row = match arrays.len() {
             0 => random.within(0..=n - 1),
             _ if random.below(2) == 0 => random.pick(&arrays),
             _ => random.within(0..=n - 1),
         };
-        let [kind, span, count, place] = self.rows[row];
+        let [kind, span, count, place, _] = self.rows[row];
         let width = element_width(kind).unwrap_or(1) as u64;
         let length = self.record.len() as u64;
         let room = length.saturating_sub(place) / width;
         let powers = [0, 1 << 31, 1 << 32, 1 << 61, 1 << 62, 1 << 63];
         let bounds = [10, n as u64, (n - row) as u64, length, room];
         let limits = [&powers[..], &bounds, &[kind, span, count, place]].concat();
-        let word = &mut self.rows[row][random.below(4)];
+        let word = &mut self.rows[row][random.below(ROW_WORDS - 1)];
         let old = *word;
         while *word == old {
             *word = random
@@ -185,7 +265,7 @@ impl RowInput {
     /// Puts the row of a constant behind the others, and makes the row count another one.
     pub fn damage_n(&mut self, random: &mut Random) {
         let n = self.n;
-        self.words.extend([0, 1, 0, 0]);
+        self.words.extend([0, 1, 0, 0, 0]);
         let other = [
             n.wrapping_sub(1),
             n.wrapping_add(1),

@@ -10,7 +10,7 @@ mod xdr;
 
 use route_record::{MAX_BYTES, MAX_ROWS};
 
-use crate::{Calls, Case, Number, Random, RowInput, RowTable, Table, U32, U64};
+use crate::{set_sizes, Calls, Case, Number, Random, Row, RowInput, RowTable, Table, U32, U64};
 
 impl Case {
     /// A random case of any call. The calls on grammars, rows and records come more often than the
@@ -144,9 +144,10 @@ fn deep_rows(random: &mut Random) -> RowTable {
     let n = random.within(1..=MAX_ROWS) as u64;
     let parents = (2..=n)
         .rev()
-        .map(|span| [random.pick(&[3, 4, 8]), span, 1, 0]);
-    let mut rows: Vec<[u64; 4]> = parents.collect();
-    rows.push([random.pick(&[0, 9, 10]), 1, 0, 0]);
+        .map(|span| [random.pick(&[3, 4, 8]), span, 1, 0, 0]);
+    let mut rows: Vec<Row> = parents.collect();
+    rows.push([random.pick(&[0, 9, 10]), 1, 0, 0, 0]);
+    set_sizes(&mut rows);
     let record = vec![];
     RowTable { rows, record }
 }
@@ -173,13 +174,14 @@ fn spoil_rows(random: &mut Random, input: &mut RowInput) {
 fn sharing_a_store(random: &mut Random) -> RowTable {
     let arrays = random.within(1..=4_095);
     let length = random.pick(&[100, 10_000, MAX_BYTES]);
-    let mut rows = vec![[3, arrays as u64 + 1, arrays as u64, 0]];
+    let mut rows = vec![[3, arrays as u64 + 1, arrays as u64, 0, 0]];
     for _ in 0..arrays {
         let (kind, width) = random.pick(&[(5, 1), (6, 4), (7, 8)]);
         let count = random.within(0..=length / width);
         let place = random.within(0..=length - width * count);
-        rows.push([kind, 1, count as u64, place as u64]);
+        rows.push([kind, 1, count as u64, place as u64, 0]);
     }
+    set_sizes(&mut rows);
     let record = lent(random, length);
     RowTable { rows, record }
 }

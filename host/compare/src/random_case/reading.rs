@@ -71,7 +71,7 @@ fn input(random: &mut Random, table: &Table) -> Input {
 pub(super) fn words(random: &mut Random, rows: usize) -> usize {
     let need = ROW_WORDS * rows;
     match random.below(8) {
-        0 => random.pick(&[0, 3, 4, 9, 100]),
+        0 => random.pick(&[0, ROW_WORDS - 1, ROW_WORDS, 2 * ROW_WORDS - 1, 100]),
         1 => ROW_WORDS * MAX_ROWS + random.pick(&[0, 7]),
         2..4 => random.within(need.saturating_sub(9)..=need + 9),
         _ => need + random.below(10),

@@ -2,7 +2,7 @@
 
 use route_record::{MAX_BYTES, MAX_ROWS};
 
-use crate::{Case, Random, RowInput, RowTable, Table, Value};
+use crate::{set_sizes, Case, Random, RowInput, RowTable, Table, Value};
 
 use super::reading::{grammar, sound};
 use super::{index_near, lent, row_table, spoil_grammar, spoil_rows};
@@ -47,12 +47,13 @@ fn large_value(random: &mut Random) -> Input {
     let (kind, width) = random.pick(&[(5, 1), (6, 4), (7, 8)]);
     let arrays = random.within(1..=20);
     let mut left = (MAX_BYTES - 8 - 8 * arrays) / width + random.below(3);
-    let mut rows = vec![[3, arrays as u64 + 1, arrays as u64, 0]];
+    let mut rows = vec![[3, arrays as u64 + 1, arrays as u64, 0, 0]];
     for others in (0..arrays).rev() {
         let count = left / (others + 1);
         left -= count;
-        rows.push([kind, 1, count as u64, random.below(9) as u64]);
+        rows.push([kind, 1, count as u64, random.below(9) as u64, 0]);
     }
+    set_sizes(&mut rows);
     let bytes = rows[1..].iter().map(|row| row[2] as usize * width);
     let (size, longest) = (bytes.clone().sum::<usize>(), bytes.max().unwrap_or(0));
     let nodes = vec![[3, 0, 1], [kind as u32, 0, 0]];

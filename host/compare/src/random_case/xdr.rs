@@ -3,7 +3,7 @@
 use route_record::{MAX_BYTES, MAX_ROWS, ROW_WORDS};
 
 use crate::row_table::element_width;
-use crate::{leaf, table, Case, Random, Table, Value};
+use crate::{leaf, set_sizes, table, Case, Random, Table, Value};
 
 use super::reading::{any_bytes, sound, within_limits, words, words_of};
 use super::writing::{length, writing, Writing};
@@ -35,18 +35,19 @@ fn large_value(random: &mut Random) -> Value {
     let (kind, width) = random.pick(&[(5, 1), (5, 1), (6, 4), (7, 8)]);
     let few = random.within(1..=20);
     let arrays = random.pick(&[few, MAX_ROWS - 1]);
-    let mut rows = vec![[3, arrays as u64 + 1, arrays as u64, 0]];
+    let mut rows = vec![[3, arrays as u64 + 1, arrays as u64, 0, 0]];
     let (mut left, mut longest) = (MAX_BYTES - 4 - 4 * arrays, 0);
     for others in (0..arrays).rev() {
         let count = match others {
             0 => (left / width).saturating_add_signed(random.below(8) as isize - 4),
             _ => left / (others + 1) / width,
         };
-        rows.push([kind, 1, count as u64, 0]);
+        rows.push([kind, 1, count as u64, 0, 0]);
         let length = width * count;
         left = left.saturating_sub(length.next_multiple_of(4));
         longest = longest.max(length);
     }
+    set_sizes(&mut rows);
     Value {
         grammar: table(&[[3, 0, 1], [kind as u32, 0, 0]], &[1]),
         n: rows.len(),
@@ -230,6 +231,24 @@ fn long_array(random: &mut Random) -> (Vec<u32>, Xdr) {
     (leaf(kind), xdr)
 }
 
+/// A grammar and the XDR of arrays of about 1,048,576 bytes of XDR together, the record of which may
+/// be longer; where it is too long, any bytes.
+fn long_arrays(random: &mut Random) -> (Vec<u32>, Xdr) {
+    let value = large_value(random);
+    let Value {
+        grammar,
+        rows,
+        n,
+        store,
+    } = &value;
+    let out = vec![0; xdr_size(&value)];
+    let xdr = match model::export_xdr(grammar, rows, *n, store, &out, 0) {
+        Ok(writing) => Xdr::of_rows(writing.out, rows),
+        Err(_) => Xdr::of_bytes(any_bytes(random)),
+    };
+    (value.grammar, xdr)
+}
+
 /// A grammar and XDR of about as many rows as a value may have: an array of constants, of numbers or of
 /// byte arrays, alone or before a byte array.
 fn many_rows(random: &mut Random) -> (Vec<u32>, Xdr) {
@@ -276,7 +295,8 @@ fn store_length(random: &mut Random, used: usize) -> usize {
 pub(super) fn import(random: &mut Random) -> Case {
     let (grammar, mut xdr) = match random.below(400) {
         0 => long_array(random),
-        1..12 => many_rows(random),
+        1 => long_arrays(random),
+        2..12 => many_rows(random),
         12..110 => {
             let table = arrays(random);
             (words_of(random, &table), input(random, &table))

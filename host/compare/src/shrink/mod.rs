@@ -40,6 +40,9 @@ enum Edit {
     Halve(usize, usize),
     /// Makes a number, or an element of a slice, one less.
     Lower(usize, usize),
+    /// Makes one of the last three edits on the words of rows, and the sizes of the rows as right or
+    /// as wrong as they were.
+    WithSizes(Box<Edit>),
 }
 
 /// A number type of the fields.
@@ -98,6 +101,9 @@ impl Edit {
                 let field = case.fields().into_iter().nth(*at);
                 edit_field(field.expect("a field of the case").1, self);
             }
+            Edit::WithSizes(edit) => {
+                tables::with_sizes(&mut case, |words| edit_slice(words, edit));
+            }
         }
         case
     }
@@ -119,10 +125,15 @@ fn parts(length: usize) -> impl Iterator<Item = Range<usize>> {
 /// The edits of a slice of this length in field `at`.
 fn slice_edits(at: usize, length: usize) -> Vec<Edit> {
     let dropped = parts(length).map(|range| Edit::Drop(at, range));
-    let cleared = parts(length).map(|range| Edit::Clear(at, range));
+    dropped.chain(lowering_edits(at, length)).collect()
+}
+
+/// The edits of such a slice that leave out no element.
+fn lowering_edits(at: usize, length: usize) -> impl Iterator<Item = Edit> {
+    let cleared = parts(length).map(move |range| Edit::Clear(at, range));
     let few = if length <= MOST_LOWERED { length } else { 0 };
-    let lowered = (0..few).flat_map(|element| number_edits(at, element));
-    dropped.chain(cleared).chain(lowered).collect()
+    let lowered = (0..few).flat_map(move |element| number_edits(at, element));
+    cleared.chain(lowered)
 }
 
 /// The edits of a number in field `at`, or of an element of a slice there.
@@ -162,7 +173,8 @@ fn table_edits(case: &mut Case) -> Vec<Edit> {
 fn edits(case: &Case) -> Vec<Edit> {
     let mut case = case.clone();
     let mut edits = table_edits(&mut case);
-    for (at, (_, field)) in case.fields().into_iter().enumerate() {
+    let reads_rows = tables::reads_rows(&mut case);
+    for (at, (name, field)) in case.fields().into_iter().enumerate() {
         match field {
             Field::Uint32(_) | Field::Uint64(_) | Field::Size(_) => {
                 edits.push(Edit::Clear(at, 0..1));
@@ -170,7 +182,13 @@ fn edits(case: &Case) -> Vec<Edit> {
             }
             Field::Bytes(bytes) => edits.extend(slice_edits(at, bytes.len())),
             Field::Uint32s(words) => edits.extend(slice_edits(at, words.len())),
-            Field::Uint64s(words) => edits.extend(slice_edits(at, words.len())),
+            Field::Uint64s(words) => {
+                edits.extend(slice_edits(at, words.len()));
+                if reads_rows && name == "rows" {
+                    let edit = |edit| Edit::WithSizes(Box::new(edit));
+                    edits.extend(lowering_edits(at, words.len()).map(edit));
+                }
+            }
         }
     }
     edits

@@ -5,7 +5,8 @@ use std::ops::Range;
 
 use route_record::ROW_WORDS;
 
-use crate::{grammar_list, grammars_of, Case, Field};
+use crate::row_table::{restore_sizes, size_errors};
+use crate::{grammar_list, grammars_of, Case, Field, Row};
 
 /// The words of the grammar that a call is given.
 fn grammar_of(case: &mut Case) -> Option<&mut Vec<u32>> {
@@ -68,6 +69,26 @@ fn rows_of(case: &mut Case) -> Option<Rows<'_>> {
     })
 }
 
+/// Whether a call reads rows.
+pub(super) fn reads_rows(case: &mut Case) -> bool {
+    rows_of(case).is_some()
+}
+
+/// Changes words of the rows that a call reads, and leaves their sizes as right or as wrong as they
+/// were.
+pub(super) fn with_sizes(case: &mut Case, edit: impl FnOnce(&mut Vec<u64>)) {
+    if let Some(Rows { words, .. }) = rows_of(case) {
+        let errors = size_errors(whole_rows(words));
+        edit(words);
+        restore_sizes(whole_rows(words), &errors);
+    }
+}
+
+/// The rows of words, without what is left behind the last whole one.
+fn whole_rows(words: &mut [u64]) -> &mut [Row] {
+    words.as_chunks_mut().0
+}
+
 /// N and M of a table whose length is that of its counts.
 fn sections(words: &[u32]) -> Option<(usize, usize)> {
     let n = *words.first()? as usize;
@@ -119,16 +140,20 @@ fn value(rows: &[u64], n: usize, row: usize) -> Range<usize> {
     row..(end.min(most as u64) as usize).max(row + 1)
 }
 
+/// The rows of the values that follow each other in these rows.
+fn values_in(rows: &[u64], n: usize, part: Range<usize>) -> Vec<Range<usize>> {
+    let (mut next, mut values) = (part.start, Vec::new());
+    while next < part.end {
+        let of_value = value(rows, n, next);
+        next = of_value.end;
+        values.push(of_value);
+    }
+    values
+}
+
 /// The rows of the values directly in the root.
 fn children(rows: &[u64], n: usize) -> Vec<Range<usize>> {
-    let (root, mut children) = (value(rows, n, 0), Vec::new());
-    let mut next = 1;
-    while next < root.end {
-        let child = value(rows, n, next);
-        next = child.end;
-        children.push(child);
-    }
-    children
+    values_in(rows, n, 1..value(rows, n, 0).end)
 }
 
 impl Rows<'_> {
@@ -142,16 +167,22 @@ impl Rows<'_> {
     }
 
     /// Leaves out rows of values that follow each other, so many, in the same value. The spans that
-    /// reach over them become less, and so does the count of their parent, if that is an array or a
-    /// tuple.
+    /// reach over them and the sizes of these values become less, and so does the count of their
+    /// parent, if that is an array or a tuple.
     fn remove(&mut self, removed: Range<usize>, values: usize) {
         let (rows, n) = (&mut *self.words, &mut *self.n);
+        let size = values_in(rows, *n, removed.clone())
+            .iter()
+            .fold(0, |sum: u64, of| {
+                sum.wrapping_add(rows[ROW_WORDS * of.start + 4])
+            });
         let mut parent = None;
         for other in 0..removed.start {
             if value(rows, *n, other).end >= removed.end {
                 parent = Some(other);
-                let span = &mut rows[ROW_WORDS * other + 1];
-                *span = span.saturating_sub(removed.len() as u64);
+                let row = &mut rows[ROW_WORDS * other..][..ROW_WORDS];
+                row[1] = row[1].saturating_sub(removed.len() as u64);
+                row[4] = row[4].wrapping_sub(size);
             }
         }
         if let Some(parent) = parent.filter(|&parent| matches!(rows[ROW_WORDS * parent], 3 | 4)) {
