@@ -3,7 +3,7 @@
 use std::collections::BTreeSet;
 
 use compare::{leaf, Answer, Case, Difference, Field, Outcome, Value};
-use route_record::{Place, Refusal};
+use route_record::{Place, Refusal, ROW_WORDS};
 
 /// The packing of 7 in 4 bytes at index 1 of 6.
 fn packing() -> Case {
@@ -69,7 +69,7 @@ fn importing() -> Case {
     Case::ImportXdr {
         grammar: leaf(5),
         record: vec![0, 0, 0, 1, 7, 0, 0, 0],
-        rows: vec![99; 4],
+        rows: vec![99; ROW_WORDS],
         store: vec![0xee; 3],
     }
 }
@@ -82,7 +82,7 @@ fn both_lent_buffers_are_compared() {
     assert_eq!(sound.answer, Answer::Accepted(vec![1, 1]));
     let mut after = importing();
     if let Case::ImportXdr { rows, store, .. } = &mut after {
-        *rows = vec![5, 1, 1, 0];
+        *rows = vec![5, 1, 1, 0, 9];
         *store = vec![7, 0xee, 0xee];
     }
     assert_eq!(sound.after(), after);
@@ -103,7 +103,7 @@ fn both_lent_buffers_are_compared() {
                     sound.answer.clone()
                 });
                 assert_ne!(touched, sound, "{buffer} {place}");
-                let is_margin = place < 9 || place >= 9 + [4, 3][buffer];
+                let is_margin = place < 9 || place >= 9 + [ROW_WORDS, 3][buffer];
                 assert_eq!(touched.after() == sound.after(), is_margin);
             }
         }
@@ -114,7 +114,7 @@ fn both_lent_buffers_are_compared() {
 fn previewing() -> Case {
     let value = Value {
         grammar: leaf(1),
-        rows: vec![1, 1, 7, 0],
+        rows: vec![1, 1, 7, 0, 4],
         n: 1,
         store: vec![],
     };
@@ -154,7 +154,7 @@ fn whole_reading() -> Case {
     Case::Demarshall {
         grammar: leaf(1),
         record: vec![7, 0, 0, 0],
-        rows: vec![99; 4],
+        rows: vec![99; ROW_WORDS],
     }
 }
 
@@ -175,7 +175,7 @@ fn front_parts_of_whole_readings() {
     else {
         panic!("a whole reading");
     };
-    assert_eq!((&grammar, rows), (&leaf(1), vec![99; 4]));
+    assert_eq!((&grammar, rows), (&leaf(1), vec![99; ROW_WORDS]));
     assert!(record.len() < 4 && [7, 0, 0, 0].starts_with(&record));
     let check = Case::CheckWholeWith {
         grammar: leaf(1),

@@ -4,7 +4,7 @@
 use std::thread;
 
 use compare::{chain, chain_and_number, grammar_list, leaf, Case};
-use route_record::{calls, Chosen, Parsed, Place, Refusal, SameRouteRefusal, Verdict};
+use route_record::{calls, Chosen, Parsed, Place, Refusal, SameRouteRefusal, Verdict, ROW_WORDS};
 
 type Answer = Result<Parsed, Refusal>;
 type SameRoute = Result<bool, SameRouteRefusal>;
@@ -28,7 +28,7 @@ fn on_small_stack<T: Send>(work: impl FnOnce() -> T + Send) -> T {
 /// record is the same route as itself, which grammar of a list accepts it, where the grammar stands
 /// behind a union without cases, and whether the grammar accepts it.
 fn answers(grammar: &[u32], record: &[u8]) -> ([Answer; 3], SameRoute, Choice, YesOrNo) {
-    let mut words = vec![0; 4 * 256];
+    let mut words = vec![0; ROW_WORDS * 256];
     let lent = calls::demarshall(grammar, record, &mut words);
     let check = calls::check_whole(grammar, record);
     let named = calls::check_whole_with(grammar, record, 256);

@@ -4,7 +4,7 @@
 use std::thread;
 
 use compare::{chain, Value};
-use route_record::{Place, Preview, Refusal};
+use route_record::{Place, Preview, Refusal, ROW_WORDS};
 
 type Answer = Result<Vec<u8>, Refusal>;
 
@@ -66,9 +66,15 @@ fn compare_chain(kind: u32, own: &[u8]) {
     assert_eq!(answer(&value, size), Ok(record));
     let place = Place::Byte(size as u64 - 1);
     assert_eq!(answer(&value, size - 1), refusal(17, place));
-    value.rows[4 * 255] = 2;
+    for row in [255, 128, 0] {
+        let mut other = value.clone();
+        other.rows[ROW_WORDS * row + 4] += 1;
+        let refusal = refusal(13, Place::Row(row as u64));
+        assert_eq!(answer(&other, size), refusal);
+    }
+    value.rows[ROW_WORDS * 255] = 9;
     assert_eq!(answer(&value, size), refusal(15, Place::Row(255)));
-    value.rows[4 * 255] = 11;
+    value.rows[ROW_WORDS * 255] = 11;
     assert_eq!(answer(&value, size), refusal(13, Place::Row(255)));
 }
 
@@ -76,18 +82,23 @@ fn compare_chain(kind: u32, own: &[u8]) {
 /// a constant. Deeper than the grammar they are no value of it; the model is not asked, since it
 /// needs more stack.
 fn deepest_rows(kind: u64) {
-    let parents = (2..=4_096).rev().flat_map(|span| [kind, span, 1, 0]);
+    let (word2, own) = (u64::from(kind != 8), if kind == 4 { 0 } else { 8 });
+    let parent = |span| [kind, span, word2, 0, own * (span - 1)];
+    let parents = (2..=4_096).rev().flat_map(parent);
     let mut value = Value {
         grammar: chain(kind as u32),
-        rows: parents.chain([0, 1, 0, 0]).collect(),
+        rows: parents.chain([0, 1, 0, 0, 0]).collect(),
         n: 4_096,
         store: vec![],
     };
-    if kind == 8 {
-        (0..4_095).for_each(|row| value.rows[4 * row + 2] = 0);
-    }
     assert_eq!(on_small_stack(&value, 0), refusal(15, Place::Row(255)));
-    value.rows[4 * 4_095] = 11;
+    for row in [0, 2_000, 4_095] {
+        // Of several wrong sizes the deepest is found first.
+        value.rows[ROW_WORDS * row + 4] += 1;
+        let refusal = refusal(13, Place::Row(row as u64));
+        assert_eq!(on_small_stack(&value, 0), refusal);
+    }
+    value.rows[ROW_WORDS * 4_095] = 11;
     assert_eq!(on_small_stack(&value, 0), refusal(13, Place::Row(4_095)));
 }
 

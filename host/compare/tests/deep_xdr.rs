@@ -4,7 +4,7 @@
 use std::thread;
 
 use compare::{chain, Case, Value};
-use route_record::{calls, Imported, Place, Refusal};
+use route_record::{calls, Imported, Place, Refusal, ROW_WORDS};
 
 /// The bytes of stack within which an import stays.
 const IMPORT_STACK: usize = 128 * 1_024;
@@ -33,11 +33,11 @@ fn import(grammar: &[u32], record: &[u8]) -> (Result<Imported, Refusal>, Vec<u64
     let case = Case::ImportXdr {
         grammar: grammar.to_vec(),
         record: record.to_vec(),
-        rows: vec![99; 4 * 256],
+        rows: vec![99; ROW_WORDS * 256],
         store: vec![],
     };
     let answer: Result<[u64; 2], Refusal> = case.compare().answer.result();
-    let mut rows = vec![99; 4 * 256];
+    let mut rows = vec![99; ROW_WORDS * 256];
     let imported = on_small_stack(IMPORT_STACK, || {
         calls::import_xdr(grammar, record, &mut rows, &mut [])
     });
@@ -68,9 +68,11 @@ fn compare_chain(kind: u32, own: &[u8]) {
     let xdr = [own.repeat(255), vec![0, 0, 0, 7]].concat();
     let (imported, rows) = import(&grammar, &xdr);
     assert_eq!(imported, Ok(Imported { rows: 256, used: 0 }));
+    let of_record = if own.is_empty() { 4 } else { 4 + 8 * 255 };
+    assert_eq!(rows[4], of_record);
     let (cut, untouched) = import(&grammar, &xdr[..end + 3]);
     assert_eq!(cut, refusal(9, Place::Byte(end as u64)));
-    assert_eq!(untouched, vec![99; 4 * 256]);
+    assert_eq!(untouched, vec![99; ROW_WORDS * 256]);
 
     let mut value = Value {
         grammar,
@@ -84,7 +86,7 @@ fn compare_chain(kind: u32, own: &[u8]) {
     let too_short = refusal(17, Place::Byte(xdr.len() as u64 - 1));
     assert_eq!(export(&value, xdr.len() - 1), too_short);
     assert_eq!(export(&value, xdr.len()), Ok(xdr));
-    value.rows[4 * 255] = 2;
+    value.rows[ROW_WORDS * 255] = 9;
     assert_eq!(export(&value, 0), refusal(15, Place::Row(255)));
 }
 
@@ -92,16 +94,23 @@ fn compare_chain(kind: u32, own: &[u8]) {
 /// constant. Deeper than the grammar they are no value of it; the model is not asked, since it needs
 /// more stack.
 fn deepest_rows(kind: u64) {
-    let word2 = u64::from(kind != 8);
-    let parents = (2..=4_096).rev().flat_map(|span| [kind, span, word2, 0]);
+    let (word2, own) = (u64::from(kind != 8), if kind == 4 { 0 } else { 8 });
+    let parent = |span| [kind, span, word2, 0, own * (span - 1)];
+    let parents = (2..=4_096).rev().flat_map(parent);
     let mut value = Value {
         grammar: chain(kind as u32),
-        rows: parents.chain([0, 1, 0, 0]).collect(),
+        rows: parents.chain([0, 1, 0, 0, 0]).collect(),
         n: 4_096,
         store: vec![],
     };
     assert_eq!(export(&value, 0), refusal(15, Place::Row(255)));
-    value.rows[4 * 4_095] = 11;
+    for row in [0, 2_000, 4_095] {
+        // Of several wrong sizes the deepest is found first.
+        value.rows[ROW_WORDS * row + 4] += 1;
+        let refusal = refusal(13, Place::Row(row as u64));
+        assert_eq!(export(&value, 0), refusal);
+    }
+    value.rows[ROW_WORDS * 4_095] = 11;
     assert_eq!(export(&value, 0), refusal(13, Place::Row(4_095)));
 }
 

@@ -2,6 +2,7 @@
 
 use compare::json::Json;
 use compare::{grammar_list, leaf, Case, Line, Value};
+use route_record::ROW_WORDS;
 
 /// The line of a case.
 fn line(case: Case) -> Line {
@@ -35,7 +36,7 @@ fn packing() -> Case {
 /// The signed number of a row of kind 9 alone.
 fn signed_number(pattern: u64) -> Case {
     Case::SignedNumber {
-        rows: vec![9, 1, pattern, 0],
+        rows: vec![9, 1, pattern, 0, 4],
         n: 1,
         store: vec![],
         row: 0,
@@ -46,7 +47,7 @@ fn signed_number(pattern: u64) -> Case {
 fn preview(out: &[u8]) -> Case {
     let value = Value {
         grammar: leaf(1),
-        rows: vec![1, 1, 7, 0],
+        rows: vec![1, 1, 7, 0, 4],
         n: 1,
         store: vec![],
     };
@@ -62,11 +63,11 @@ fn texts() {
     let reading = Case::Demarshall {
         grammar: vec![2, 3, 0, 1, 0, 0, 0, 1, 1],
         record: vec![6, 0, 0, 0, 0, 0, 0, 0],
-        rows: vec![99; 29],
+        rows: vec![99; 7 * ROW_WORDS + 1],
     };
     assert_eq!(
         text(reading),
-        r#"{"name": "a name", "call": "demarshall", "grammar": ["2", "3 0 1", "0 0 0", "1", "1"], "record": ["0600000000000000"], "rows": [{"repeat": "99 99 99 99", "times": 7}, "99"], "accepted": {"row_count": "7", "rest_index": "8"}, "rows_after": ["3 7 6 0", {"repeat": "0 1 0 0", "times": 6}, "99"]}"#
+        r#"{"name": "a name", "call": "demarshall", "grammar": ["2", "3 0 1", "0 0 0", "1", "1"], "record": ["0600000000000000"], "rows": [{"repeat": "99 99 99 99 99", "times": 7}, "99"], "accepted": {"row_count": "7", "rest_index": "8"}, "rows_after": ["3 7 6 0 8", {"repeat": "0 1 0 0 0", "times": 6}, "99"]}"#
     );
     let check = Case::CheckValWith {
         grammar: leaf(0),
@@ -89,11 +90,11 @@ fn texts() {
     );
     assert_eq!(
         text(signed_number(4_294_967_293)),
-        r#"{"name": "a name", "call": "signed_number", "rows": ["9 1 4294967293 0"], "n": "1", "store": [], "row": "0", "accepted": {"number": "-3"}}"#
+        r#"{"name": "a name", "call": "signed_number", "rows": ["9 1 4294967293 0 4"], "n": "1", "store": [], "row": "0", "accepted": {"number": "-3"}}"#
     );
     assert_eq!(
         text(preview(&[0; 6])),
-        r#"{"name": "a name", "call": "preview", "grammar": ["1", "1 0 0", "0"], "rows": ["1 1 7 0"], "n": "1", "store": [], "out": ["000000000000"], "index": "1", "accepted": {"size": "4", "changed": "1"}}"#
+        r#"{"name": "a name", "call": "preview", "grammar": ["1", "1 0 0", "0"], "rows": ["1 1 7 0 4"], "n": "1", "store": [], "out": ["000000000000"], "index": "1", "accepted": {"size": "4", "changed": "1"}}"#
     );
     let refused = Case::SameRoute {
         grammar: vec![1, 2, 0, 0, 0],
@@ -297,7 +298,7 @@ fn signed_numbers_have_one_spelling() {
         assert_eq!(error_in(sound.clone(), old, &new), expected);
     }
     let size = Case::ComputeSizeOf {
-        rows: vec![9, 1, 0, 0],
+        rows: vec![9, 1, 0, 0, 4],
         n: 1,
         store: vec![],
     };

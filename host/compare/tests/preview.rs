@@ -2,11 +2,11 @@
 
 use std::collections::BTreeSet;
 
-use compare::{leaf, on_large_stack, root_kinds, table, Answer, Case, Random, Value};
+use compare::{leaf, on_large_stack, root_kinds, table, Answer, Case, Random, Row, Value};
 use route_record::MAX_BYTES;
 
 /// A value of these rows, with the store 01 02 03 04.
-fn value(grammar: Vec<u32>, rows: &[[u64; 4]]) -> Value {
+fn value(grammar: Vec<u32>, rows: &[Row]) -> Value {
     Value {
         grammar,
         rows: rows.concat(),
@@ -17,22 +17,25 @@ fn value(grammar: Vec<u32>, rows: &[[u64; 4]]) -> Value {
 
 /// A value of each kind, of at most 12 bytes.
 fn small_values() -> Vec<Value> {
-    let constant = [0, 1, 0, 0];
-    let numbers = [0, 1, 2, 9, 10].map(|kind| {
+    let constant = [0, 1, 0, 0, 0];
+    let numbers = [(0, 0), (1, 4), (2, 8), (9, 4), (10, 8)].map(|(kind, size)| {
         let number = if kind == 0 { 0 } else { 0xfe00_0100 };
-        value(leaf(kind), &[[kind.into(), 1, number, 0]])
+        value(leaf(kind), &[[kind.into(), 1, number, 0, size]])
     });
-    let arrays = [(5, 2), (6, 1), (7, 0)].map(|(kind, count)| {
-        let row = [kind.into(), 1, count, 0];
+    let arrays = [(5, 2, 10), (6, 1, 12), (7, 0, 8)].map(|(kind, count, size)| {
+        let row = [kind.into(), 1, count, 0, size];
         value(leaf(kind), &[row])
     });
-    let parents = [(3, 1), (4, 1), (8, 0)].map(|(kind, word2)| {
+    let parents = [(3, 1, 12), (4, 1, 4), (8, 0, 12)].map(|(kind, word2, size)| {
         let grammar = table(&[[kind, 0, 1], [9, 0, 0]], &[1]);
-        value(grammar, &[[kind.into(), 2, word2, 0], [9, 1, 5, 0]])
+        value(
+            grammar,
+            &[[kind.into(), 2, word2, 0, size], [9, 1, 5, 0, 4]],
+        )
     });
-    let empty = value(table(&[[3, 0, 1], [0; 3]], &[1]), &[[3, 1, 0, 0]]);
+    let empty = value(table(&[[3, 0, 1], [0; 3]], &[1]), &[[3, 1, 0, 0, 8]]);
     let in_case = table(&[[8, 0, 1], [0; 3]], &[1]);
-    let case = value(in_case, &[[8, 2, 0, 0], constant]);
+    let case = value(in_case, &[[8, 2, 0, 0, 8], constant]);
     [&numbers[..], &arrays, &parents, &[empty, case]].concat()
 }
 
@@ -71,7 +74,7 @@ fn example() -> (Value, [u8; 14]) {
     let record = *b"\x07\0\0\0\x02\0\0\0\0\0\0\0AB";
     let value = Value {
         grammar: vec![3, 4, 0, 2, 1, 0, 0, 5, 0, 0, 2, 1, 2],
-        rows: vec![4, 3, 2, 0, 1, 1, 7, 0, 5, 1, 2, 12],
+        rows: vec![4, 3, 2, 0, 14, 1, 1, 7, 0, 4, 5, 1, 2, 12, 10],
         n: 3,
         store: record.to_vec(),
     };

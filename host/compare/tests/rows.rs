@@ -3,12 +3,11 @@
 
 use std::thread;
 
-use route_record::{Place, Refusal};
-
-type Row = [u64; 4];
+use compare::{set_sizes, Row};
+use route_record::{Place, Refusal, ROW_WORDS};
 
 /// The constant, a value of no bytes.
-const CONSTANT: Row = [0, 1, 0, 0];
+const CONSTANT: Row = [0, 1, 0, 0, 0];
 
 fn at_row<T>(number: u64, row: u64) -> Result<T, Refusal> {
     let place = Place::Row(row);
@@ -17,8 +16,10 @@ fn at_row<T>(number: u64, row: u64) -> Result<T, Refusal> {
 
 /// 4,096 rows, each but the last a value of this kind with the next row in it, and the last one.
 fn deepest(kind: u64, last: Row) -> Vec<u64> {
-    let parents = (2..=4_096).rev().map(|span| [kind, span, 1, 0]);
-    parents.chain([last]).collect::<Vec<Row>>().concat()
+    let parents = (2..=4_096).rev().map(|span| [kind, span, 1, 0, 0]);
+    let mut rows: Vec<Row> = parents.chain([last]).collect();
+    set_sizes(&mut rows);
+    rows.concat()
 }
 
 /// The answers to the deepest rows: their size, where the array of the last row is, and the last
@@ -50,19 +51,19 @@ fn the_deepest_rows() {
         let (no_array, no_number) = (at_row(18, 4_095), at_row(20, 4_095));
         assert_eq!(answers(CONSTANT), (Ok(size), no_array, no_number));
         let array = (Ok(size + 20), Ok((4, 12)), no_number);
-        assert_eq!(answers([6, 1, 3, 4]), array);
+        assert_eq!(answers([6, 1, 3, 4, 20]), array);
         let number = (Ok(size + 4), no_array, Ok(-1));
-        assert_eq!(answers([9, 1, 4_294_967_295, 0]), number);
+        assert_eq!(answers([9, 1, 4_294_967_295, 0, 4]), number);
         let number = (Ok(size + 8), no_array, Ok(i64::MIN));
-        assert_eq!(answers([10, 1, 1 << 63, 0]), number);
+        assert_eq!(answers([10, 1, 1 << 63, 0, 8]), number);
         for (number, last) in [
-            (13, [11, 1, 0, 0]),
-            (13, [9, 1, 1 << 32, 0]),
-            (13, [0, 2, 0, 0]),
-            (13, [8, 1, 0, 0]),
-            (13, [3, 1, u64::MAX, 0]),
-            (14, [6, 1, 3, 5]),
-            (14, [7, 1, 1 << 61, 0]),
+            (13, [11, 1, 0, 0, 0]),
+            (13, [9, 1, 1 << 32, 0, 4]),
+            (13, [0, 2, 0, 0, 0]),
+            (13, [8, 1, 0, 0, 8]),
+            (13, [3, 1, u64::MAX, 0, 8]),
+            (14, [6, 1, 3, 5, 20]),
+            (14, [7, 1, 1 << 61, 0, 8]),
         ] {
             let row = 4_095;
             let refusal = (
@@ -71,6 +72,20 @@ fn the_deepest_rows() {
                 at_row(number, row),
             );
             assert_eq!(answers(last), refusal);
+        }
+    }
+}
+
+/// Of several wrong sizes the deepest is found first.
+#[test]
+fn wrong_sizes_in_the_deepest_rows() {
+    for kind in [3, 4, 8] {
+        let mut words = deepest(kind, CONSTANT);
+        for row in [0, 1, 2_000, 4_094, 4_095] {
+            words[ROW_WORDS * row + 4] += 1;
+            let row = row as u64;
+            let refusal = (at_row(13, row), at_row(13, row), at_row(13, row));
+            assert_eq!(on_small_stack(words.clone()), refusal);
         }
     }
 }

@@ -16,7 +16,7 @@ fn count(count: u64) -> [u8; 8] {
 /// Example A: a tuple of a uint32 and an array of bytes.
 const TUPLE: [u32; 13] = [3, 4, 0, 2, 1, 0, 0, 5, 0, 0, 2, 1, 2];
 const TUPLE_RECORD: [u8; 14] = [7, 0, 0, 0, 2, 0, 0, 0, 0, 0, 0, 0, 0x41, 0x42];
-const TUPLE_TEXT: &str = "rows 3\n4 3 2 0\n1 1 7 0\n5 1 2 12\n";
+const TUPLE_TEXT: &str = "rows 3\n4 3 2 0 14\n1 1 7 0 4\n5 1 2 12 10\n";
 
 /// The grammar of an array of bytes.
 const BYTES: [u32; 5] = [1, 5, 0, 0, 0];
@@ -54,8 +54,8 @@ fn long_input(length: usize) -> Vec<u8> {
 
 #[test]
 fn the_longest_inputs() {
-    assert_eq!(show(&long_input(65_535)), "rows 1\n5 1 65499 8\n");
-    assert_eq!(show(&long_input(65_536)), "rows 1\n5 1 65500 8\n");
+    assert_eq!(show(&long_input(65_535)), "rows 1\n5 1 65499 8 65507\n");
+    assert_eq!(show(&long_input(65_536)), "rows 1\n5 1 65500 8 65508\n");
     for length in [65_537, 65_538, 70_000, 200_000] {
         let input = long_input(length);
         assert_eq!(input.len(), length);
@@ -76,10 +76,11 @@ fn the_longest_inputs() {
 fn the_deepest_values() {
     for (kind, own, word2) in [(3, &count(1)[..], 1), (4, &[], 1), (8, &count(0), 0)] {
         let record = [own.repeat(255), vec![7, 0, 0, 0]].concat();
-        let parents = (2..=256)
-            .rev()
-            .map(|span| format!("{kind} {span} {word2} 0\n"));
-        let text = format!("rows 256\n{}1 1 7 0\n", parents.collect::<String>());
+        let parents = (2..=256).rev().map(|span| {
+            let size = own.len() * (span - 1) + 4;
+            format!("{kind} {span} {word2} 0 {size}\n")
+        });
+        let text = format!("rows 256\n{}1 1 7 0 4\n", parents.collect::<String>());
         assert_eq!(show(&show_input(&chain(kind), &record)), text);
     }
 }
@@ -91,7 +92,7 @@ fn inputs_in_pieces() {
         assert_eq!(show_in_pieces(&tuple_input(), piece), TUPLE_TEXT);
     }
     let input = long_input(65_536);
-    assert_eq!(show_in_pieces(&input, 5_000), "rows 1\n5 1 65500 8\n");
+    assert_eq!(show_in_pieces(&input, 5_000), "rows 1\n5 1 65500 8 65508\n");
     let input = long_input(65_537);
     assert_eq!(show_in_pieces(&input, 5_000), "refused 19 byte 65536\n");
     assert_eq!(show_in_pieces(&input, 65_536), "refused 19 byte 65536\n");
@@ -112,7 +113,7 @@ fn inputs_in_files() {
     let shown = |input: &[u8]| shown_from_file("show-input", input);
     assert_eq!(shown(&[]), "refused 19 byte 0\n");
     assert_eq!(shown(&tuple_input()), TUPLE_TEXT);
-    assert_eq!(shown(&long_input(65_536)), "rows 1\n5 1 65500 8\n");
+    assert_eq!(shown(&long_input(65_536)), "rows 1\n5 1 65500 8 65508\n");
     assert_eq!(shown(&long_input(65_537)), "refused 19 byte 65536\n");
     assert_eq!(shown(&long_input(200_000)), "refused 19 byte 65536\n");
 }

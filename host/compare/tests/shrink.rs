@@ -5,7 +5,7 @@ use std::hash::{DefaultHasher, Hash, Hasher};
 use route_record::{Place, Refusal, CHECK_ROWS, MAX_BYTES, MAX_GRAMMARS, MAX_ROWS, ROW_WORDS};
 
 use compare::{grammar_list, leaf, shrink, Answer, Case, Field, Outcome, Random, Record, RowTable};
-use compare::{table, Table, Value};
+use compare::{set_sizes, table, Table, Value};
 
 /// A library that answers as the model does, but for an error.
 type Library = fn(&Case) -> Outcome;
@@ -54,7 +54,7 @@ fn records_and_grammars() {
         let expected = Case::Demarshall {
             grammar: vec![1, 0, 0, 0, 0],
             record: vec![0],
-            rows: vec![0; 4],
+            rows: vec![0; ROW_WORDS],
         };
         assert_eq!(smallest(accepts_bytes_left_over, &large), expected);
     }
@@ -141,18 +141,51 @@ fn rows_and_stores() {
         let mut table = RowTable::sound(random, 300);
         let place = table.record.len() as u64 + 1_000;
         let row = *table.arrays().last().expect("an array");
-        table.rows[row][2..].copy_from_slice(&[0, place]);
+        table.rows[row][2..4].copy_from_slice(&[0, place]);
+        set_sizes(&mut table.rows);
+        let large = Case::ComputeSizeOf {
+            rows: table.words(),
+            n: 300,
+            store: table.record,
+        };
+        // Of this row alone the size is not looked at.
+        let expected = Case::ComputeSizeOf {
+            rows: vec![5, 1, 0, 1, 0],
+            n: 1,
+            store: vec![],
+        };
+        assert_eq!(smallest(skips_empty_arrays, &large), expected);
+    }
+}
+
+/// The error of not comparing the sizes of rows.
+fn skips_sizes(case: &Case) -> Outcome {
+    let mut sized = case.clone();
+    if let Case::ComputeSizeOf { rows, .. } = &mut sized {
+        set_sizes(rows.as_chunks_mut().0);
+    }
+    Outcome::with(sized.of_model().answer, case)
+}
+
+/// A wrong size anywhere in a table becomes that of a row alone, with the lowest number that is wrong.
+#[test]
+fn sizes() {
+    for seed in 0..5 {
+        let random = &mut Random::new(seed);
+        let mut table = RowTable::sound(random, 300);
+        let row = random.below(300);
+        table.rows[row][4] += 1_000;
         let large = Case::ComputeSizeOf {
             rows: table.words(),
             n: 300,
             store: table.record,
         };
         let expected = Case::ComputeSizeOf {
-            rows: vec![5, 1, 0, 1],
+            rows: vec![0, 1, 0, 0, 1],
             n: 1,
             store: vec![],
         };
-        assert_eq!(smallest(skips_empty_arrays, &large), expected);
+        assert_eq!(smallest(skips_sizes, &large), expected);
     }
 }
 
@@ -174,7 +207,8 @@ fn row_numbers() {
     for seed in 0..5 {
         let mut table = RowTable::sound(&mut Random::new(seed), 300);
         let row = *table.signed().last().expect("a signed number");
-        table.rows[row] = [9, 1, (1 << 31) + 9, 0];
+        table.rows[row] = [9, 1, (1 << 31) + 9, 0, 4];
+        set_sizes(&mut table.rows);
         let large = Case::SignedNumber {
             rows: table.words(),
             n: 300,
@@ -182,7 +216,7 @@ fn row_numbers() {
             row,
         };
         let expected = Case::SignedNumber {
-            rows: vec![9, 1, 1 << 31, 0],
+            rows: vec![9, 1, 1 << 31, 0, 4],
             n: 1,
             store: vec![],
             row: 0,
@@ -261,7 +295,7 @@ fn imports() {
     };
     // A few arrays, the last of a byte, into a store of a byte.
     assert!(record.len() <= 24 && record.ends_with(&[0, 0, 0, 1, 0, 0, 0, 1]));
-    assert!(rows.len() <= 20 && rows.iter().all(|&word| word == 0));
+    assert!(rows.len() <= 5 * ROW_WORDS && rows.iter().all(|&word| word == 0));
     assert_eq!(store, [0]);
 }
 

@@ -105,7 +105,7 @@ fn refused(grammar: &str, record: &str, rows: usize, store: usize) -> Refused {
 /// A tuple of an int32, a byte array and a uint32 array, and its XDR.
 const T: &str = "4, 4 0 3, 9 0 0, 5 0 0, 6 0 0, 3, 1 2 3";
 const T_XDR: &str = "FFFFFFFF 00000002 41420000 00000001 12345678";
-const T_ROWS: &str = "4 4 3 0, 9 1 4294967295 0, 5 1 2 0, 6 1 1 2";
+const T_ROWS: &str = "4 4 3 0 26, 9 1 4294967295 0 4, 5 1 2 0 10, 6 1 1 2 12";
 const BYTES: &str = "1, 5 0 0, 0";
 const CONSTANTS: &str = "2, 3 0 1, 0 0 0, 1, 1";
 const UNION: &str = "2, 8 0 1, 0 0 0, 1, 1";
@@ -113,7 +113,7 @@ const UNION: &str = "2, 8 0 1, 0 0 0, 1, 1";
 #[test]
 fn a_tuple_is_exported() {
     let record = hex("FFFFFFFF 0200000000000000 4142 0100000000000000 78563412");
-    let rows = "4 4 3 0, 9 1 4294967295 0, 5 1 2 12, 6 1 1 22";
+    let rows = "4 4 3 0 26, 9 1 4294967295 0 4, 5 1 2 12 10, 6 1 1 22 12";
     let value = value(T, rows, &record);
     assert_eq!(xdr_of(&value), hex(T_XDR));
     let out = [0xee; 25];
@@ -128,7 +128,7 @@ fn a_tuple_is_exported() {
 #[test]
 fn a_tuple_is_imported() {
     let (grammar, xdr) = (numbers(T), hex(T_XDR));
-    let imported = import(&grammar, &xdr, &[99; 16], &[0xee; 8]);
+    let imported = import(&grammar, &xdr, &[99; 4 * ROW_WORDS], &[0xee; 8]);
     let expected = Imported {
         row_count: 4,
         used: 6,
@@ -136,8 +136,8 @@ fn a_tuple_is_imported() {
         store: hex("41 42 78 56 34 12 EE EE"),
     };
     assert_eq!(imported, Ok(expected));
-    let imported = import(&grammar, &xdr, &[99; 19], &[0xee; 6]).expect("accepted");
-    assert_eq!(imported.rows[16..], [99; 3]);
+    let imported = import(&grammar, &xdr, &[99; 4 * ROW_WORDS + 3], &[0xee; 6]).expect("accepted");
+    assert_eq!(imported.rows[4 * ROW_WORDS..], [99; 3]);
     assert_eq!(imported.store, hex("41 42 78 56 34 12"));
     let of_t = |record: &[u8], rows: usize, store: usize| {
         let (rows, store) = (vec![99; ROW_WORDS * rows], vec![0xee; store]);
@@ -164,8 +164,9 @@ fn a_tuple_is_imported() {
 fn small_imports() {
     let three = "2, 4 0 3, 5 0 0, 3, 1 1 1";
     let xdr = hex("00000000 00000003 61626300 00000000");
-    let imported = import(&numbers(three), &xdr, &[99; 16], &[0xee; 3]).expect("accepted");
-    let rows = numbers("4 4 3 0, 5 1 0 0, 5 1 3 0, 5 1 0 3");
+    let imported =
+        import(&numbers(three), &xdr, &[99; 4 * ROW_WORDS], &[0xee; 3]).expect("accepted");
+    let rows = numbers("4 4 3 0 27, 5 1 0 0 8, 5 1 3 0 11, 5 1 0 3 8");
     assert_eq!((imported.used, imported.rows), (3, rows));
     for padding in ["", "00", "0000"] {
         let record = format!("00000001 07 {padding}");
@@ -174,11 +175,16 @@ fn small_imports() {
     let imported = import(
         &numbers(BYTES),
         &hex("00000001 07000000"),
-        &[99; 4],
+        &[99; ROW_WORDS],
         &[0xee],
     );
     assert_eq!(imported.expect("accepted").store, [7]);
-    let imported = import(&numbers(CONSTANTS), &hex("00000003"), &[99; 16], &[]);
+    let imported = import(
+        &numbers(CONSTANTS),
+        &hex("00000003"),
+        &[99; 4 * ROW_WORDS],
+        &[],
+    );
     let imported = imported.expect("accepted");
     assert_eq!((imported.row_count, imported.used), (4, 0));
     assert_eq!(refused(CONSTANTS, "FFFFFFFF", 4096, 0), (8, Place::Byte(0)));
@@ -189,7 +195,7 @@ fn small_imports() {
     );
     assert_eq!(refused(UNION, "00000001", 2, 0), (10, Place::Byte(0)));
     assert_eq!(refused(UNION, "00000000", 1, 0), (8, Place::Byte(4)));
-    let too_few = import(&numbers(UNION), &hex("00000000"), &[99; 3], &[]);
+    let too_few = import(&numbers(UNION), &hex("00000000"), &[99; ROW_WORDS - 1], &[]);
     assert_eq!(too_few, Err((8, Place::Byte(0))));
 }
 
@@ -242,8 +248,9 @@ fn the_file_of_the_rfc() {
         00000006 28717569 74290000",
     );
     assert_eq!(xdr.len(), 48);
-    let imported = import(&numbers(grammar), &xdr, &[99; 24], &[0xee; 24]).expect("accepted");
-    let rows = "4 6 4 0, 5 1 9 0, 8 2 2 0, 5 1 4 9, 5 1 4 13, 5 1 6 17";
+    let imported =
+        import(&numbers(grammar), &xdr, &[99; 6 * ROW_WORDS], &[0xee; 24]).expect("accepted");
+    let rows = "4 6 4 0 63, 5 1 9 0 17, 8 2 2 0 20, 5 1 4 9 12, 5 1 4 13 12, 5 1 6 17 14";
     let expected = Imported {
         row_count: 6,
         used: 23,
@@ -256,9 +263,11 @@ fn the_file_of_the_rfc() {
 
 /// 4,095 byte arrays of so many bytes in one array, which share a store.
 fn arrays_that_share(length: u64) -> Value {
+    let root = vec![3, 4_096, 4_095, 0, 8 + 4_095 * (8 + length)];
+    let array = [5, 1, length, 0, 8 + length];
     Value {
         grammar: table(&[[3, 0, 1], [5, 0, 0]], &[1]),
-        rows: [vec![3, 4096, 4095, 0], [5, 1, length, 0].repeat(4_095)].concat(),
+        rows: [root, array.repeat(4_095)].concat(),
         n: MAX_ROWS,
         store: vec![0x5a; length as usize],
     }
@@ -276,6 +285,7 @@ fn the_size_of_xdr_counts() {
     let (rows, store) = (vec![99; ROW_WORDS * MAX_ROWS], vec![0; MAX_BYTES]);
     let imported = import(&fits.grammar, &xdr, &rows, &store).expect("accepted");
     assert_eq!((imported.row_count, imported.used), (4_096, 4_095 * 252));
+    assert_eq!(imported.rows[4], 1_064_708);
     let refusal = export(&arrays_that_share(253), &out, 0);
     assert_eq!(refusal, Err((16, Place::Row(0))));
     // The longest byte array that is exported, and one byte more.
@@ -285,10 +295,47 @@ fn the_size_of_xdr_counts() {
         (MAX_BYTES - 8, Ok(MAX_BYTES - 4)),
         (MAX_BYTES - 3, Err((16, Place::Row(0)))),
     ] {
-        let bytes = value(BYTES, &format!("5 1 {length} 0"), &vec![1; length]);
+        let bytes = value(
+            BYTES,
+            &format!("5 1 {length} 0 {}", 8 + length),
+            &vec![1; length],
+        );
         let size = export(&bytes, &vec![0xee; MAX_BYTES], 0).map(|(size, _)| size);
         assert_eq!(size, answer);
     }
+}
+
+/// The record that has the most bytes of all whose value is imported: XDR of 1,048,576 bytes with a
+/// count in each of the 4,096 rows, and no padding.
+#[test]
+fn the_greatest_size_of_an_import() {
+    let lengths: Vec<u32> = (0..4_095).map(|k| if k < 63 { 256 } else { 252 }).collect();
+    let array = |length: &u32| [&length.to_be_bytes()[..], &vec![7; *length as usize]].concat();
+    let arrays: Vec<Vec<u8>> = lengths.iter().map(array).collect();
+    let xdr = [&4_095_u32.to_be_bytes()[..], &arrays.concat()].concat();
+    assert_eq!(xdr.len(), MAX_BYTES);
+    let grammar = table(&[[3, 0, 1], [5, 0, 0]], &[1]);
+    let (rows, store) = (vec![99; ROW_WORDS * MAX_ROWS], vec![0; MAX_BYTES]);
+    let imported = import(&grammar, &xdr, &rows, &store).expect("accepted");
+    let value = Value {
+        grammar,
+        rows: imported.rows,
+        n: MAX_ROWS,
+        store: imported.store,
+    };
+    let sizes: Vec<u64> = value.rows.chunks(ROW_WORDS).map(|row| row[4]).collect();
+    assert_eq!(sizes[0], 1_064_960);
+    let of_array = |length: &u32| 8 + u64::from(*length);
+    assert!(lengths.iter().map(of_array).eq(sizes[1..].iter().copied()));
+    let size = Case::ComputeSizeOf {
+        rows: value.rows.clone(),
+        n: value.n,
+        store: value.store.clone(),
+    };
+    assert_eq!(size.compare().answer.result(), Ok([1_064_960]));
+    let too_long = value.marshall(1_064_960).expect_err("16");
+    assert_eq!(refused_of(too_long), (16, Place::Row(0)));
+    assert_eq!(xdr_of(&value), xdr);
 }
 
 /// What random values and their XDR met of: kinds of rows, and numbers of refusals.
@@ -439,13 +486,13 @@ fn front_parts_are_refused_with_9() {
     let value = Value {
         grammar: grammar.clone(),
         rows: numbers(
-            "4 10 6 0, 1 1 7 0, 5 1 5 0, 7 1 1 0, 3 3 2 0, 10 1 1 0, 10 1 2 0, 8 2 0 0, 10 1 3 0, 10 1 4 0",
+            "4 10 6 0 81, 1 1 7 0 4, 5 1 5 0 13, 7 1 1 0 16, 3 3 2 0 24, 10 1 1 0 8, 10 1 2 0 8, 8 2 0 0 16, 10 1 3 0 8, 10 1 4 0 8",
         ),
         n: 10,
         store: (1..=8).collect(),
     };
     let xdr = xdr_of(&value);
-    let (rows, store) = (vec![99; 40], vec![0xee; 13]);
+    let (rows, store) = (vec![99; 10 * ROW_WORDS], vec![0xee; 13]);
     assert!(import(&grammar, &xdr, &rows, &store).is_ok());
     for length in 0..xdr.len() {
         let cut = import(&grammar, &xdr[..length], &rows, &store);
@@ -461,13 +508,13 @@ fn numbers_most_byte_first() {
             let number = if width == 8 { number << 24 | 5 } else { number };
             let value = Value {
                 grammar: leaf(kind),
-                rows: vec![kind.into(), 1, number, 0],
+                rows: vec![kind.into(), 1, number, 0, width as u64],
                 n: 1,
                 store: vec![],
             };
             let expected = &number.to_be_bytes()[8 - width..];
             assert_eq!(xdr_of(&value), expected);
-            let imported = import(&leaf(kind), expected, &[99; 4], &[]).expect("accepted");
+            let imported = import(&leaf(kind), expected, &[99; ROW_WORDS], &[]).expect("accepted");
             assert_eq!(imported.rows, value.rows);
         }
     }
@@ -475,7 +522,7 @@ fn numbers_most_byte_first() {
 
 /// What the random cases met of: kinds of rows that were exported and imported, numbers of padding
 /// bytes that were, the greatest size and the most rows, stores and rows just enough and one too few,
-/// and values that are too long to be written.
+/// and exported and imported values that are too long to be written.
 #[derive(Default)]
 struct MetCases {
     exported: BTreeSet<u64>,
@@ -486,6 +533,7 @@ struct MetCases {
     just_enough: usize,
     one_too_few: usize,
     too_long_to_write: usize,
+    too_long_imported: usize,
 }
 
 impl MetCases {
@@ -511,6 +559,7 @@ impl MetCases {
         let rows = &rows[..ROW_WORDS * row_count as usize];
         MetCases::add_rows(&mut self.imported, &mut self.padding, rows);
         self.most_rows = self.most_rows.max(row_count);
+        self.too_long_imported += usize::from(rows[4] > MAX_BYTES as u64);
         self.just_enough += usize::from(used > 0 && used == store.len() as u64);
     }
 }
@@ -546,7 +595,8 @@ fn random_cases() {
     assert_eq!(met.imported, (0..=10).collect());
     assert_eq!(met.padding, (0..=3).collect());
     assert_eq!((met.greatest, met.most_rows), (MAX_BYTES as u64, 4_096));
-    assert!(met.just_enough > 0 && met.one_too_few > 0 && met.too_long_to_write > 0);
+    assert!(met.just_enough > 0 && met.one_too_few > 0);
+    assert!(met.too_long_to_write > 0 && met.too_long_imported > 0);
 }
 
 /// A random case of import.
