@@ -6,7 +6,7 @@ use compare::{Random, Record, Table};
 use route_record::calls::{locate_array, signed_number};
 use route_record::{
     Builder, Class, Contents, Grammar, GrammarError, Kind, Position, Preview, Refusal, Row, Value,
-    KINDS,
+    KINDS, ROW_WORDS,
 };
 
 /// A random table of `n` nodes that the root reaches, with up to `shared` more child words than
@@ -78,6 +78,15 @@ fn assert_fits(row: Row, depth: usize, parents: &mut Vec<(usize, usize)>, store:
     }
     assert!(row.child(children.len()).is_none());
 
+    let below: u64 = children.map(|child| child.size()).sum();
+    let own = match row.kind().class {
+        Class::Number { width } | Class::Signed { width } => width,
+        Class::Array | Class::Union => 8,
+        Class::Elements { width } => 8 + width * words[2] as usize,
+        _ => 0,
+    };
+    assert_eq!((row.size(), words.len()), (own as u64 + below, ROW_WORDS));
+
     let is = |class: bool, word: usize| class.then_some(words[word]);
     let class = row.kind().class;
     assert_eq!(row.number(), is(matches!(class, Class::Number { .. }), 2));
@@ -120,6 +129,7 @@ fn assert_round_trip(grammar: &Grammar, record: &Record) -> Vec<u32> {
     assert_eq!(built.store().len(), packed);
     for ((depth, read), (of_built, built)) in value.rows().zip(built.rows()) {
         assert_eq!((depth, &read.words()[..3]), (of_built, &built.words()[..3]));
+        assert_eq!(read.size(), built.size());
         assert_eq!(read.elements(), built.elements());
     }
     assert_eq!(grammar.marshall_vec(&built).as_ref(), Ok(&record.bytes));

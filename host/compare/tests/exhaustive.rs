@@ -3,7 +3,8 @@
 
 use std::ops::Range;
 
-use compare::{leaf, table, Answer, Calls, Case, Number, Random, U32, U64};
+use compare::{leaf, set_sizes, table, Answer, Calls, Case, Number, Random, Row, U32, U64};
+use route_record::ROW_WORDS;
 
 /// Compares a case, and gives whether it is accepted.
 fn is_accepted(case: Case) -> bool {
@@ -140,19 +141,24 @@ fn lists_of_two_grammars() {
     assert_eq!(sound_lists(&list), ((6 + 1 + 1 + 1) * 9, 4 - 1));
 }
 
-type Row = [u64; 4];
-
-/// All rows of these kinds, spans, words 2, and of the words 3 0 and 1.
+/// All rows of these kinds, spans, words 2, and of the words 3 0 and 1, without their sizes.
 fn all_rows(kinds: &[u64], spans: &[u64], words2: &[u64]) -> Vec<Row> {
     let mut rows = Vec::new();
     for &kind in kinds {
         for &span in spans {
             for &word2 in words2 {
-                rows.extend([0, 1].map(|word3| [kind, span, word2, word3]));
+                rows.extend([0, 1].map(|word3| [kind, span, word2, word3, 0]));
             }
         }
     }
     rows
+}
+
+/// The words of rows, each with the size of its value.
+fn sized(rows: &[Row]) -> Vec<u64> {
+    let mut rows = rows.to_vec();
+    set_sizes(&mut rows);
+    rows.concat()
 }
 
 /// All pairs of rows of kinds that are there, and of the first that is not.
@@ -161,7 +167,7 @@ fn pairs_of_rows() -> Vec<Vec<u64>> {
     let rows = all_rows(&kinds, &[0, 1, 2, u64::MAX], &[0, 1, u64::MAX]);
     let pairs = rows
         .iter()
-        .flat_map(|root| rows.iter().map(|child| [*root, *child].concat()));
+        .flat_map(|root| rows.iter().map(|child| sized(&[*root, *child])));
     pairs.collect()
 }
 
@@ -202,6 +208,33 @@ fn signed_numbers_of_two_rows() {
     }
 }
 
+/// Example A with the sizes of its three rows each from 0 to 16: one triple is right, and of the wrong
+/// sizes the first in the order of the rows' ends is refused.
+#[test]
+fn sizes_of_three_rows() {
+    for number in 0..17 * 17 * 17 {
+        let sizes = [number / 289, number / 17 % 17, number % 17];
+        let case = Case::ComputeSizeOf {
+            rows: [
+                [4, 3, 2, 0, sizes[0]],
+                [1, 1, 7, 0, sizes[1]],
+                [5, 1, 2, 12, sizes[2]],
+            ]
+            .concat(),
+            n: 3,
+            store: vec![0; 14],
+        };
+        let wrong = [1, 2, 0]
+            .into_iter()
+            .find(|&row| sizes[row] != [14, 4, 10][row]);
+        let expected = match wrong {
+            Some(row) => [13, 3, row as u64, 0, 0],
+            None => [0, 0, 0, 14, 0],
+        };
+        assert_eq!(case.compare().answer.c_words(), expected);
+    }
+}
+
 /// The powers of 2 below 2^64 and the numbers next to them, and what these lack to 2^64.
 fn near_powers() -> Vec<u64> {
     let powers = (0..64).map(|bit| 1u64 << bit);
@@ -216,7 +249,7 @@ fn near_powers() -> Vec<u64> {
 fn signed_numbers_near_powers_of_two() {
     let answer = |kind, pattern| {
         let case = Case::SignedNumber {
-            rows: vec![kind, 1, pattern, 0],
+            rows: sized(&[[kind, 1, pattern, 0, 0]]),
             n: 1,
             store: vec![],
             row: 0,
@@ -234,11 +267,11 @@ fn signed_numbers_near_powers_of_two() {
     }
 }
 
-/// The writing of these rows to an output of 100 bytes.
+/// The writing of these rows, with their sizes, to an output of 100 bytes.
 fn writing(grammar: &[u32], rows: &[Row], store: &[u8]) -> Case {
     Case::Marshall {
         grammar: grammar.to_vec(),
-        rows: rows.concat(),
+        rows: sized(rows),
         n: rows.len(),
         store: store.to_vec(),
         out: vec![0xee; 100],
@@ -282,7 +315,7 @@ fn arrays_anywhere_in_the_store() {
         for count in 0..=24 / width {
             let last = 24 - count * width;
             let cases = (0..=last + 2).map(|offset| {
-                let row = [u64::from(kind), 1, count, offset];
+                let row = [u64::from(kind), 1, count, offset, 0];
                 writing(&leaf(kind), &[row], &store)
             });
             assert_eq!(accepted(cases), last as usize + 1);
@@ -307,23 +340,23 @@ const NODES: [[u32; 3]; 12] = [
 ];
 const CHILDREN: [u32; 16] = [1, 2, 3, 4, 5, 6, 7, 8, 9, 10, 11, 5, 5, 4, 4, 5];
 const ROWS: [Row; 17] = [
-    [4, 17, 11, 0],
-    [3, 3, 2, 0],
-    [1, 1, 1, 0],
-    [1, 1, 2, 0],
-    [4, 3, 2, 0],
-    [1, 1, 3, 0],
-    [0, 1, 0, 0],
-    [8, 2, 1, 0],
-    [1, 1, 4, 0],
-    [0, 1, 0, 0],
-    [1, 1, 5, 0],
-    [2, 1, 6, 0],
-    [5, 1, 1, 0],
-    [6, 1, 1, 1],
-    [7, 1, 1, 2],
-    [9, 1, 7, 0],
-    [10, 1, 8, 0],
+    [4, 17, 11, 0, 93],
+    [3, 3, 2, 0, 16],
+    [1, 1, 1, 0, 4],
+    [1, 1, 2, 0, 4],
+    [4, 3, 2, 0, 4],
+    [1, 1, 3, 0, 4],
+    [0, 1, 0, 0, 0],
+    [8, 2, 1, 0, 12],
+    [1, 1, 4, 0, 4],
+    [0, 1, 0, 0, 0],
+    [1, 1, 5, 0, 4],
+    [2, 1, 6, 0, 8],
+    [5, 1, 1, 0, 9],
+    [6, 1, 1, 1, 12],
+    [7, 1, 1, 2, 16],
+    [9, 1, 7, 0, 4],
+    [10, 1, 8, 0, 8],
 ];
 
 /// The rows of the value of each kind that have no part.
@@ -338,7 +371,7 @@ fn another_kind_in_each_row() {
         for second in LEAVES {
             for kind in [0, 1, 2, 3, 4, 5, 6, 7, 9, 10] {
                 let mut rows = ROWS;
-                (rows[first], rows[second]) = ([kind, 1, 0, 0], [kind, 1, 0, 0]);
+                (rows[first], rows[second]) = ([kind, 1, 0, 0, 0], [kind, 1, 0, 0, 0]);
                 let other = [first, second]
                     .into_iter()
                     .filter(|&row| ROWS[row][0] != kind);
@@ -375,11 +408,11 @@ fn signed_numbers_of_each_kind() {
 /// Tuples of 0 to 5 fields under nodes of 0 to 5.
 #[test]
 fn tuple_counts() {
-    let constant = [0, 1, 0, 0];
+    let constant = [0, 1, 0, 0, 0];
     let cases = (0..36).map(|both| {
         let (fields, given) = (both / 6, u64::from(both % 6));
         let grammar = table(&[[4, 0, fields], [0, 0, 0]], &[1; 6]);
-        let mut rows = vec![[4, given + 1, given, 0]];
+        let mut rows = vec![[4, given + 1, given, 0, 0]];
         rows.resize(given as usize + 1, constant);
         writing(&grammar, &rows, &[])
     });
@@ -405,6 +438,9 @@ fn each_kind() -> (Vec<u32>, Vec<u8>) {
     (grammar, record)
 }
 
+/// The words of one row more than the value of each kind has.
+const WORDS: usize = ROW_WORDS * (ROWS.len() + 1);
+
 /// The whole reading with so many words lent.
 fn reading(grammar: &[u32], record: &[u8], words: usize) -> Case {
     Case::Demarshall {
@@ -418,10 +454,10 @@ fn reading(grammar: &[u32], record: &[u8], words: usize) -> Case {
 fn readings_of_every_length_and_capacity() {
     let (grammar, record) = each_kind();
     let longer = [&record[..], &[0; 9]].concat();
-    let lengths = (0..=longer.len()).map(|length| reading(&grammar, &longer[..length], 72));
+    let lengths = (0..=longer.len()).map(|length| reading(&grammar, &longer[..length], WORDS));
     assert_eq!(accepted(lengths), 1);
-    let words = (0..=78).map(|words| reading(&grammar, &record, words));
-    assert_eq!(accepted(words), 11);
+    let words = (0..WORDS + 9).map(|words| reading(&grammar, &record, words));
+    assert_eq!(accepted(words), ROW_WORDS + 9);
     let capacities = (0..=20).map(|capacity| Case::CheckWholeWith {
         grammar: grammar.clone(),
         record: record.clone(),
@@ -452,7 +488,7 @@ fn readings_from_every_index() {
         grammar: grammar.clone(),
         record: record.clone(),
         index,
-        rows: vec![99; 72],
+        rows: vec![99; WORDS],
     });
     assert_eq!(accepted(cases), 1);
     for (capacity, count) in [(0, 0), (16, 0), (17, 1), (usize::MAX, 1)] {
@@ -476,7 +512,7 @@ fn readings_of_every_byte() {
     let cases = others.map(|(at, flip)| {
         let mut other = record.clone();
         other[at] ^= flip;
-        reading(&grammar, &other, 72)
+        reading(&grammar, &other, WORDS)
     });
     assert_eq!(accepted(cases), 255 * free);
 }
@@ -503,7 +539,7 @@ fn tuple_of(fields: &[usize]) -> (Vec<u32>, Vec<u8>) {
     children.extend(fields.iter().map(|&field| CHILDREN[field]));
     let below = fields.iter().map(|&field| &ROWS[FIELDS[field].0.clone()]);
     let below = below.collect::<Vec<_>>().concat();
-    let root = [4, below.len() as u64 + 1, fields.len() as u64, 0];
+    let root = [4, below.len() as u64 + 1, fields.len() as u64, 0, 0];
     let grammar = table(&nodes, &children);
     let record = record_of(&grammar, &[vec![root], below].concat());
     (grammar, record)
@@ -552,7 +588,7 @@ fn writings_at_every_index() {
         let indices = (0..=length + 1).chain(far);
         let cases = indices.map(|index| Case::MarshallVal {
             grammar: vec![3, 4, 0, 2, 1, 0, 0, 5, 0, 0, 2, 1, 2],
-            rows: vec![4, 3, 2, 0, 1, 1, 7, 0, 5, 1, 2, 12],
+            rows: vec![4, 3, 2, 0, 14, 1, 1, 7, 0, 4, 5, 1, 2, 12, 10],
             n: 3,
             store: b"\x07\0\0\0\x02\0\0\0\0\0\0\0AB".to_vec(),
             out: vec![0xee; length],

@@ -2,8 +2,8 @@
 
 use std::process::{Command, Output};
 
-use compare::{grammar_list, grammars_of, run};
-use compare::{Answer, Answers, Case, Difference, Field, Outcome, Random, Value};
+use compare::{grammar_list, grammars_of, run, set_sizes};
+use compare::{Answer, Answers, Case, Difference, Field, Outcome, Random, Row, Value};
 use route_record::{Place, Refusal, CHECK_ROWS, MAX_BYTES, MAX_ROWS, ROW_WORDS};
 
 /// The answers of a run of so many cases.
@@ -476,6 +476,63 @@ fn a_refused_import_that_changes_something_is_found_out() {
         let difference = difference(15, library, 2_000);
         assert_eq!(difference.case.call(), "import_xdr");
     }
+}
+
+/// Whether a size is compared, by the row's number, the row and its right size.
+type IsCompared = fn(usize, &Row, u64) -> bool;
+
+/// Comparisons of sizes that leave some out: all, all but the root's, the root's, those of values of
+/// one row, those of the others, and those that differ in their upper half alone.
+const FALSE_SIZES: [IsCompared; 6] = [
+    |_, _, _| false,
+    |row, _, _| row == 0,
+    |row, _, _| row > 0,
+    |_, [_, span, ..], _| *span > 1,
+    |_, [_, span, ..], _| *span == 1,
+    |_, [.., size], right| *size as u32 != right as u32,
+];
+
+/// The case with those sizes of the rows that it reads made right that are not compared.
+fn with_right_sizes(case: &Case, is_compared: IsCompared) -> Case {
+    let mut other = case.clone();
+    for field in other.fields() {
+        let ("rows", Field::Uint64s(words)) = field else {
+            continue;
+        };
+        let rows: &mut [Row] = words.as_chunks_mut().0;
+        let mut right = rows.to_vec();
+        set_sizes(&mut right);
+        for (number, (row, [.., right])) in rows.iter_mut().zip(right).enumerate() {
+            if !is_compared(number, row, right) {
+                row[4] = right;
+            }
+        }
+    }
+    other
+}
+
+/// A library that does not compare all sizes is found out, and one that compares them when all else
+/// of the rows is in order.
+#[test]
+fn a_false_comparison_of_sizes_is_found_out() {
+    let of_case = |case: &Case, is_compared| {
+        let outcome = case.of_library();
+        match outcome.answer.number() {
+            13 => Outcome::with(with_right_sizes(case, is_compared).of_model().answer, case),
+            _ => outcome,
+        }
+    };
+    for is_compared in FALSE_SIZES {
+        difference(17, |case| of_case(case, is_compared), 3_000);
+    }
+    let late = |case: &Case| {
+        let others = of_case(case, |_, _, _| false);
+        match others.answer.number() {
+            12..=14 => others,
+            _ => case.of_library(),
+        }
+    };
+    difference(18, late, 3_000);
 }
 
 /// Answers that are wrong of every proper front part of an accepted record: accepted, refused with
