@@ -397,7 +397,7 @@ fn smaller_capacities() {
     let mut random = Random::new(64);
     let mut numbers = BTreeSet::new();
     on_large_stack(|| {
-        for input in random_inputs(65, 4_000) {
+        for input in random_inputs(66, 4_000) {
             let larger = random.pick(&CAPACITIES);
             let smaller = random.pick(&CAPACITIES).min(larger);
             let larger = answers(input.named(larger));

@@ -243,7 +243,7 @@ fn a_late_check_of_a_grammar_is_found_out() {
             Err(_) => outcome,
         }
     };
-    let difference = difference(15, library, 2_000);
+    let difference = difference(15, library, 5_000);
     assert_eq!(difference.case.call(), "choose_grammar");
 }
 
@@ -567,7 +567,7 @@ fn assert_false_front_part_is_found_out(call: &str, answer: &Answer) {
         }),
         None => case.of_library(),
     };
-    let difference = difference(16, library, 1_000);
+    let difference = difference(20, library, 1_000);
     let record = checked_record(&difference.case, call).expect("a check of a whole record");
     assert!((1..=8).contains(&record.len()), "{record:?}");
     assert_eq!(difference.model.answer, difference.library.answer);
