@@ -56,9 +56,8 @@ fn list(elements: &Elements, shown: usize) -> String {
 /// The bytes of a record that are the row's own: rows and their bytes are in the same order.
 fn own_bytes(row: &Row) -> usize {
     match row.kind().class {
-        Class::Number { width } | Class::Signed { width } => width,
         Class::Array | Class::Union => COUNT_BYTES,
-        Class::Elements { width } => COUNT_BYTES + width * row.words()[2] as usize,
-        _ => 0,
+        Class::Tuple => 0,
+        _ => row.size() as usize,
     }
 }
