@@ -200,13 +200,12 @@ module _ {g d entry : List ℕ} {node row : ℕ} {s : CodeState} (p : RowClaimed
   unfolding nodeTree childTrees
   array-tree = node-tree g node (p .node) 3 array (p .kind) (other-kinds .1) ∙ rw (array-count g node (p .node) (p .kind), add-zero (firstWord g node))
 
-  pub arm-array : (child count : ℕ) (u : CodeState) {read r : CodeStep} {mid exit : List ℕ} → child ≡ childWord g (firstWord g node + 0) → yield count (stateOf u) ≡ takeBelow d (s .capacity - s .begun + 1) 8 (stateOf s) → u .capacity ≡ s .capacity → Reads rowsOfAll (elements count (readVal (u .capacity) d (treeOf g child)) (stateOf u)) (u .capacity) (u .begun) (u .at) entry read mid → r ≡ read → exit ≡ closed row (s .at) 3 count read mid → Reads rowsOf (readBody (s .capacity) d (treeOf g node) (stateOf s)) (s .capacity) row (s .at) entry r exit
-  arm-array child count u e h m i q o =
-      let tree = treeOf g child in
-      let t : treeOf g node ≡ GArray tree = array-tree ∙ ap (λ (j : ℕ). GArray (treeOf g j)) (sym e) in
+  pub arm-array : (count : ℕ) (u : CodeState) {read r : CodeStep} {mid exit : List ℕ} → yield count (stateOf u) ≡ takeBelow d (s .capacity - s .begun + 1) 8 (stateOf s) → u .capacity ≡ s .capacity → Reads rowsOfAll (elements count (readVal (u .capacity) d (treeOf g (childWord g (firstWord g node + 0)))) (stateOf u)) (u .capacity) (u .begun) (u .at) entry read mid → r ≡ read → exit ≡ closed row (s .at) 3 count read mid → Reads rowsOf (readBody (s .capacity) d (treeOf g node) (stateOf s)) (s .capacity) row (s .at) entry r exit
+  arm-array count u h m i q o =
+      let tree = treeOf g (childWord g (firstWord g node + 0)) in
       let y = below-taken d (s .capacity - s .begun + 1) 8 (stateOf s) count u h in
       let x : readBody (s .capacity) d (treeOf g node) (stateOf s) ≡ give VArray (elements count (readVal (s .capacity) d tree) (stateOf u)) =
-      body-tree p (GArray tree) t ∙ sym (array-body (s .capacity) d (stateOf s) tree) ∙ ap (λ (z : Reading ℕ). next z (λ n v. give VArray (elements n (readVal (s .capacity) d tree) v))) (sym h) in
+      body-tree p (GArray tree) array-tree ∙ sym (array-body (s .capacity) d (stateOf s) tree) ∙ ap (λ (z : Reading ℕ). next z (λ n v. give VArray (elements n (readVal (s .capacity) d tree) v))) (sym h) in
       closed-rows p (elements count (readVal (s .capacity) d tree) (stateOf u)) VArray rowCounts 3 count (s .at + 8) x array-rows (λ v z.
       let f = agrees-accepted (agrees-elements tree (λ s′ l′. agrees (s .capacity) d tree s′ l′) count (stateOf u) (omega (arith, y .0, y .3))) v z in
       let n = post-accepted (rw z at (elements-count count (readVal (s .capacity) d tree) (stateOf u))) in

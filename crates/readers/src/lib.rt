@@ -304,8 +304,7 @@ fn read_array(
     match s.take_below(bytes, limit, refusal::ROWS_EXHAUSTED) {
         Taken::Stopped(u, r) => Step::Stopped(u, r),
         Taken::Number(count, u) => {
-            let child = child_at(grammar, node, 0);
-            let read = read_array_contents(grammar, child, bytes, rows, count, u);
+            let read = read_array_contents(grammar, node, bytes, rows, count, u);
             close_row(rows, row, s.at, 3, count, read)
         }
     }
@@ -351,21 +350,23 @@ fn read_case(
     }
 }
 
-// The elements of an array, one behind the other.
+// The elements of an array, one behind the other. Here and of a tuple the grammar's words are read again at each value: what is kept
+// across the call stands in the frame of each level.
 fn read_array_contents(
     grammar: &[u32],
-    child: usize,
+    node: usize,
     bytes: &[u8],
     rows: &mut [u64],
     count: u64,
     s: State,
 ) -> Step
-    requires { ⌜ Node (now grammar) child × Ready (now bytes) (now rows) s ⌝ }
-    ensures { λ r. ⌜ Reads rowsOfAll (elements count (readVal (s .capacity) (now (bytes .entry)) (treeOf (now (grammar .entry)) child)) (stateOf s)) (s .capacity) (s .begun) (s .at) (now (rows .entry)) r (now (rows .exit)) ⌝ }
+    requires { ⌜ Node (now grammar) node × (0 < countWord (now grammar) node) × Ready (now bytes) (now rows) s ⌝ }
+    ensures { λ r. ⌜ Reads rowsOfAll (elements count (readVal (s .capacity) (now (bytes .entry)) (treeOf (now (grammar .entry)) (childWord (now (grammar .entry)) (firstWord (now (grammar .entry)) node + 0)))) (stateOf s)) (s .capacity) (s .begun) (s .at) (now (rows .entry)) r (now (rows .exit)) ⌝ }
 {
     let mut t = s;
     let mut i: u64 = 0;
     while i < count {
+        let child = child_at(grammar, node, 0);
         match read_value(grammar, child, bytes, rows, t) {
             Step::Stopped(u, r) => return Step::Stopped(u, r),
             // Field by field: a copy of the whole waits for what the call has just stored (docs/PERFORMANCE.md).
@@ -393,10 +394,9 @@ fn read_tuple_contents(
     requires { ⌜ Node (now grammar) node × Ready (now bytes) (now rows) s ⌝ }
     ensures { λ r. ⌜ Reads rowsOfAll (readFields (s .capacity) (now (bytes .entry)) (childTrees (now (grammar .entry)) (treeOf (now (grammar .entry))) (firstWord (now (grammar .entry)) node) (countWord (now (grammar .entry)) node)) (stateOf s)) (s .capacity) (s .begun) (s .at) (now (rows .entry)) r (now (rows .exit)) ⌝ }
 {
-    let count = word(grammar, 3 + 3 * node);
     let mut t = s;
     let mut i: usize = 0;
-    while i < count {
+    while i < word(grammar, 3 + 3 * node) {
         let child = child_at(grammar, node, i);
         match read_value(grammar, child, bytes, rows, t) {
             Step::Stopped(u, r) => return Step::Stopped(u, r),

@@ -137,11 +137,11 @@ fn compute_seq_sum(rows: &[u64], first: usize, count: u64) -> u64
 {
     let mut sum: u64 = 0;
     let mut i = first;
-    let mut left = count;
-    while 0 < left {
+    let mut children = count;
+    while 0 < children {
         sum += tables::size_at(rows, i);
         i += tables::span_at(rows, i) as usize;
-        left -= 1;
+        children -= 1;
     }
     sum
 }

@@ -10,7 +10,7 @@ use Rattle.value.specs.Kinds.{lastKind}
 use Rattle.value.specs.Tree.{Gs}
 use Rattle.value.specs.Step.{yield, both, elements}
 use Rattle.value.specs.Reading.{readBody, readVal, readFields}
-use Rattle.tables.specs.Grammar.{kindWord, firstWord, countWord}
+use Rattle.tables.specs.Grammar.{kindWord, firstWord, countWord, childWord}
 use Rattle.grammar.specs.Tree.{treeOf, childTrees}
 use Rattle.grammar.proofs.Tree.{tree-valid}
 use Rattle.rows.specs.Layout.{rowsOf}
@@ -134,10 +134,10 @@ read-value-below t =
     and 3 read-value-kinds.ps (falls 3 read-value-kinds.ps _<_ μ-read-value t) read-value.Pre
 
 abbrev read-array-calls : ℕ → read-array-lts.Claims
-read-array-calls t = (take-below-reads.Asked, take-below-reads.Learnt, child-at-reads.Asked, child-at-reads.Learnt, read-array-contents-below t, read-array-contents.Post, close-row-reads.Asked, close-row-reads.Learnt)
+read-array-calls t = (take-below-reads.Asked, take-below-reads.Learnt, read-array-contents-below t, read-array-contents.Post, close-row-reads.Asked, close-row-reads.Learnt)
 
 abbrev read-array-contents-calls : ℕ → read-array-contents-lts.Claims
-read-array-contents-calls t = (read-value-below t, read-value.Post)
+read-array-contents-calls t = (child-at-reads.Asked, child-at-reads.Learnt, read-value-below t, read-value.Post)
 
 abbrev read-case-calls : ℕ → read-case-lts.Claims
 read-case-calls t = (word-reads.Asked, word-reads.Learnt, take-below-reads.Asked, take-below-reads.Learnt, child-at-reads.Asked, child-at-reads.Learnt, read-value-below t, read-value.Post, close-row-reads.Asked, close-row-reads.Learnt)
@@ -182,22 +182,19 @@ read-array-enum-known-u t c = search needs
 read-array-enum-known-count : (t : ℕ) → read-array-lts.Need-enum-known-count (read-array-calls t) (read-array-at t) read-array.Post
 read-array-enum-known-count t c = search needs
 
-read-array-child-at-requires : (t : ℕ) → read-array-lts.Need-child-at-requires (read-array-calls t) (read-array-at t) read-array.Post
-read-array-child-at-requires t c κs =
-    let p = c .before .before .before .before .before .before .before .before .pre .1 in
-    (p .node, omega (arith, array-count (c .before .before .before .before .before .before .before .before .args .grammar .now) (c .before .before .before .before .before .before .before .before .args .node) (p .node) (p .kind)))
-
 read-array-read-array-contents-requires : (t : ℕ) → read-array-lts.Need-read-array-contents-requires (read-array-calls t) (read-array-at t) read-array.Post
 read-array-read-array-contents-requires t c κs =
-    let p = c .before .before .before .before .before .before .before .before .before .before .pre in
-    (omega (arith, p .0, count-begun t (c .before .before .before), count-keeps t (c .before .before .before)), (record { passes = p .1 .node .passes; below = c .before .child-at .ensures .1; words = p .1 .node .words }, count-ready t (c .before .before .before)))
+    let p = c .before .before .before .before .before .before .before .before .before .pre in
+    let a = c .before .before .before .before .before .before .before .before .before .args in
+    let n = array-count (a .grammar .now) (a .node) (p .1 .node) (p .1 .kind) in
+    (omega (arith, p .0, count-begun t (c .before .before), count-keeps t (c .before .before)), (p .1 .node, omega (arith, n), count-ready t (c .before .before)))
 
 read-array-close-row-requires : (t : ℕ) → read-array-lts.Need-close-row-requires (read-array-calls t) (read-array-at t) read-array.Post
 read-array-close-row-requires t c κs =
-    let k = c .before .before .before .before .before .before .before in
+    let k = c .before .before .before .before .before .before in
     let s = k .before .before .before .before .before .before .before in
     let r = c .before .before .before .read-array-contents in
-    counted-elements (k .count .given .0 .1 .0) (count-ready t k) (omega (arith, count-begun t k, s .pre .1 .claimed)) (omega (arith, count-behind t k)) (treeOf (s .args .grammar .now) (c .before .before .before .before .before .child-at .result)) (k .count .given .0 .0) (r .result) (r .ensures)
+    counted-elements (k .count .given .0 .1 .0) (count-ready t k) (omega (arith, count-begun t k, s .pre .1 .claimed)) (omega (arith, count-behind t k)) (treeOf (s .args .grammar .now) (childWord (s .args .grammar .now) (firstWord (s .args .grammar .now) (s .args .node) + 0))) (k .count .given .0 .0) (r .result) (r .ensures)
 
 read-array-returns : (t : ℕ) → read-array-lts.Need-returns (read-array-calls t) (read-array-at t) read-array.Post
 read-array-returns t c =
@@ -209,15 +206,15 @@ read-array-same-length t c = search needs
 
 read-array-returns-2 : (t : ℕ) → read-array-lts.Need-returns-2 (read-array-calls t) (read-array-at t) read-array.Post
 read-array-returns-2 t c =
-    let g = c .before .before .before .before .before .before .before .before .before .before .count .given in
-    let h = c .before .before .before .before .before .before .before .before .child-at in
-    arm-array (c .before .before .before .before .before .before .before .before .before .before .before .before .before .before .before .before .before .pre .1) (h .result) (g .0 .0) (g .0 .1 .0) (h .ensures .0) (count-taken t (c .before .before .before .before .before .before .before .before .before .before)) (count-keeps t (c .before .before .before .before .before .before .before .before .before .before)) (c .before .before .before .before .before .before .read-array-contents .ensures) (c .before .before .close-row .ensures .0) (c .before .before .close-row .ensures .1)
+    let k = c .before .before .before .before .before .before .before .before .before in
+    let g = k .count .given in
+    arm-array (k .before .before .before .before .before .before .before .pre .1) (g .0 .0) (g .0 .1 .0) (count-taken t k) (count-keeps t k) (c .before .before .before .before .before .before .read-array-contents .ensures) (c .before .before .close-row .ensures .0) (c .before .before .close-row .ensures .1)
 
 abbrev read-array-contents-Inv-loop : read-array-contents-lts.InvT-loop
-read-array-contents-Inv-loop grammar child bytes rows₀ count t₀ i₀ rows t i = (i ≤ count) × Remaining bytes rows₀ t₀ (elements count (readVal (t₀ .capacity) bytes (treeOf grammar child)) (stateOf t₀)) rows t (elements (count - i) (readVal (t₀ .capacity) bytes (treeOf grammar child)) (stateOf t))
+read-array-contents-Inv-loop grammar node bytes rows₀ count t₀ i₀ rows t i = (i ≤ count) × Remaining bytes rows₀ t₀ (elements count (readVal (t₀ .capacity) bytes (treeOf grammar (childWord grammar (firstWord grammar node + 0)))) (stateOf t₀)) rows t (elements (count - i) (readVal (t₀ .capacity) bytes (treeOf grammar (childWord grammar (firstWord grammar node + 0)))) (stateOf t))
 
 abbrev read-array-contents-μ-loop : read-array-contents-lts.MeasureT-loop
-read-array-contents-μ-loop grammar child bytes rows₀ count t₀ i₀ rows t i = count - i
+read-array-contents-μ-loop grammar node bytes rows₀ count t₀ i₀ rows t i = count - i
 
 read-array-contents-loop-holds : (t : ℕ) → read-array-contents-lts.Need-loop-holds (read-array-contents-calls t)
     (read-array-contents-at t)
@@ -226,21 +223,24 @@ read-array-contents-loop-holds : (t : ℕ) → read-array-contents-lts.Need-loop
     read-array-contents-μ-loop
 read-array-contents-loop-holds t c =
     let a = c .before .before .before .args in
-    (omega arith, remaining-start _ _ (ap (λ (n : ℕ). elements n (readVal (a .s .capacity) (a .bytes .now) (treeOf (a .grammar .now) (a .child))) (stateOf (a .s))) (sym (sub-zero (a .count)))) (c .before .before .before .pre .1 .1))
+    (omega arith, remaining-start _ _ (ap (λ (n : ℕ). elements n (readVal (a .s .capacity) (a .bytes .now) (treeOf (a .grammar .now) (childWord (a .grammar .now) (firstWord (a .grammar .now) (a .node) + 0)))) (stateOf (a .s))) (sym (sub-zero (a .count)))) (c .before .before .before .pre .1 .2))
 
-read-array-contents-read-value-requires :
-    (t : ℕ) → read-array-contents-lts.Need-read-value-requires (
-      read-value-below t,
-      read-value.Post,
-    )
+read-array-contents-child-at-requires : (t : ℕ) → read-array-contents-lts.Need-child-at-requires (read-array-contents-calls t)
+    (read-array-contents-at t)
+    read-array-contents.Post
+    read-array-contents-Inv-loop
+    read-array-contents-μ-loop
+read-array-contents-child-at-requires t c κs = let p = c .before .before .before .before .before .pre .1 in (p .0, p .1)
+
+read-array-contents-read-value-requires : (t : ℕ) → read-array-contents-lts.Need-read-value-requires (read-array-contents-calls t)
     (read-array-contents-at t)
     read-array-contents.Post
     read-array-contents-Inv-loop
     read-array-contents-μ-loop
 read-array-contents-read-value-requires t c κs =
-    let l = c .before .before .loop in
-    let p = c .before .before .before .before .before .before .pre in
-    (omega (arith, p .0, l .inv .1 .grown, l .inv .1 .capacity), (p .1 .0, l .inv .1 .ready))
+    let l = c .before .before .before .loop in
+    let p = c .before .before .before .before .before .before .before .pre in
+    (omega (arith, p .0, l .inv .1 .grown, l .inv .1 .capacity), (record { passes = p .1 .0 .passes; below = c .before .child-at .ensures .1; words = p .1 .0 .words }, l .inv .1 .ready))
 
 read-array-contents-enum-known-u : (t : ℕ) → read-array-contents-lts.Need-enum-known-u (read-array-contents-calls t)
     (read-array-contents-at t)
@@ -254,7 +254,7 @@ read-array-contents-same-length : (t : ℕ) → read-array-contents-lts.Need-sam
     read-array-contents.Post
     read-array-contents-Inv-loop
     read-array-contents-μ-loop
-read-array-contents-same-length t c = c .before .before .before .before .before .read-value .kept .1 .1 .1 .0 ∙ c .before .before .before .before .before .before .before .before .loop .inv .1 .size
+read-array-contents-same-length t c = c .before .before .before .before .before .read-value .kept .1 .1 .1 .0 ∙ c .before .before .before .before .before .before .before .before .before .loop .inv .1 .size
 
 read-array-contents-returns : (t : ℕ) → read-array-contents-lts.Need-returns (read-array-contents-calls t)
     (read-array-contents-at t)
@@ -262,12 +262,15 @@ read-array-contents-returns : (t : ℕ) → read-array-contents-lts.Need-returns
     read-array-contents-Inv-loop
     read-array-contents-μ-loop
 read-array-contents-returns t c =
-    let a = c .before .before .before .before .before .before .before .before .before .before .before .before .args in
-    let l = c .before .before .before .before .before .before .before .before .loop in
+    let a = c .before .before .before .before .before .before .before .before .before .before .before .before .before .args in
+    let l = c .before .before .before .before .before .before .before .before .before .loop in
     let g = c .before .u .given in
-    let tree = treeOf (a .grammar .now) (a .child) in
-    let k = elements (a .count - (l .i + 1)) (readVal (a .s .capacity) (a .bytes .now) tree) in
-    let e = elements-next (a .s .capacity) (a .bytes .now) tree (stateOf (l .t)) (a .count) (l .i) (c .before .before .before .before .before .before .before .loop-test .taken) in
+    let child = c .before .before .before .before .before .before .before .child-at in
+    let tree = treeOf (a .grammar .now) (child .result) in
+    let element = treeOf (a .grammar .now) (childWord (a .grammar .now) (firstWord (a .grammar .now) (a .node) + 0)) in
+    let k = elements (a .count - (l .i + 1)) (readVal (a .s .capacity) (a .bytes .now) element) in
+    let e : elements (a .count - l .i) (readVal (a .s .capacity) (a .bytes .now) element) (stateOf (l .t)) ≡ both (readVal (a .s .capacity) (a .bytes .now) tree (stateOf (l .t))) k =
+    elements-next (a .s .capacity) (a .bytes .now) element (stateOf (l .t)) (a .count) (l .i) (c .before .before .before .before .before .before .before .before .loop-test .taken) ∙ ap (λ (j : ℕ). both (readVal (a .s .capacity) (a .bytes .now) (treeOf (a .grammar .now) j) (stateOf (l .t))) k) (sym (child .ensures .0)) in
     remaining-stopped tree k e (l .inv .1) (c .before .before .before .before .before .read-value .ensures) (g .0 .0) (g .0 .1 .0) (g .1)
 
 read-array-contents-enum-known-u-2 : (t : ℕ) → read-array-contents-lts.Need-enum-known-u-2 (read-array-contents-calls t)
@@ -297,13 +300,16 @@ read-array-contents-loop-again : (t : ℕ) → read-array-contents-lts.Need-loop
     read-array-contents-Inv-loop
     read-array-contents-μ-loop
 read-array-contents-loop-again t c =
-    let a = c .before .before .before .before .before .before .before .before .before .before .before .before .args in
-    let l = c .before .before .before .before .before .before .before .before .loop in
+    let a = c .before .before .before .before .before .before .before .before .before .before .before .before .before .args in
+    let l = c .before .before .before .before .before .before .before .before .before .loop in
     let g = c .before .u2 .given in
-    let tree = treeOf (a .grammar .now) (a .child) in
-    let k = elements (a .count - (l .i + 1)) (readVal (a .s .capacity) (a .bytes .now) tree) in
-    let e = elements-next (a .s .capacity) (a .bytes .now) tree (stateOf (l .t)) (a .count) (l .i) (c .before .before .before .before .before .before .before .loop-test .taken) in
-    (omega arith, remaining-next tree k e (l .inv .1) (c .before .before .before .before .before .read-value .ensures) (g .0 .0) (g .1) (tree-valid (a .grammar .now) (c .before .before .before .before .before .before .before .before .before .before .before .before .pre .1 .0 .words) (a .child)) (c .before .before .before .before .before .read-value .kept .1 .1 .1 .0) (λ w h o. few-elements (a .s .capacity) (a .bytes .now) tree (a .count - (l .i + 1)) (stateOf (g .0 .0)) h w o))
+    let child = c .before .before .before .before .before .before .before .child-at in
+    let tree = treeOf (a .grammar .now) (child .result) in
+    let element = treeOf (a .grammar .now) (childWord (a .grammar .now) (firstWord (a .grammar .now) (a .node) + 0)) in
+    let k = elements (a .count - (l .i + 1)) (readVal (a .s .capacity) (a .bytes .now) element) in
+    let e : elements (a .count - l .i) (readVal (a .s .capacity) (a .bytes .now) element) (stateOf (l .t)) ≡ both (readVal (a .s .capacity) (a .bytes .now) tree (stateOf (l .t))) k =
+    elements-next (a .s .capacity) (a .bytes .now) element (stateOf (l .t)) (a .count) (l .i) (c .before .before .before .before .before .before .before .before .loop-test .taken) ∙ ap (λ (j : ℕ). both (readVal (a .s .capacity) (a .bytes .now) (treeOf (a .grammar .now) j) (stateOf (l .t))) k) (sym (child .ensures .0)) in
+    (omega arith, remaining-next tree k e (l .inv .1) (c .before .before .before .before .before .read-value .ensures) (g .0 .0) (g .1) (tree-valid (a .grammar .now) (c .before .before .before .before .before .before .before .before .before .before .before .before .before .pre .1 .0 .words) (child .result)) (c .before .before .before .before .before .read-value .kept .1 .1 .1 .0) (λ w h o. few-elements (a .s .capacity) (a .bytes .now) element (a .count - (l .i + 1)) (stateOf (g .0 .0)) h w o))
 
 read-array-contents-same-length-2 : (t : ℕ) → read-array-contents-lts.Need-same-length-2 (read-array-contents-calls t)
     (read-array-contents-at t)
@@ -320,7 +326,7 @@ read-array-contents-returns-2 : (t : ℕ) → read-array-contents-lts.Need-retur
 read-array-contents-returns-2 t c =
     let a = c .before .before .before .before .before .args in
     let l = c .before .loop in
-    remaining-done (l .inv .1) (elements-none (a .s .capacity) (a .bytes .now) (treeOf (a .grammar .now) (a .child)) (stateOf (l .t)) (a .count) (l .i) (c .loop-test .left))
+    remaining-done (l .inv .1) (elements-none (a .s .capacity) (a .bytes .now) (treeOf (a .grammar .now) (childWord (a .grammar .now) (firstWord (a .grammar .now) (a .node) + 0))) (stateOf (l .t)) (a .count) (l .i) (c .loop-test .left))
 
 -- a tag was taken
 tag-taken : (t : ℕ) (c : read-case-lts.After-tag (read-case-calls t) (read-case-at t) read-case.Post) → yield (c .tag .given .0 .0) (stateOf (c .tag .given .0 .1 .0)) ≡ takeBelow (c .before .before .before .before .before .before .before .args .bytes .now) (c .before .before .before .word .result) 10 (stateOf (c .before .before .before .before .before .before .before .args .s))
@@ -420,10 +426,22 @@ read-tuple-returns t c =
     arm-tuple (c .before .before .before .before .before .before .before .before .before .before .before .before .pre .1) (n .result) (n .ensures .0) (c .before .before .before .before .before .before .before .read-tuple-contents .ensures) (c .before .before .close-row .ensures .0) (c .before .before .close-row .ensures .1)
 
 abbrev read-tuple-contents-Inv-loop : read-tuple-contents-lts.InvT-loop
-read-tuple-contents-Inv-loop grammar node bytes rows₀ count t₀ i₀ rows t i = (i ≤ count) × (count ≡ countWord grammar node) × Remaining bytes rows₀ t₀ (readFields (t₀ .capacity) bytes (childTrees grammar (treeOf grammar) (firstWord grammar node) (countWord grammar node)) (stateOf t₀)) rows t (readFields (t₀ .capacity) bytes (childTrees grammar (treeOf grammar) (firstWord grammar node + i) (countWord grammar node - i)) (stateOf t))
+read-tuple-contents-Inv-loop grammar node bytes rows₀ t₀ i₀ rows t i = (i ≤ countWord grammar node) × Remaining bytes rows₀ t₀ (readFields (t₀ .capacity) bytes (childTrees grammar (treeOf grammar) (firstWord grammar node) (countWord grammar node)) (stateOf t₀)) rows t (readFields (t₀ .capacity) bytes (childTrees grammar (treeOf grammar) (firstWord grammar node + i) (countWord grammar node - i)) (stateOf t))
 
 abbrev read-tuple-contents-μ-loop : read-tuple-contents-lts.MeasureT-loop
-read-tuple-contents-μ-loop grammar node bytes rows₀ count t₀ i₀ rows t i = count - i
+read-tuple-contents-μ-loop grammar node bytes rows₀ t₀ i₀ rows t i = countWord grammar node - i
+
+read-tuple-contents-loop-holds : (t : ℕ) → read-tuple-contents-lts.Need-loop-holds (read-tuple-contents-calls t)
+    (read-tuple-contents-at t)
+    read-tuple-contents.Post
+    read-tuple-contents-Inv-loop
+    read-tuple-contents-μ-loop
+read-tuple-contents-loop-holds t c =
+    let a = c .before .before .before .args in
+    let f = firstWord (a .grammar .now) (a .node) in
+    let n = countWord (a .grammar .now) (a .node) in
+    let e : childTrees (a .grammar .now) (treeOf (a .grammar .now)) f n ≡ childTrees (a .grammar .now) (treeOf (a .grammar .now)) (f + 0) (n - 0) = rw (add-zero f, sub-zero n) in
+    (omega arith, remaining-start _ _ (ap (λ (gs : Gs). readFields (a .s .capacity) (a .bytes .now) gs (stateOf (a .s))) e) (c .before .before .before .pre .1 .1))
 
 read-tuple-contents-mul-word : (t : ℕ) → read-tuple-contents-lts.Need-mul-word (read-tuple-contents-calls t)
     (read-tuple-contents-at t)
@@ -431,7 +449,7 @@ read-tuple-contents-mul-word : (t : ℕ) → read-tuple-contents-lts.Need-mul-wo
     read-tuple-contents-Inv-loop
     read-tuple-contents-μ-loop
 read-tuple-contents-mul-word t c =
-    let h = node-inside (c .before .before .before .args .grammar .now) (c .before .before .before .args .node) (c .before .before .before .pre .1 .0) in
+    let h = node-inside (c .before .before .before .before .args .grammar .now) (c .before .before .before .before .args .node) (c .before .before .before .before .pre .1 .0) in
     omega (arith, h .0)
 
 read-tuple-contents-add-word : (t : ℕ) → read-tuple-contents-lts.Need-add-word (read-tuple-contents-calls t)
@@ -440,7 +458,7 @@ read-tuple-contents-add-word : (t : ℕ) → read-tuple-contents-lts.Need-add-wo
     read-tuple-contents-Inv-loop
     read-tuple-contents-μ-loop
 read-tuple-contents-add-word t c =
-    let h = node-inside (c .before .before .before .args .grammar .now) (c .before .before .before .args .node) (c .before .before .before .pre .1 .0) in
+    let h = node-inside (c .before .before .before .before .args .grammar .now) (c .before .before .before .before .args .node) (c .before .before .before .before .pre .1 .0) in
     omega (arith, h .0)
 
 read-tuple-contents-word-requires : (t : ℕ) → read-tuple-contents-lts.Need-word-requires (read-tuple-contents-calls t)
@@ -449,27 +467,15 @@ read-tuple-contents-word-requires : (t : ℕ) → read-tuple-contents-lts.Need-w
     read-tuple-contents-Inv-loop
     read-tuple-contents-μ-loop
 read-tuple-contents-word-requires t c κs =
-    let h = node-inside (c .before .before .before .args .grammar .now) (c .before .before .before .args .node) (c .before .before .before .pre .1 .0) in
+    let h = node-inside (c .before .before .before .before .args .grammar .now) (c .before .before .before .before .args .node) (c .before .before .before .before .pre .1 .0) in
     omega (arith, h .0)
-
-read-tuple-contents-loop-holds : (t : ℕ) → read-tuple-contents-lts.Need-loop-holds (read-tuple-contents-calls t)
-    (read-tuple-contents-at t)
-    read-tuple-contents.Post
-    read-tuple-contents-Inv-loop
-    read-tuple-contents-μ-loop
-read-tuple-contents-loop-holds t c =
-    let a = c .before .before .before .before .args in
-    let f = firstWord (a .grammar .now) (a .node) in
-    let n = countWord (a .grammar .now) (a .node) in
-    let e : childTrees (a .grammar .now) (treeOf (a .grammar .now)) f n ≡ childTrees (a .grammar .now) (treeOf (a .grammar .now)) (f + 0) (n - 0) = rw (add-zero f, sub-zero n) in
-    (omega arith, c .word .ensures .0, remaining-start _ _ (ap (λ (gs : Gs). readFields (a .s .capacity) (a .bytes .now) gs (stateOf (a .s))) e) (c .before .before .before .before .pre .1 .1))
 
 read-tuple-contents-child-at-requires : (t : ℕ) → read-tuple-contents-lts.Need-child-at-requires (read-tuple-contents-calls t)
     (read-tuple-contents-at t)
     read-tuple-contents.Post
     read-tuple-contents-Inv-loop
     read-tuple-contents-μ-loop
-read-tuple-contents-child-at-requires t c κs = (c .before .before .before .before .before .before .pre .1 .0, omega (arith, c .before .loop .inv .1))
+read-tuple-contents-child-at-requires t c κs = (c .before .before .before .before .before .before .pre .1 .0, omega (arith, c .before .word .ensures .0))
 
 read-tuple-contents-read-value-requires :
     (t : ℕ) → read-tuple-contents-lts.Need-read-value-requires (
@@ -485,10 +491,10 @@ read-tuple-contents-read-value-requires :
     read-tuple-contents-Inv-loop
     read-tuple-contents-μ-loop
 read-tuple-contents-read-value-requires t c κs =
-    let l = c .before .before .before .loop in
+    let l = c .before .before .before .before .loop in
     let p = c .before .before .before .before .before .before .before .before .pre in
     let h = c .before .child-at .ensures .1 in
-    (omega (arith, p .0, l .inv .2 .grown, l .inv .2 .capacity), (record { passes = p .1 .0 .passes; below = h; words = p .1 .0 .words }, l .inv .2 .ready))
+    (omega (arith, p .0, l .inv .1 .grown, l .inv .1 .capacity), (record { passes = p .1 .0 .passes; below = h; words = p .1 .0 .words }, l .inv .1 .ready))
 
 read-tuple-contents-enum-known-u : (t : ℕ) → read-tuple-contents-lts.Need-enum-known-u (read-tuple-contents-calls t)
     (read-tuple-contents-at t)
@@ -502,7 +508,7 @@ read-tuple-contents-same-length : (t : ℕ) → read-tuple-contents-lts.Need-sam
     read-tuple-contents.Post
     read-tuple-contents-Inv-loop
     read-tuple-contents-μ-loop
-read-tuple-contents-same-length t c = c .before .before .before .before .before .read-value .kept .1 .1 .1 .0 ∙ c .before .before .before .before .before .before .before .before .before .loop .inv .2 .size
+read-tuple-contents-same-length t c = c .before .before .before .before .before .read-value .kept .1 .1 .1 .0 ∙ c .before .before .before .before .before .before .before .before .before .before .loop .inv .1 .size
 
 read-tuple-contents-returns : (t : ℕ) → read-tuple-contents-lts.Need-returns (read-tuple-contents-calls t)
     (read-tuple-contents-at t)
@@ -511,15 +517,15 @@ read-tuple-contents-returns : (t : ℕ) → read-tuple-contents-lts.Need-returns
     read-tuple-contents-μ-loop
 read-tuple-contents-returns t c =
     let a = c .before .before .before .before .before .before .before .before .before .before .before .before .before .before .args in
-    let l = c .before .before .before .before .before .before .before .before .before .loop in
+    let l = c .before .before .before .before .before .before .before .before .before .before .loop in
     let g = c .before .u .given in
     let f = firstWord (a .grammar .now) (a .node) in
     let n = countWord (a .grammar .now) (a .node) in
     let tree = treeOf (a .grammar .now) (c .before .before .before .before .before .before .before .child-at .result) in
     let k = readFields (a .s .capacity) (a .bytes .now) (childTrees (a .grammar .now) (treeOf (a .grammar .now)) (f + (l .i + 1)) (n - (l .i + 1))) in
     let e : readFields (a .s .capacity) (a .bytes .now) (childTrees (a .grammar .now) (treeOf (a .grammar .now)) (f + l .i) (n - l .i)) (stateOf (l .t)) ≡ both (readVal (a .s .capacity) (a .bytes .now) tree (stateOf (l .t))) k =
-    fields-next (a .s .capacity) (a .bytes .now) (a .grammar .now) (stateOf (l .t)) f n (l .i) (omega (arith, l .inv .1)) ∙ ap (λ (c : ℕ). both (readVal (a .s .capacity) (a .bytes .now) (treeOf (a .grammar .now) c) (stateOf (l .t))) k) (sym (c .before .before .before .before .before .before .before .child-at .ensures .0)) in
-    remaining-stopped tree k e (l .inv .2) (c .before .before .before .before .before .read-value .ensures) (g .0 .0) (g .0 .1 .0) (g .1)
+    fields-next (a .s .capacity) (a .bytes .now) (a .grammar .now) (stateOf (l .t)) f n (l .i) (omega (arith, c .before .before .before .before .before .before .before .before .before .word .ensures .0)) ∙ ap (λ (c : ℕ). both (readVal (a .s .capacity) (a .bytes .now) (treeOf (a .grammar .now) c) (stateOf (l .t))) k) (sym (c .before .before .before .before .before .before .before .child-at .ensures .0)) in
+    remaining-stopped tree k e (l .inv .1) (c .before .before .before .before .before .read-value .ensures) (g .0 .0) (g .0 .1 .0) (g .1)
 
 read-tuple-contents-enum-known-u-2 : (t : ℕ) → read-tuple-contents-lts.Need-enum-known-u-2 (read-tuple-contents-calls t)
     (read-tuple-contents-at t)
@@ -549,22 +555,22 @@ read-tuple-contents-loop-again : (t : ℕ) → read-tuple-contents-lts.Need-loop
     read-tuple-contents-μ-loop
 read-tuple-contents-loop-again t c =
     let a = c .before .before .before .before .before .before .before .before .before .before .before .before .before .before .args in
-    let l = c .before .before .before .before .before .before .before .before .before .loop in
+    let l = c .before .before .before .before .before .before .before .before .before .before .loop in
     let g = c .before .u2 .given in
     let f = firstWord (a .grammar .now) (a .node) in
     let n = countWord (a .grammar .now) (a .node) in
     let tree = treeOf (a .grammar .now) (c .before .before .before .before .before .before .before .child-at .result) in
     let k = readFields (a .s .capacity) (a .bytes .now) (childTrees (a .grammar .now) (treeOf (a .grammar .now)) (f + (l .i + 1)) (n - (l .i + 1))) in
     let e : readFields (a .s .capacity) (a .bytes .now) (childTrees (a .grammar .now) (treeOf (a .grammar .now)) (f + l .i) (n - l .i)) (stateOf (l .t)) ≡ both (readVal (a .s .capacity) (a .bytes .now) tree (stateOf (l .t))) k =
-    fields-next (a .s .capacity) (a .bytes .now) (a .grammar .now) (stateOf (l .t)) f n (l .i) (omega (arith, l .inv .1)) ∙ ap (λ (c : ℕ). both (readVal (a .s .capacity) (a .bytes .now) (treeOf (a .grammar .now) c) (stateOf (l .t))) k) (sym (c .before .before .before .before .before .before .before .child-at .ensures .0)) in
-    (omega arith, l .inv .1, remaining-next tree k e (l .inv .2) (c .before .before .before .before .before .read-value .ensures) (g .0 .0) (g .1) (tree-valid (a .grammar .now) (c .before .before .before .before .before .before .before .before .before .before .before .before .before .before .pre .1 .0 .words) (c .before .before .before .before .before .before .before .child-at .result)) (c .before .before .before .before .before .read-value .kept .1 .1 .1 .0) (λ w h o. few-fields (a .s .capacity) (a .bytes .now) (childTrees (a .grammar .now) (treeOf (a .grammar .now)) (f + (l .i + 1)) (n - (l .i + 1))) (stateOf (g .0 .0)) h w o))
+    fields-next (a .s .capacity) (a .bytes .now) (a .grammar .now) (stateOf (l .t)) f n (l .i) (omega (arith, c .before .before .before .before .before .before .before .before .before .word .ensures .0)) ∙ ap (λ (c : ℕ). both (readVal (a .s .capacity) (a .bytes .now) (treeOf (a .grammar .now) c) (stateOf (l .t))) k) (sym (c .before .before .before .before .before .before .before .child-at .ensures .0)) in
+    (omega (arith, c .before .before .before .before .before .before .before .before .before .word .ensures .0), remaining-next tree k e (l .inv .1) (c .before .before .before .before .before .read-value .ensures) (g .0 .0) (g .1) (tree-valid (a .grammar .now) (c .before .before .before .before .before .before .before .before .before .before .before .before .before .before .pre .1 .0 .words) (c .before .before .before .before .before .before .before .child-at .result)) (c .before .before .before .before .before .read-value .kept .1 .1 .1 .0) (λ w h o. few-fields (a .s .capacity) (a .bytes .now) (childTrees (a .grammar .now) (treeOf (a .grammar .now)) (f + (l .i + 1)) (n - (l .i + 1))) (stateOf (g .0 .0)) h w o))
 
 read-tuple-contents-same-length-2 : (t : ℕ) → read-tuple-contents-lts.Need-same-length-2 (read-tuple-contents-calls t)
     (read-tuple-contents-at t)
     read-tuple-contents.Post
     read-tuple-contents-Inv-loop
     read-tuple-contents-μ-loop
-read-tuple-contents-same-length-2 t c = c .before .loop .inv .2 .size
+read-tuple-contents-same-length-2 t c = c .before .before .loop .inv .1 .size
 
 read-tuple-contents-returns-2 : (t : ℕ) → read-tuple-contents-lts.Need-returns-2 (read-tuple-contents-calls t)
     (read-tuple-contents-at t)
@@ -573,8 +579,8 @@ read-tuple-contents-returns-2 : (t : ℕ) → read-tuple-contents-lts.Need-retur
     read-tuple-contents-μ-loop
 read-tuple-contents-returns-2 t c =
     let a = c .before .before .before .before .before .before .args in
-    let l = c .before .loop in
-    remaining-done (l .inv .2) (fields-none (a .s .capacity) (a .bytes .now) (a .grammar .now) (stateOf (l .t)) (firstWord (a .grammar .now) (a .node)) (countWord (a .grammar .now) (a .node)) (l .i) (omega (arith, l .inv .1)))
+    let l = c .before .before .loop in
+    remaining-done (l .inv .1) (fields-none (a .s .capacity) (a .bytes .now) (a .grammar .now) (stateOf (l .t)) (firstWord (a .grammar .now) (a .node)) (countWord (a .grammar .now) (a .node)) (l .i) (omega (arith, c .before .word .ensures .0)))
 
 -- a row was claimed for the value, and what that says of the state behind
 claimed-row : (t : ℕ) (c : read-value-lts.After-t2 (read-value-calls t) (read-value-at t) read-value.Post) → Claimed (c .before .before .before .before .before .before .args .s) (c .t2 .given .0 .0)
@@ -753,19 +759,18 @@ pub +read-array+read-array-contents+read-case+read-tuple+read-tuple-contents+rea
     (read-array-take-below-requires t)
     (read-array-enum-known-u t)
     (read-array-enum-known-count t)
-    (read-array-child-at-requires t)
     (read-array-read-array-contents-requires t)
     (read-array-close-row-requires t)
     (read-array-returns t)
     (read-array-same-length t)
     (read-array-returns-2 t))
-    (λ t. read-array-contents-lts.spec
-    (read-value-below t, read-value.Post)
+    (λ t. read-array-contents-lts.spec (read-array-contents-calls t)
     (read-array-contents-at t)
     read-array-contents.Post
     read-array-contents-Inv-loop
     read-array-contents-μ-loop
     (read-array-contents-loop-holds t)
+    (read-array-contents-child-at-requires t)
     (read-array-contents-read-value-requires t)
     (read-array-contents-enum-known-u t)
     (read-array-contents-same-length t)
@@ -813,10 +818,10 @@ pub +read-array+read-array-contents+read-case+read-tuple+read-tuple-contents+rea
     read-tuple-contents.Post
     read-tuple-contents-Inv-loop
     read-tuple-contents-μ-loop
+    (read-tuple-contents-loop-holds t)
     (read-tuple-contents-mul-word t)
     (read-tuple-contents-add-word t)
     (read-tuple-contents-word-requires t)
-    (read-tuple-contents-loop-holds t)
     (read-tuple-contents-child-at-requires t)
     (read-tuple-contents-read-value-requires t)
     (read-tuple-contents-enum-known-u t)
