@@ -255,6 +255,10 @@ bench =
     ∷ record { source = Req10; call = sizeOfRows (4 ∷ 3 ∷ 2 ∷ 0 ∷ 15 ∷ drop 5 rowsA) 3 recordA; expected = refuses 13 (row 0) }
     ∷ record { source = Req10; call = sizeOfRows (take 14 rowsA ++ (11 ∷ [])) 3 recordA; expected = refuses 13 (row 2) }
     ∷ record { source = Req10; call = sizeOfRows (take 14 rowsA) 3 recordA; expected = refuses 12 (row 0) }
+    -- the order: row 1's size before row 2, whose kind is 11; row 2, which lies outside the store, before its own size and before row 0's
+    ∷ record { source = Req10; call = sizeOfRows (take 9 rowsA ++ (5 ∷ 11 ∷ drop 11 rowsA)) 3 recordA; expected = refuses 13 (row 1) }
+    ∷ record { source = Req10; call = sizeOfRows (take 13 rowsA ++ (13 ∷ 11 ∷ [])) 3 recordA; expected = refuses 14 (row 2) }
+    ∷ record { source = Req10; call = sizeOfRows (take 4 rowsA ++ (15 ∷ take 8 (drop 5 rowsA)) ++ (13 ∷ 10 ∷ [])) 3 recordA; expected = refuses 14 (row 2) }
     ∷ []
 
 -- every call of the list answers as expected

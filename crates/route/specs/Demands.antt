@@ -214,7 +214,7 @@ pub record ChecksAgree : Type 0 where
   pub smaller : (g d : List ℕ) (index c m : ℕ) → c ≤ m → SameOr8 (parseValOf g d index c) (parseValOf g d index m)
   pub smallerWhole : (g d : List ℕ) (c m : ℕ) → c ≤ m → SameOr8 (demarshallOf g d c) (demarshallOf g d m)
 
--- rows stand for a value, by document 01's layout, exactly where the walk accepts them, and then for the one that it gives. A walk that refuses
+-- rows stand for a value, by document 01's layout with document 02's fifth word, exactly where the walk accepts them, and then for the one that it gives. A walk that refuses
 -- all fails from right to left
 abbrev pub RowsAgree : Type 0
 RowsAgree = (t s : List ℕ) (n : ℕ) (v : Val) → Below (2 ^ 64) t → Bytes s → (walk t n s ≡ accepted v) ↔ TableOf t n s v

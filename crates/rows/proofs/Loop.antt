@@ -17,7 +17,7 @@ use Rattle.rows.specs.Size.{ofRow, ownAt, ownFrom, sumFrom}
 -- ---- sizes added up
 
 module _ (size : Kind → Row → ℕ) (t : List ℕ) where
-  pub size-join : (m i n : ℕ) → sumFrom size t i (m + n) ≡ sumFrom size t i m + sumFrom size t (i + m) n
+  size-join : (m i n : ℕ) → sumFrom size t i (m + n) ≡ sumFrom size t i m + sumFrom size t (i + m) n
   unfolding sumFrom
   size-join zero i n = rw (zero-add n, add-zero i) (omega arith)
   size-join (suc m) i n = let e : i + suc m ≡ suc i + m = omega arith in rw (suc-add, size-join m (suc i) n, e) (omega arith)
@@ -37,7 +37,7 @@ module _ (size : Kind → Row → ℕ) (t : List ℕ) where
       omega (arith, size-next i, size-join (i + 1) 0 (n - (i + 1)), ap (sumFrom size t 0) e)
 
   module _ (most : ℕ) where
-    pub size-most : (n i : ℕ) → ((j : ℕ) → i ≤ j → j < i + n → ofRow size t j ≤ most) → sumFrom size t i n ≤ most * n
+    size-most : (n i : ℕ) → ((j : ℕ) → i ≤ j → j < i + n → ofRow size t j ≤ most) → sumFrom size t i n ≤ most * n
     unfolding sumFrom
     size-most zero i h = omega arith
     size-most (suc n) i h = omega (arith, mul-suc most n, h i (omega arith) (omega arith), size-most n (suc i) (λ j a b. h j (omega arith) (omega arith)))

@@ -9,7 +9,7 @@ use native.Mathlib.Omega.{arith}
 use lib.ListN.{length, getD, take, drop, length-drop, List·getD-eq-default}
 use lib.Dec.{eqb, lit<}
 use borrow.Author.Tests.{le-leb, leb-true, lt-ltb, eq-eqb, eqb-true}
-use Rattle.refusal.specs.Outcome.{Outcome, accepted, bind, map, Reason}
+use Rattle.refusal.specs.Outcome.{Outcome, accepted, bind, Reason}
 use Rattle.refusal.proofs.Outcome.{holds, fails, post-bind, post-weaken, post-reflects, post-accepted, test-true}
 use Rattle.refusal.proofs.Tests.{and-true, reflects-leb, reflects-ltb, reflects-eqb, reflects-and}
 use Rattle.packed.specs.Packed.{Bytes, Below, packLittleEndianSeq, unpackLittleEndianSeq}
@@ -37,14 +37,14 @@ own-span (VTuple vs) place = refl
 own-span (VNumberArray k ns) place = refl
 own-span (VCase c v) place = refl
 
-own-size : (v : Val) (place : ℕ) → ownRow v place .size ≡ SizeOfV v
+own-row-size : (v : Val) (place : ℕ) → ownRow v place .size ≡ SizeOfV v
 unfolding ownRow
-own-size VConstant place = refl
-own-size (VNumber k n) place = refl
-own-size (VArray vs) place = refl
-own-size (VTuple vs) place = refl
-own-size (VNumberArray k ns) place = refl
-own-size (VCase c v) place = refl
+own-row-size VConstant place = refl
+own-row-size (VNumber k n) place = refl
+own-row-size (VArray vs) place = refl
+own-row-size (VTuple vs) place = refl
+own-row-size (VNumberArray k ns) place = refl
+own-row-size (VCase c v) place = refl
 
 module _ (t s : List ℕ) where
   pub own-row : (v : Val) (i : ℕ) → StandFor t s i v → RowOf t i v
@@ -61,7 +61,7 @@ module _ (t s : List ℕ) where
 
   -- a row says the size of its value
   pub row-size : (v : Val) (i : ℕ) → StandFor t s i v → rowAt t i .size ≡ SizeOfV v
-  row-size v i h = ap (λ (r : Row). r .size) (own-row v i h) ∙ own-size v (rowAt t i .word3)
+  row-size v i h = ap (λ (r : Row). r .size) (own-row v i h) ∙ own-row-size v (rowAt t i .word3)
 
   children-more : (parent end count i n : ℕ) (v : Val) (vs : Vals) → i < end → rowAt t i .span ≡ n → walkRow t s end i ≡ accepted v → childrenOf t s parent end count (i + n) ≡ accepted vs → childrenOf t s parent end (suc count) i ≡ accepted (vcons v vs)
   unfolding walkChildren

@@ -11,7 +11,7 @@ use Rattle.tables.specs.Row.{rowWidth, rowAt}
 use Rattle.rows.specs.Layout.{ownRow}
 use Rattle.rows.specs.Walk.{keepsRule, withinStore}
 
--- row i by itself keeps its kind's rule and has its array in the store: 13 and 14 are not given
+-- row i by itself keeps its kind's rule and has its array in the store: neither 13 of its own words nor 14 is given
 pub record RowHolds (t s : List ℕ) (i : ℕ) : Type 0 where
   pub rule : keepsRule (kindOf (rowAt t i .kind)) (rowAt t i) ≡ true
   pub within : withinStore (kindOf (rowAt t i .kind)) (rowAt t i) (length s) ≡ true

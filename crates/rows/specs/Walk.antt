@@ -1,4 +1,5 @@
--- The walk over a row table: the value that the rows stand for, or the first refusal in document 01's order. Defined on every input.
+-- The walk over a row table: the value that the rows stand for, or the first refusal in document 01's order, with
+-- document 02's test of a row's size behind its children. Defined on every input.
 use Prim.Native.Nat.{ℕ, zero, suc, _+_, _-_, _*_, _^_}
 use mathlib.Core.Bool.{Bool, true, false, _&&_}
 use mathlib.Core.List.{List}

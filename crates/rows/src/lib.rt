@@ -1,7 +1,7 @@
 // Value rows: the walk over a row table, the size of the value that its rows stand for, and where an array lies in the store.
 ghost use mathlib.Core.Path.{_≡_};
 ghost use mathlib.Core.Bool.{_&&_, _||_};
-ghost use Prim.Native.Nat.{ℕ, _+_, _*_, _≤_, _<_};
+ghost use Prim.Native.Nat.{_+_, _*_, _≤_, _<_};
 ghost use lib.ListN.{length};
 ghost use lib.Dec.{leb, ltb, eqb};
 ghost use Rattle.refusal.specs.Outcome.{accepted, refused, test, map, reason, row as atRow};
@@ -156,8 +156,8 @@ fn size_holds(rows: &[u64], row: usize, count: u64) -> bool
 }
 
 // The children that a row wants, from row `first` on, which are to fill the rows up to `end`. A child is called for where it is a
-// parent itself: calls nest once for each level, of which 4,096 rows have 4,096 at most. Its span is read beside its other words,
-// so that one test finds them all.
+// parent itself: calls nest once for each level, of which 4,096 rows have 4,096 at most. Behind its own children its size is compared,
+// before the next child is looked at. Its span is read beside its other words, so that one test finds them all.
 fn check_children(
     rows: &[u64],
     store: &[u8],

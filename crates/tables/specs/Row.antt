@@ -1,4 +1,4 @@
--- The value row of document 01: which word is which.
+-- The value row of document 01, with the fifth word of document 02: which word is which.
 use Prim.Native.Nat.{ℕ, _+_, _*_}
 use mathlib.Core.List.{List, [], _∷_}
 use lib.ListN.{getD}

@@ -27,7 +27,7 @@ recordA = 7 ∷ 0 ∷ 0 ∷ 0 ∷ 2 ∷ 0 ∷ 0 ∷ 0 ∷ 0 ∷ 0 ∷ 0 ∷ 0 �
 abbrev inputA : ℕ → ℕ → List ℕ
 inputA words size = packLittleEndian 4 words ++ (packLittleEndianSeq 4 grammarA ++ (packLittleEndian 4 size ++ take size recordA))
 
--- as document 01 prints them; without its last byte `refused 9 byte 4`, and with a word count of 14 `refused 19 byte 74`
+-- as document 01 prints them, with request 10's size last; without its last byte `refused 9 byte 4`, and with a word count of 14 `refused 19 byte 74`
 pub texts : map (λ input. shown (readInput input)) (inputA 13 14 ∷ inputA 13 13 ∷ inputA 14 14 ∷ []) ≡
     (114 ∷ 111 ∷ 119 ∷ 115 ∷ 32 ∷ 51 ∷ 10 ∷ 52 ∷ 32 ∷ 51 ∷ 32 ∷ 50 ∷ 32 ∷ 48 ∷ 32 ∷ 49 ∷ 52 ∷ 10 ∷ 49 ∷ 32 ∷ 49 ∷ 32 ∷ 55 ∷ 32 ∷ 48 ∷ 32 ∷ 52 ∷ 10 ∷ 53 ∷ 32 ∷ 49 ∷ 32 ∷ 50 ∷ 32 ∷ 49 ∷ 50 ∷ 32 ∷ 49 ∷ 48 ∷ 10 ∷ [])
     ∷ (114 ∷ 101 ∷ 102 ∷ 117 ∷ 115 ∷ 101 ∷ 100 ∷ 32 ∷ 57 ∷ 32 ∷ 98 ∷ 121 ∷ 116 ∷ 101 ∷ 32 ∷ 52 ∷ 10 ∷ [])

@@ -1,9 +1,6 @@
 use mathlib.Core.Path.{sym, ap, _∙_}
-use mathlib.Core.List.{[], _∷_}
-use Prim.Native.Nat.{ℕ}
 use Rattle.value.specs.Tree.{VNumber, SizeOfV, rowCount}
 use Rattle.value.specs.Step.{give}
-use Rattle.tables.specs.Row.{laid}
 use Rattle.rows.specs.Layout.{ownRow, rowsOf}
 use Rattle.readers.specs.declared.Taken.{Taken}
 use Rattle.readers.specs.Meaning.{takenOf}

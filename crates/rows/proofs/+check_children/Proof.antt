@@ -9,7 +9,6 @@ use lib.Dec.{eqb}
 use borrow.Author.Tests.{not-true, not-false}
 use Rattle.refusal.specs.Outcome.{Outcome, accepted, refused, test, Reason, reason, row}
 use Rattle.refusal.proofs.Meaning.{done, stopped}
-use Rattle.refusal.specs.Meaning.{outcomeOf}
 use Rattle.packed.specs.Packed.{Bytes, Below}
 use Rattle.value.specs.Kinds.{kindOf}
 use Rattle.value.specs.Tree.{Vals}
