@@ -433,6 +433,21 @@ fn from_an_index(list: &mut List) {
     }
 }
 
+/// Values in one another whose sizes need more than 8 and more than 16 bits, from an index on.
+fn great_sizes(list: &mut List) {
+    for (kind, width) in [(5, 1), (6, 4), (7, 8)] {
+        let nodes = [[4, 0, 1], [3, 1, 1], [8, 2, 1], [kind, 0, 0]];
+        let grammar = table(&nodes, &[1, 2, 3]);
+        for bytes in [304, 70_000] {
+            let array = counted(bytes / width, &vec![0x5a; bytes as usize]);
+            let value = counted(1, &counted(0, &array));
+            let record = [&[0xff; 3], &value[..], &[0xff; 2]].concat();
+            let name = format!("{bytes} bytes of kind {kind} in a case in an array in a tuple");
+            list.add(&name, parse_val(&grammar, &record, 3, 4 * ROW_WORDS + 1));
+        }
+    }
+}
+
 /// Words that are no multiple of 5, and words behind the rows.
 fn words_lent(list: &mut List) {
     let (a, record) = (numbers::<u32>(A), hex(A_RECORD));
@@ -728,6 +743,7 @@ pub fn reading() -> Cases {
     whole(&mut list, &WHOLE);
     whole(&mut list, &ORDER);
     from_an_index(&mut list);
+    great_sizes(&mut list);
     words_lent(&mut list);
     indices(&mut list);
     before_the_values(&mut list);

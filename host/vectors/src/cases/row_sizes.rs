@@ -5,6 +5,7 @@ use std::collections::BTreeSet;
 use compare::Value;
 
 use super::borders;
+use super::long::fields_of_each_kind;
 use super::rows::{locate, size};
 use super::signed::signed_number;
 use super::sized::{sized, Bare, SIZE};
@@ -79,6 +80,43 @@ const NESTED: [(&str, &str); 19] = [
     ("a tuple without the size of its last field", "4 3 2 0 4, 1 1 7 0 4, 2 1 7 0 8"),
 ];
 
+/// Rows, with a store of 16 bytes 5A: the sizes of the XDR, sizes with padding, and wrong sizes of
+/// cases with great tags.
+#[rustfmt::skip]
+const OTHER_RULES: [(&str, &str); 31] = [
+    ("the size of the XDR of a byte", "5 1 1 0 8"),
+    ("the size of the XDR of a uint32 element", "6 1 1 0 8"),
+    ("the size of the XDR of a uint64 element", "7 1 1 0 12"),
+    ("the size of the XDR of a uint32 element, and that of its tuple", "4 2 1 0 8, 6 1 1 0 8"),
+    ("the size of the XDR of a uint64 element, and that of its tuple", "4 2 1 0 12, 7 1 1 0 12"),
+    ("the size of the XDR of a uint32 element, and that of its case", "8 2 0 0 12, 6 1 1 0 8"),
+    ("the size of the XDR of a uint64 element, and that of its array", "3 2 1 0 16, 7 1 1 0 12"),
+    ("the size of the XDR of a tuple of a uint32 element", "4 2 1 0 8, 6 1 1 0 12"),
+    ("the size of the XDR of a tuple of a uint64 element", "4 2 1 0 12, 7 1 1 0 16"),
+    ("the size of the XDR of a case of a uint32 element", "8 2 0 0 12, 6 1 1 0 12"),
+    ("the size of the XDR of an array of a uint64 element", "3 2 1 0 16, 7 1 1 0 16"),
+    ("1 byte and its padding", "5 1 1 0 12"),
+    ("2 bytes and their padding", "5 1 2 0 12"),
+    ("3 bytes and their padding", "5 1 3 0 12"),
+    ("5 bytes and their padding", "5 1 5 0 16"),
+    ("1 byte up to a multiple of 8", "5 1 1 0 16"),
+    ("an array of 1 byte and its padding", "3 2 1 0 20, 5 1 1 0 9"),
+    ("a tuple of 1 byte and its padding", "4 2 1 0 12, 5 1 1 0 9"),
+    ("a case of 1 byte and its padding", "8 2 0 0 20, 5 1 1 0 9"),
+    ("an array of 1 byte and its padding, counted in both", "3 2 1 0 20, 5 1 1 0 12"),
+    ("a tuple of 1 byte and its padding, counted in both", "4 2 1 0 12, 5 1 1 0 12"),
+    ("a case of 1 byte and its padding, counted in both", "8 2 0 0 20, 5 1 1 0 12"),
+    ("two byte arrays and the padding of each", "4 3 2 0 24, 5 1 1 0 9, 5 1 2 0 10"),
+    ("two byte arrays up to a multiple of 4", "4 3 2 0 20, 5 1 1 0 9, 5 1 2 0 10"),
+    ("two byte arrays up to a multiple of 4 in an array", "3 3 2 0 28, 5 1 1 0 9, 5 1 2 0 10"),
+    ("tag 1,024, the size one more", "8 2 1024 0 9, 0 1 0 0 0"),
+    ("tag 1,024, the size one less", "8 2 1024 0 7, 0 1 0 0 0"),
+    ("tag 1,024 in a tuple, the size one more", "4 3 1 0 13, 8 2 1024 0 13, 1 1 7 0 4"),
+    ("tag 65,536, the size one more", "8 2 65536 0 13, 1 1 7 0 4"),
+    ("tag 2^32, the size one more", "8 2 4294967296 0 13, 1 1 7 0 4"),
+    ("tag 2^64-1, the size one more", "8 2 18446744073709551615 0 9, 0 1 0 0 0"),
+];
+
 /// Rows for the grammar and the record of example A.
 fn of_a(rows: &str, n: usize) -> Value {
     Value {
@@ -126,6 +164,77 @@ fn each_kind(list: &mut List) {
             add_size(list, &format!("{name}, in a tuple"), &rows, n + 2);
         }
     }
+}
+
+/// Wrong sizes of arrays without elements and of the tuple without fields, of the root and of a field;
+/// the tuple around it agrees with it.
+fn empty(list: &mut List) {
+    for kind in 3..=7 {
+        let right = sized(&[[kind, 1, 0, 0]])[SIZE];
+        for wrong in BTreeSet::from([right.wrapping_sub(1), right + 1, 0, 4])
+            .into_iter()
+            .filter(|&size| size != right)
+        {
+            let name = format!("kind {kind} with count 0, of size {right}, given as {wrong}");
+            let row = [kind, 1, 0, 0, wrong];
+            add_size(list, &name, &row, 1);
+            let rows = [&[4, 2, 1, 0, wrong], &row[..]].concat();
+            add_size(list, &format!("{name}, in a tuple"), &rows, 2);
+        }
+    }
+}
+
+/// Wrong sizes near right ones that are above 1,048,576.
+fn great(list: &mut List) {
+    let store = vec![0x5a; MAX_BYTES];
+    let mut add = |name: &str, mut rows: Vec<u64>| {
+        let (right, n) = (rows[SIZE], rows.len() / ROW_WORDS);
+        for wrong in [right - 1, right + 1] {
+            rows[SIZE] = wrong;
+            let name = format!("{name} of size {right}, given as {wrong}");
+            list.add(&name, size(&rows, n, &store));
+        }
+    };
+    let most = MAX_BYTES as u64;
+    for (kind, width) in [(5, 1), (6, 4), (7, 8)] {
+        let row = [kind, 1, most / width, 0];
+        add(&format!("kind {kind}"), sized(&[row]));
+    }
+    for kind in [3, 4, 8] {
+        let rows = [[kind, 2, 1, 0], [5, 1, most, 0]];
+        add(&format!("kind {kind}"), sized(&rows));
+    }
+    let mut arrays = vec![[3, 4_096, 4_095, 0]];
+    arrays.resize(4_096, [5, 1, most, 0]);
+    add("4,095 byte arrays", sized(&arrays));
+}
+
+/// A tuple with a field of each kind: of one row of each kind the size is one more.
+fn of_each_kind() -> Vec<(String, Value)> {
+    let sound = fields_of_each_kind();
+    let one_more = |row: usize| {
+        let mut value = sound.clone();
+        value.rows[ROW_WORDS * row + SIZE] += 1;
+        let kind = value.rows[ROW_WORDS * row];
+        let name = format!("fields of each kind, the size of kind {kind} in row {row}");
+        (name, value)
+    };
+    let rows = [1, 2, 3, 4, 7, 9, 10, 11, 14, 15, 16];
+    rows.map(one_more).to_vec()
+}
+
+/// The same tuple: of one row of each kind whose XDR is shorter the size is that of the XDR.
+fn of_each_xdr() -> Vec<(String, Value)> {
+    let sound = fields_of_each_kind();
+    let listed = [(1, 16), (2, 28), (3, 16), (4, 12), (7, 8)];
+    let of_xdr = |(row, size): (usize, u64)| {
+        let mut value = sound.clone();
+        value.rows[ROW_WORDS * row + SIZE] = size;
+        let kind = value.rows[ROW_WORDS * row];
+        let name = format!("fields of each kind, the XDR's size of kind {kind} in row {row}");
+        (name, value)
+    };
+    listed.map(of_xdr).to_vec()
 }
 
 /// Each size of a nested value, and each two.
@@ -194,7 +303,7 @@ pub(super) fn great_arrays() -> [(&'static str, Value); 3] {
 
 /// The sizes of other rows than example A's: nested values, rows without sizes, and great values.
 fn sizes(list: &mut List) {
-    for (name, rows) in NESTED {
+    for (name, rows) in NESTED.into_iter().chain(OTHER_RULES) {
         let rows: Vec<u64> = numbers(rows);
         add_size(list, name, &rows, rows.len() / ROW_WORDS);
     }
@@ -214,7 +323,8 @@ fn sizes(list: &mut List) {
     }
 }
 
-/// The locator, of a row whose size is wrong and of others.
+/// The locator, of a row whose size is wrong and of others; and, with the size call, fields of each
+/// kind.
 fn located(list: &mut List) {
     let sound = sized(&[[4, 3, 2, 0], [5, 1, 2, 0], [1, 1, 7, 0]]);
     for (name, wrong, row) in [
@@ -226,6 +336,10 @@ fn located(list: &mut List) {
         let mut rows = sound.clone();
         rows[ROW_WORDS * wrong + SIZE] += 1;
         list.add(name, locate(&rows, 3, &[0x5a; 2], row));
+    }
+    for (name, Value { rows, n, store, .. }) in of_each_kind() {
+        list.add(&name, size(&rows, n, &store));
+        list.add(&name, locate(&rows, n, &store, 1));
     }
 }
 
@@ -240,6 +354,8 @@ pub fn rows() -> Cases {
     sizes(&mut list);
     located(&mut list);
     each_kind(&mut list);
+    empty(&mut list);
+    great(&mut list);
     each_row(&mut list);
     far_rows(&mut list);
     list.0
@@ -276,6 +392,9 @@ pub fn signed() -> Cases {
         let n = rows.len() / ROW_WORDS;
         list.add(name, signed_number(&rows, n, 0, row));
     }
+    for (name, Value { rows, n, store, .. }) in of_each_kind() {
+        list.add(&name, signed_number(&rows, n, store.len(), 10));
+    }
     list.0
 }
 
@@ -296,6 +415,11 @@ pub fn writing() -> Cases {
         ("13 of a size before 16", "5 1 1048569 0 1048576", 1_048_569),
         ("13 of a size that says 16", "5 1 2 0 1048577", 2),
         (
+            "13 of a size that says 16, of a value that is so long",
+            "5 1 1048576 0 1048585",
+            1_048_576,
+        ),
+        (
             "16 of a size that is right",
             "5 1 1048573 0 1048581",
             1_048_573,
@@ -306,6 +430,13 @@ pub fn writing() -> Cases {
     }
     for (name, arrays) in great_arrays() {
         list.add(name, marshall(&arrays, MAX_BYTES + 20_000));
+    }
+    for (name, fields) in of_each_kind() {
+        list.add(&name, marshall(&fields, 131));
+        list.add(&name, marshall_val(&fields, 140, 3));
+    }
+    for (name, fields) in of_each_xdr() {
+        list.add(&name, marshall_val(&fields, 140, 3));
     }
     list.0
 }

@@ -4,10 +4,10 @@ use compare::show_input;
 
 use super::magnitudes;
 use super::{counted, hex, numbers};
-use super::{A, A_RECORD, B, BYT, C, D, E, I32, I64, KIND_11, MIX, MIX_RECORD, U64};
+use super::{A, ARR, A_RECORD, B, BYT, C, D, E, I32, I64, KIND_11, MIX, MIX_RECORD, TUP0, U64};
 
 /// Name, grammar and record of inputs that are laid out as wanted.
-const LAID_OUT: [(&str, &str, &str); 25] = [
+const LAID_OUT: [(&str, &str, &str); 29] = [
     ("example A", A, A_RECORD),
     (
         "example A without its last byte",
@@ -37,6 +37,14 @@ const LAID_OUT: [(&str, &str, &str); 25] = [
     ("example I, int32, 3 bytes", I32, "FFFFFF"),
     ("example I, int64 -1", I64, "FFFFFFFFFFFFFFFF"),
     ("first of an int32", "1, 9 1 0, 1, 5", ""),
+    ("array without elements", ARR, "0000000000000000"),
+    ("byte array without elements", BYT, "0000000000000000"),
+    ("tuple without fields", TUP0, ""),
+    (
+        "fields without elements and fields",
+        "4, 4 0 3, 3 3 1, 5 0 0, 4 0 0, 4, 1 2 3 3",
+        "0000000000000000 0000000000000000",
+    ),
 ];
 
 /// Inputs in hexadecimal.

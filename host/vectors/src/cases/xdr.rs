@@ -29,6 +29,8 @@ pub(super) const BYTE_ARRAYS: &str = "2, 3 0 1, 5 0 0, 1, 1";
 /// A tuple of two byte arrays, and of three.
 const BYT2: &str = "2, 4 0 2, 5 0 0, 2, 1 1";
 const BYT3: &str = "2, 4 0 3, 5 0 0, 3, 1 1 1";
+/// A union of one case, a byte array.
+const BYTE_CASE: &str = "2, 8 0 1, 5 0 0, 1, 1";
 /// A union of one case, a constant.
 const UNI1: &str = "2, 8 0 1, 0 0 0, 1, 1";
 
@@ -344,8 +346,33 @@ const IMPORTED: [(&str, &str, &str, usize, usize); 29] = [
     ),
 ];
 
-/// Adds each of them with just enough rows and store; with a row and a byte more; with a row, a word
-/// and a byte less, and without its last byte, and with one more.
+/// Accepted imports of byte arrays with padding in cases: name, grammar, XDR, rows and bytes of a store
+/// needed.
+#[rustfmt::skip]
+const PADDED_CASES: [(&str, &str, &str, usize, usize); 8] = [
+    ("case of 1 byte", BYTE_CASE, "00000000 00000001 41000000", 2, 1),
+    ("case of 2 bytes", BYTE_CASE, "00000000 00000002 41420000", 2, 2),
+    ("case of 3 bytes", BYTE_CASE, "00000000 00000003 41424300", 2, 3),
+    ("array of a case of 1 byte", "3, 3 0 1, 8 1 1, 5 0 0, 2, 1 2",
+        "00000001 00000000 00000001 41000000", 3, 1),
+    ("array of cases of 1 and of 2 bytes", "3, 3 0 1, 8 1 1, 5 0 0, 2, 1 2",
+        "00000002 00000000 00000001 41000000 00000000 00000002 42430000", 5, 3),
+    ("tuple of a case of 1 byte and a uint32", "4, 4 0 2, 8 2 1, 5 0 0, 1 0 0, 3, 1 3 2",
+        "00000000 00000001 41000000 00000007", 4, 1),
+    ("case of an array of 1 byte", "3, 8 0 1, 3 1 1, 5 0 0, 2, 1 2",
+        "00000000 00000001 00000001 41000000", 3, 1),
+    ("case of a tuple of 1 byte", "3, 8 0 1, 4 1 1, 5 0 0, 2, 1 2",
+        "00000000 00000001 41000000", 3, 1),
+];
+
+fn padded_cases(list: &mut List) {
+    for (name, grammar, record, rows, store) in PADDED_CASES {
+        import_text(list, name, grammar, record, rows, store);
+    }
+}
+
+/// Adds each of `IMPORTED` with just enough rows and store; with a row and a byte more; with a row, a
+/// word and a byte less, and without its last byte, and with one more.
 fn imported(list: &mut List) {
     for (name, grammar, record, rows, store) in IMPORTED {
         import_text(list, name, grammar, record, rows, store);
@@ -525,7 +552,7 @@ const REFUSED: [(&str, &str, &str, usize, usize); 51] = [
     ("10 before 8 of the case value", UNI1, "00000001", 1, 0),
     (
         "10 before 17",
-        "2, 8 0 1, 5 0 0, 1, 1",
+        BYTE_CASE,
         "00000001 00000001 61000000",
         2,
         0,
@@ -625,7 +652,7 @@ const REFUSED: [(&str, &str, &str, usize, usize); 51] = [
     ("10 before 9 of the case value", UNI, "00000002", 2, 0),
     (
         "10 before 23 of the case value",
-        "2, 8 0 1, 5 0 0, 1, 1",
+        BYTE_CASE,
         "00000001 00000001 61000001",
         2,
         1,
@@ -821,6 +848,12 @@ fn rows_imported(list: &mut List) {
         let record = count.to_be_bytes();
         import_words(list, &name, &numbers::<u32>(C), &record, words, 0);
     }
+    for more in [0, 5, 15] {
+        let words = 65_536 + more;
+        let name = format!("example T, {words} words");
+        let (t, xdr) = (numbers::<u32>(T), hex(T_XDR));
+        import_words(list, &name, &t, &xdr, words, 8);
+    }
     let grammar = numbers::<u32>(BYTE_ARRAYS);
     let empty = [&4_095u32.to_be_bytes()[..], &vec![0; 4 * 4_095]].concat();
     import(
@@ -884,6 +917,35 @@ fn great_sizes(list: &mut List) {
         let value = borders::value(grammar, &rows, &vec![0x5a; 70_000]);
         let name = format!("kind {kind} of a byte array of 70,000 bytes");
         import(list, &name, &value.grammar, &xdr(&value), 2, 70_000);
+    }
+    for (kind, element, width) in [(3, 5, 1), (4, 5, 1), (8, 5, 1), (4, 6, 4), (8, 7, 8)] {
+        let bytes = MAX_BYTES - if kind == 4 { 4 } else { 8 };
+        let bytes = bytes / width * width;
+        let grammar = table(&[[kind, 0, 1], [element, 0, 0]], &[1]);
+        let array = [element.into(), 1, (bytes / width) as u64, 0];
+        let rows = [[kind.into(), 2, u64::from(kind != 8), 0], array];
+        let value = borders::value(grammar, &rows, &vec![0x5a; bytes]);
+        let name = format!("kind {kind} of kind {element} of {bytes} bytes");
+        import(list, &name, &value.grammar, &xdr(&value), 2, bytes);
+    }
+    for (outer, inner) in [(4, 8), (8, 4)] {
+        let nodes = [[outer, 0, 1], [inner, 1, 1], [3, 2, 1], [5, 0, 0]];
+        let head = |kind: u32, span| [kind.into(), span, u64::from(kind == 4), 0];
+        let count = 1_032_188;
+        let mut rows = vec![head(outer, 4_096), head(inner, 4_095), [3, 4_094, 4_093, 0]];
+        rows.resize(4_095, [5, 1, 0, 0]);
+        rows.push([5, 1, count, 0]);
+        let store = vec![0x5a; count as usize];
+        let value = borders::value(table(&nodes, &[1, 2, 3]), &rows, &store);
+        let name = format!("kind {outer} of kind {inner} of 4,093 byte arrays");
+        import(
+            list,
+            &name,
+            &value.grammar,
+            &xdr(&value),
+            4_096,
+            store.len(),
+        );
     }
 }
 
@@ -1118,6 +1180,7 @@ pub fn xdr_calls() -> Cases {
     sizes_exported(&mut list);
     of_writings(&mut list);
     imported(&mut list);
+    padded_cases(&mut list);
     padding_imported(&mut list);
     refused(&mut list);
     long_slices(&mut list);
