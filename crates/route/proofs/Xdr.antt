@@ -159,6 +159,7 @@ brought {g} {d} {rows} {store} {rows₁} {store₁} h k e =
         used = j;
         walked = ap (λ (z : ℕ). walk rows₁ z store₁) i ∙ walk-back rows store rows₁ store₁ v (x .ofGrammar) (c .0) (c .1) (x .store) (h .lent) (y .3) (y .4);
         layout = ap (λ (z : ℕ). take z rows₁) n ∙ filled-front rows (rowsIn v 0) rows₁ (rowWidth * rowCount v) lr (c .1) (y .3);
+        most = omega (arith, sizes v .near, ap length (x .bytes), h .short, c .0);
         arrays = ap (λ (z : ℕ). take z store₁) j ∙ filled-front store (storeOf v) store₁ (length (storeOf v)) refl (x .store) (y .4);
         rowsKept = ap (λ (z : ℕ). drop z rows₁) n ∙ filled-kept rows (rowsIn v 0) rows₁ (rowWidth * rowCount v) lr (c .1) (y .3) ∙ ap (λ (z : ℕ). drop z rows) (sym n);
         storeKept = ap (λ (z : ℕ). drop z store₁) j ∙ filled-kept store (storeOf v) store₁ (length (storeOf v)) refl (x .store) (y .4) ∙ ap (λ (z : ℕ). drop z store) (sym j);

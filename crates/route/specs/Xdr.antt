@@ -90,6 +90,8 @@ pub record Brought (g d rows store : List ℕ) (k : Counts) (rows₁ store₁ : 
   pub walked : walk rows₁ (k .rows) store₁ ≡ accepted v
   -- "fills lent rows and a lent store, whose only changed bytes are the arrays', packed from place 0 one behind the other"
   pub layout : take (rowWidth * k .rows) rows₁ ≡ rowsIn v 0
+  -- so the sizes in the rows are the record's: of 4 bytes a row more than the XDR's at most, and a value may be too long to be written
+  pub most : SizeOfV v ≤ 1064960
   pub arrays : take (k .used) store₁ ≡ storeOf v
   pub rowsKept : drop (rowWidth * k .rows) rows₁ ≡ drop (rowWidth * k .rows) rows
   pub storeKept : drop (k .used) store₁ ≡ drop (k .used) store

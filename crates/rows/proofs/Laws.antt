@@ -14,7 +14,7 @@ use Rattle.refusal.proofs.Outcome.{Post, holds, fails, post-bind, post-reflects
 use Rattle.refusal.proofs.Tests.{and-true, NoneBelow, reflects-leb, reflects-ltb, reflects-eqb, reflects-and}
 use Rattle.value.specs.Kinds.{Number, width, Kind, lastKind, kindOf, number, other}
 use Rattle.value.proofs.KindLaws.{none-of}
-use Rattle.value.specs.Tree.{Val, Vals, vnil, vcons}
+use Rattle.value.specs.Tree.{Val, Vals, vnil, vcons, SizeOfV}
 use Rattle.tables.specs.Row.{rowWidth, Row, rowAt}
 use Rattle.rows.specs.Walk.{keepsRule, withinStore, childCount, rowValue, checkRow, walkChildren, checkSizeWord, walkTo, walkRow, countHolds, walk}
 
@@ -108,6 +108,11 @@ module _ (t s : List ℕ) where
   children-same f g parent end zero i h = refl
   children-same f g parent end (suc count) i h =
       test-same (ltb i end) _ _ _ (λ l. rw (h i (omega arith) (ltb-true i end l), children-same f g parent end count (i + rowAt t i .span) (λ j a b. h j (omega arith) b)))
+
+  -- a row that says its value's size
+  pub size-right : (r : Row) (i : ℕ) (v : Val) → r .size ≡ SizeOfV v → checkSizeWord r i v ≡ accepted v
+  unfolding checkSizeWord
+  size-right r i v z = test-true _ _ (eq-eqb (r .size) (SizeOfV v) z)
 
   -- what the values of row i's children make of it
   abbrev made : ℕ → Outcome Reason Vals → Outcome Reason Val

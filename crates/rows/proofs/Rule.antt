@@ -24,7 +24,7 @@ use Rattle.rows.specs.Layout.{ownRow}
 use Rattle.rows.specs.Walk.{keepsRule, withinStore, childCount, rowValue, checkRow, walkChildren, checkSizeWord, walkTo, walkRow, walk}
 use Rattle.rows.specs.Rule.{RowOf, StandFor, StandForAll, TableOf}
 use Rattle.rows.specs.Size.{childSizes}
-use Rattle.rows.proofs.Laws.{Gives, gives-map, row-eq, Passed, row-post, childrenOf, children-none, walk-row, reflects-rows}
+use Rattle.rows.proofs.Laws.{Gives, gives-map, row-eq, Passed, row-post, childrenOf, children-none, size-right, walk-row, reflects-rows}
 
 -- ---- from the rows to the walk
 
@@ -73,11 +73,11 @@ module _ (t s : List ℕ) where
 
   -- a row that passes by itself, is of class c and says its value's size, and its children
   passes : (i end : ℕ) {r : Row} {c : Kind} {vs : Vals} → rowAt t i ≡ r → kindOf (r .kind) ≡ c → 1 ≤ r .span → i + r .span ≤ end → keepsRule c r ≡ true → withinStore c r (length s) ≡ true → childrenOf t s i (i + r .span) (childCount c r) (suc i) ≡ accepted vs → r .size ≡ SizeOfV (rowValue c r s vs) → walkRow t s end i ≡ accepted (rowValue c r s vs)
-  unfolding checkRow checkSizeWord
+  unfolding checkRow
   passes i end {r} {c} {vs} e k m h p w d z =
       let l : rowAt t i .span ≡ r .span = ap (λ (x : Row). x .span) e in
       walk-row t s end i (omega arith) ∙ ap (λ (x : Row). step x end i) e
-      ∙ rw (k, le-leb 1 (r .span) m, le-leb (i + r .span) end h, p, w, d, eq-eqb (r .size) (SizeOfV (rowValue c r s vs)) z)
+      ∙ rw (k, le-leb 1 (r .span) m, le-leb (i + r .span) end h, p, w, d) (size-right t s r i (rowValue c r s vs) z)
 
   mutual
     unfolding StandFor ownRow rowValue rowCount TypedVal kindOf kinds

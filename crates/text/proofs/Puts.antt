@@ -43,6 +43,9 @@ room-less m n l h = record { room = omega (arith, h .room) }
 pub puts-more : {bs : List ℕ} {m index next : ℕ} {out exit : List ℕ} (n : ℕ) → length bs ≤ n → Puts bs m index next out exit → Puts bs n index next out exit
 puts-more n l p = record { behind = p .behind; output = p .output; within = l }
 
+pub puts-same : {bs cs : List ℕ} {most index next : ℕ} {out exit : List ℕ} → bs ≡ cs → Puts bs most index next out exit → Puts cs most index next out exit
+puts-same e p = rw (← e) p
+
 pub puts-length : {bs : List ℕ} {most index next : ℕ} {out exit : List ℕ} → RoomFor most index out → Puts bs most index next out exit → length exit ≡ length out
 puts-length {bs} {most} {index} {next} {out} h p = ap length (p .output) ∙ length-put out index bs (omega (arith, h .room, p .within))
 

@@ -1,6 +1,5 @@
-use mathlib.Core.Path.{sym}
-use Rattle.text.specs.Text.{line}
-use Rattle.text.proofs.Puts.{room-first, room-then, puts-then}
+use Rattle.text.proofs.Puts.{room-first, room-then, puts-same, puts-then}
+use Rattle.text.proofs.Lines.{line-of}
 use borrow.Author.Needs.{needs}
 use Rattle.text.proofs.put_line.Statement.{statement}
 use Rattle.text.proofs.put_line.Tie as tie
@@ -39,7 +38,6 @@ same-length : tie.Need-same-length
 same-length c = search needs
 
 returns : tie.Need-returns
-unfolding line
 returns c =
     let h1 = c .before .before .before .before .before .before .before .before .before .before .before .before .before .before .before .before .before .before .before .before .before .before .before .before .before .before .before .pre in
     let p1 = c .before .before .before .before .before .before .before .before .before .before .before .before .before .before .before .before .before .before .before .before .before .before .put-number .ensures in
@@ -47,7 +45,8 @@ returns c =
     let p3 = c .before .before .before .before .before .before .before .before .before .before .before .before .put-number3 .ensures in
     let h2 = room-then 21 84 h1 p1 in
     let h3 = room-then 21 63 h2 p2 in
-    rw (sym (c .before .before .before .before .before .before .before .before .before .before .before .before .before .before .before .before .before .before .before .before .before .before .before .before .kind-at .ensures), sym (c .before .before .before .before .before .before .before .before .before .before .before .before .before .before .before .before .before .before .before .span-at .ensures), sym (c .before .before .before .before .before .before .before .before .before .before .before .before .before .before .word2-at .ensures), sym (c .before .before .before .before .before .before .before .before .before .word3-at .ensures), sym (c .before .before .before .before .size-at .ensures))
+    let e = line-of (c .before .before .before .before .before .before .before .before .before .before .before .before .before .before .before .before .before .before .before .before .before .before .before .before .kind-at .ensures) (c .before .before .before .before .before .before .before .before .before .before .before .before .before .before .before .before .before .before .before .span-at .ensures) (c .before .before .before .before .before .before .before .before .before .before .before .before .before .before .word2-at .ensures) (c .before .before .before .before .before .before .before .before .before .word3-at .ensures) (c .before .before .before .before .size-at .ensures) in
+    puts-same e
     (puts-then 21 84 h1 p1 (puts-then 21 63 h2 p2 (puts-then 21 42 h3 p3 (puts-then 21 21 (room-then 21 42 h3 p3) (c .before .before .before .before .before .before .before .put-number4 .ensures) (c .before .before .put-number5 .ensures)))))
 
 pub put-line-spec : {M : Type 1} → statement M
