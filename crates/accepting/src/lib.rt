@@ -1,4 +1,6 @@
 // Accepting: whether a record is accepted whole, and no more. Most strays are too short for any value, and are told by their length.
+#![tactic(auto)]
+
 ghost use Rattle.std.specs.Prelude.{◌≡◌, true};
 ghost use Rattle.refusal.specs.Outcome.{accepted};
 ghost use Rattle.readers.specs.Root.{read_root};

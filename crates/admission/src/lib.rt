@@ -1,4 +1,6 @@
 // What is decided before a record is read: refusals 1 to 7, and the capacity: that of the rows lent, or of a named one what is in force.
+#![tactic(auto)]
+
 ghost use Rattle.std.specs.Prelude.{◌≡◌, ◌*◌, ◌≤◌};
 ghost use Rattle.refusal.specs.Meaning.{outcome_of};
 ghost use Rattle.tables.specs.Row.{row_width};

@@ -1,4 +1,6 @@
 // The answers of the library as answers of the C interface: one struct of words for every call.
+#![tactic(auto)]
+
 ghost use Rattle.std.specs.Prelude.{◌≡◌};
 ghost use Rattle.refusal.specs.Outcome.{refused, map};
 ghost use Rattle.refusal.specs.Meaning.{reason_of, outcome_of};

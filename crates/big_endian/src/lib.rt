@@ -1,4 +1,6 @@
 // Numbers most byte first, as RFC 4506 has them: one by one at an index of a lent slice, and runs copied from one byte order to the other.
+#![tactic(auto)]
+
 ghost use Rattle.std.specs.Prelude.{◌≡◌, ◌+◌, ◌*◌, ◌/◌, ◌≤◌, length, drop};
 ghost use Rattle.refusal.specs.Outcome.{Fills};
 ghost use Rattle.refusal.specs.Meaning.{outcome_of};

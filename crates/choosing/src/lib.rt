@@ -1,4 +1,6 @@
 // Choosing: which grammar of a list is the first that accepts a record whole.
+#![tactic(auto)]
+
 ghost use Rattle.std.specs.Prelude.{◌≡◌, ℕ, ◌+◌, ◌≤◌, ◌<◌, length, get_or, eqb};
 ghost use Rattle.refusal.specs.Outcome.{word};
 ghost use Rattle.refusal.specs.Meaning.{location_of, reason_of, outcome_of};

@@ -1,4 +1,6 @@
 // Comparing: whether two records are of the same route.
+#![tactic(auto)]
+
 ghost use Rattle.std.specs.Prelude.{◌≡◌, true, ◌↔◌};
 ghost use Rattle.comparing.specs.SameRoute.{same_route_of, Compares};
 

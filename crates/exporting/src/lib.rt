@@ -1,4 +1,6 @@
 // Exporting: a value by its grammar as XDR (RFC 4506), from rows with their store into a lent output.
+#![tactic(auto)]
+
 ghost use Rattle.std.specs.Prelude.{◌≡◌, ◌++◌, ℕ, ◌+◌, ◌*◌, ◌/◌, ◌^◌, ◌≤◌, ◌<◌, length, take, drop, replicate};
 ghost use Rattle.refusal.specs.Outcome.{map};
 ghost use Rattle.packed.specs.Packed.{put};

@@ -1,5 +1,7 @@
 // A first use of the library: case A of the rules is read, its rows are printed and the bytes of its array, the record is written
 // again at byte 1 of an output, and without its last byte it is refused.
+#![tactic(auto)]
+
 use libc::STDOUT_FILENO;
 use reading::Parsed;
 use refusal::{Place, Refusal};

@@ -1,4 +1,6 @@
 // The grammar table's check: the first of refusals 1 to 5 in document 01's order, or accepted.
+#![tactic(auto)]
+
 ghost use Rattle.std.specs.Prelude.{◌≡◌, ◌&&◌, ◌+◌, ◌*◌, ◌≤◌, ◌<◌, leb, ltb, eqb};
 ghost use Rattle.refusal.specs.Outcome.{accepted, test, reason, word as word_at};
 ghost use Rattle.refusal.specs.Meaning.{outcome_of};

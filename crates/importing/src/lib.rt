@@ -1,4 +1,6 @@
 // Importing: XDR (RFC 4506) read whole by a grammar, into lent rows and a lent store.
+#![tactic(auto)]
+
 ghost use Rattle.std.specs.Prelude.{◌≡◌, List, ◌∷◌, [], ℕ, ◌+◌, ◌*◌, ◌-◌, ◌/◌, ◌^◌, ◌≤◌, ◌<◌, length, take, drop};
 ghost use Rattle.refusal.specs.Outcome.{refused, map, reason, word as word_at};
 ghost use Rattle.refusal.specs.Meaning.{outcome_of};

@@ -1,4 +1,6 @@
 // The layout of the input of the program `show`.
+#![tactic(auto)]
+
 ghost use Rattle.std.specs.Prelude.{◌≡◌, ◌≤◌, min};
 ghost use Rattle.refusal.specs.Meaning.{reason_of};
 ghost use Rattle.refusal.specs.Outcome.{reason, byte};

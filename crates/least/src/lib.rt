@@ -1,4 +1,6 @@
 // The least length of the records of a grammar, worked out for each of its nodes from the last back to the root.
+#![tactic(auto)]
+
 ghost use Rattle.std.specs.Prelude.{◌≡◌};
 ghost use Rattle.value.specs.Least.{add_least, min_least, least, fold_least};
 ghost use Rattle.tables.specs.Grammar.{first_word, count_word};

@@ -1,5 +1,7 @@
 // The unpackers of PackedInts (PI): numbers out of bytes, least byte first, at an index of a lent slice, one by one and in runs. And what
 // its packers ask first: whether there is room.
+#![tactic(auto)]
+
 ghost use Rattle.std.specs.Prelude.{◌≡◌, ◌+◌, ◌*◌, ◌^◌, ◌≤◌, ◌<◌, length, leb};
 ghost use Rattle.refusal.specs.Outcome.{Fills};
 ghost use Rattle.refusal.specs.Meaning.{outcome_of};

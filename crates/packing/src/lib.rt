@@ -1,4 +1,6 @@
 // The packers of PackedInts (PI): numbers as bytes, least byte first, at an index of a lent output, one by one and in runs; and bytes copied.
+#![tactic(auto)]
+
 ghost use Rattle.std.specs.Prelude.{◌≡◌, ◌+◌, ◌^◌, ◌≤◌, ◌<◌, length};
 ghost use Rattle.refusal.specs.Outcome.{Fills};
 ghost use Rattle.refusal.specs.Meaning.{outcome_of};

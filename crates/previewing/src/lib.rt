@@ -1,4 +1,6 @@
 // Previewing: what a writing would answer and change, without writing.
+#![tactic(auto)]
+
 ghost use Rattle.std.specs.Prelude.{◌≡◌, ◌++◌, ℕ, ◌+◌, ◌*◌, ◌≤◌, ◌<◌, length, take, drop};
 ghost use Rattle.packed.specs.Packed.{pack_little_endian};
 ghost use Rattle.rows.specs.Rule.{RowHolds};

@@ -1,4 +1,6 @@
 // The value, array-contents and tuple-contents readers, and two calls over them that take any input.
+#![tactic(auto)]
+
 ghost use Rattle.std.specs.Prelude.{◌≡◌, ◌∷◌, [], ℕ, ◌+◌, ◌-◌, ◌*◌, ◌/◌, ◌≤◌, ◌<◌, min, length, get_or, leb};
 ghost use Rattle.refusal.specs.Outcome.{accepted, refused, test, reason, byte, word as word_at, map};
 ghost use Rattle.value.specs.Kinds.{Number, width as number_width, number_kind, Elements, elements_kind, element_width};

@@ -1,4 +1,6 @@
 // Reading: GM's `ParseVal` and `Demarshall`, with rows lent or as a check.
+#![tactic(auto)]
+
 ghost use Rattle.std.specs.Prelude.{◌≡◌, true, length};
 ghost use Rattle.refusal.specs.Outcome.{map};
 ghost use Rattle.admission.specs.Admission.{in_force, check_rows, capacity_of};

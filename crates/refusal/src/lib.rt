@@ -1,4 +1,6 @@
 // A refusal, as document 01 has it: its number in the papers' tables and its place. Every answer of the library holds this struct.
+#![tactic(auto)]
+
 ghost use Rattle.std.specs.Prelude.{◌≡◌};
 ghost use Rattle.refusal.specs.Meaning.{reason_of, outcome_of};
 ghost use Rattle.refusal.specs.Outcome.{accepted, test, reason, word, byte, row};

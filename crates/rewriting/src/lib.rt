@@ -1,4 +1,6 @@
 // Rewriting: a record read and written again.
+#![tactic(auto)]
+
 ghost use Rattle.route.specs.Rewriting.{Rewrites};
 
 use reading::Parsed;

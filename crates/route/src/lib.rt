@@ -1,1 +1,2 @@
 // The demands and the bench examples: statements in specs/, their proofs in proofs/.
+#![tactic(auto)]

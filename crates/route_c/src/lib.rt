@@ -1,4 +1,6 @@
 // The C interface: each call of the library under a C name.
+#![tactic(auto)]
+
 ghost use Rattle.std.specs.Prelude.{◌≡◌, length};
 ghost use Rattle.refusal.specs.Outcome.{map};
 ghost use Rattle.packed.specs.Packed.{unpack_at, unpack_seq_at, put_at, pack_little_endian, pack_little_endian_seq};

@@ -1,4 +1,6 @@
 // Value rows: the walk over a row table, the size of the value that its rows stand for, and where an array lies in the store.
+#![tactic(auto)]
+
 ghost use Rattle.std.specs.Prelude.{◌≡◌, ◌&&◌, ◌||◌, ◌+◌, ◌*◌, ◌≤◌, ◌<◌, length, leb, ltb, eqb};
 ghost use Rattle.refusal.specs.Outcome.{accepted, refused, test, map, reason, row as at_row};
 ghost use Rattle.refusal.specs.Meaning.{outcome_of};

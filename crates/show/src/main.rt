@@ -1,5 +1,7 @@
 // Reads a grammar and a record from standard input and prints the record's rows, or why it is refused. A read error counts as the
 // end of the input, and one byte more than the longest input is enough to tell that it is too long.
+#![tactic(auto)]
+
 use libc::{STDIN_FILENO, STDOUT_FILENO};
 
 fn main() {

@@ -1,4 +1,6 @@
 // Signed trims: the number of a row of kind 9 or 10, whose word 2 is an unsigned bit pattern in two's complement.
+#![tactic(auto)]
+
 ghost use Rattle.std.specs.Prelude.{◌≡◌, true};
 ghost use Rattle.refusal.specs.Outcome.{refused, reason, row as at_row};
 ghost use Rattle.value.specs.Kinds.{kind_of};

@@ -1,4 +1,6 @@
 // Sizing: the size of the value that rows with their store stand for, where it may be written by a grammar; or the first refusal.
+#![tactic(auto)]
+
 ghost use Rattle.std.specs.Prelude.{◌≡◌, ◌<◌};
 ghost use Rattle.refusal.specs.Outcome.{refused, map, reason, row as at_row};
 ghost use Rattle.refusal.specs.Meaning.{outcome_of};

@@ -1,4 +1,6 @@
 // The two tables of document 01 by their words: the grammar table and the value rows. Every call takes any slice and any number.
+#![tactic(auto)]
+
 ghost use Rattle.std.specs.Prelude.{◌≡◌, ◌∷◌, [], ◌+◌, ◌*◌, ◌<◌, get_or};
 ghost use Rattle.tables.specs.Grammar.{first_word, child_word};
 ghost use Rattle.tables.specs.Row.{row_width, row_at, laid};

@@ -1,4 +1,6 @@
 // The text of the program `show`: the record of its input, and the lines that it prints.
+#![tactic(auto)]
+
 ghost use Rattle.std.specs.Prelude.{◌≡◌, ◌∷◌, [], ◌++◌, ◌+◌, ◌*◌, ◌≤◌, length};
 ghost use Rattle.refusal.specs.Meaning.{location_of, reason_of};
 ghost use Rattle.tables.specs.Row.{row_width, row_at};

@@ -1,1 +1,2 @@
 // The theory of values: definitions in specs/, laws in proofs/.
+#![tactic(auto)]

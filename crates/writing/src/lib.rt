@@ -1,4 +1,6 @@
 // Writing: GM's `MarshallVal` with its parts and `Marshall`, from rows with their store into a lent output.
+#![tactic(auto)]
+
 ghost use Rattle.std.specs.Prelude.{◌≡◌, ◌++◌, ℕ, ◌+◌, ◌*◌, ◌≤◌, ◌<◌, length, take, drop};
 ghost use Rattle.packed.specs.Packed.{pack_little_endian, put};
 ghost use Rattle.rows.specs.Rule.{RowHolds};

@@ -1,4 +1,6 @@
 // XDR (RFC 4506): definitions in specs/, laws in proofs/, and the padding of an array, for export and import.
+#![tactic(auto)]
+
 ghost use Rattle.std.specs.Prelude.{◌≡◌};
 ghost use Rattle.xdr.specs.Xdr.{padding as padding_of};
 
