@@ -142,4 +142,4 @@ counted g d v h = go (came g d v h)
         }
 
 pub accepts-rule : AcceptsRule
-accepts-rule = record { unwalked = λ g d p n. sym (not-walked g d (sym p) n); yes = yes_exactly; no = no_exactly; count = counted; as_atry = λ l d j v h n. (counted (grammar_of l j) d v h).walked n }
+accepts-rule = record { unwalked = λ g d p n. sym (not-walked g d (sym p) n); yes = yes_exactly; no = no_exactly; count = counted; as_a_try = λ l d j v h n. (counted (grammar_of l j) d v h).walked n }

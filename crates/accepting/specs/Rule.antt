@@ -41,4 +41,4 @@ pub record AcceptsRule : Type 0 where
   pub no : (g d : List ℕ) → Below (2 ^ 32) g → Bytes d → NoExactly g d
   pub count : (g d : List ℕ) (v : Verdict) → accepts_of g d ≡ accepted v → Counted g d v
   -- the chooser's try of the same grammar, wherever it stands in a list
-  pub as_atry : (l d : List ℕ) (j : ℕ) (v : Verdict) → accepts_of (grammar_of l j) d ≡ accepted v → ¬ (NoWalk (grammar_of l j) d) → v.begun ≡ begun_of (try_of l d j)
+  pub as_a_try : (l d : List ℕ) (j : ℕ) (v : Verdict) → accepts_of (grammar_of l j) d ≡ accepted v → ¬ (NoWalk (grammar_of l j) d) → v.begun ≡ begun_of (try_of l d j)

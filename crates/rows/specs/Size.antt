@@ -47,13 +47,13 @@ abbrev pub of_row : {A : Type 0} → (Kind → Row → A) → List ℕ → ℕ �
 of_row f t i = f (kind_of (row_at t i).kind) (row_at t i)
 
 -- the own bytes of row i
-abbrev pub field_own : (Kind → Row → List ℕ → List ℕ) → List ℕ → List ℕ → ℕ → List ℕ
-field_own own t s i = of_row (λ k r. own k r s) t i
+abbrev pub own_at : (Kind → Row → List ℕ → List ℕ) → List ℕ → List ℕ → ℕ → List ℕ
+own_at own t s i = of_row (λ k r. own k r s) t i
 
 -- the own bytes of n rows from row i on, one behind the other
 unfoldable pub own_from : (Kind → Row → List ℕ → List ℕ) → List ℕ → List ℕ → ℕ → ℕ → List ℕ
 own_from own t s i zero = []
-own_from own t s i (suc n) = field_own own t s i ++ own_from own t s (suc i) n
+own_from own t s i (suc n) = own_at own t s i ++ own_from own t s (suc i) n
 
 -- their own sizes, added up
 unfoldable pub sum_from : (Kind → Row → ℕ) → List ℕ → ℕ → ℕ → ℕ
@@ -62,7 +62,7 @@ sum_from size t i (suc n) = of_row size t i + sum_from size t (suc i) n
 
 -- the same by the byte rule
 abbrev pub own_bytes_at : List ℕ → List ℕ → ℕ → List ℕ
-own_bytes_at t s i = field_own own_bytes t s i
+own_bytes_at t s i = own_at own_bytes t s i
 
 abbrev pub bytes_from : List ℕ → List ℕ → ℕ → ℕ → List ℕ
 bytes_from t s i n = own_from own_bytes t s i n

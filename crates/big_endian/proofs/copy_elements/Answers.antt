@@ -6,9 +6,10 @@ use Rattle.packed.proofs.Put.{put-nothing}
 use Rattle.big_endian.specs.BigEndian.{reverse_each}
 use Rattle.big_endian.proofs.Calls.{reverse_each-none, one_more, reverse_each-next}
 use Rattle.big_endian.proofs.copy_elements.Goals as goal
+use Rattle.big_endian.proofs.copy_elements.Goals.{In-loop-i}
 
 -- the next element is within src and within out
-more : (c : goal.In-loop-i) → c.args.width * c.loop-i.i + c.args.width ≤ c.args.width * c.args.count
+more : (c : In-loop-i) → c.args.width * c.loop-i.i + c.args.width ≤ c.args.width * c.args.count
 more c = one_more c.args.width c.loop-i.i c.args.count (omega arith)
 
 pub loop-i-init : goal.loop-i-init
@@ -23,13 +24,13 @@ pub unpack-requires : goal.unpack-requires
 unpack-requires c = (omega arith, omega (arith, more c))
 
 pub overflow_mul-width-in-loop-i : goal.overflow_mul-width-in-loop-i
-overflow_mul-width-in-loop-i c = record { fits = omega (arith, more c) }
+overflow_mul-width-in-loop-i c = record { fits = omega (arith, more (goal.at.overflow_mul-width-in-loop-i c).In-loop-i) }
 
 pub overflow_add-index : goal.overflow_add-index
-overflow_add-index c = record { fits = omega (arith, more c) }
+overflow_add-index c = record { fits = omega (arith, more (goal.at.overflow_add-index c).In-loop-i) }
 
 pub pack_little_endian-requires : goal.pack_little_endian-requires
-pack_little_endian-requires c = omega (arith, more c)
+pack_little_endian-requires c = omega (arith, more (goal.at.pack_little_endian-requires c).In-loop-i)
 
 pub loop-i-preserved : goal.loop-i-preserved
 loop-i-preserved c =

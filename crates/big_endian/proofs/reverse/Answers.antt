@@ -6,18 +6,19 @@ use Rattle.packed.proofs.Laws.{pack_bytes}
 use Rattle.big_endian.specs.BigEndian.{unpack_big_endian}
 use Rattle.big_endian.proofs.Calls.{unpack_big_none, unpack_big_fits, rest_all, rest-next, turned_next}
 use Rattle.big_endian.proofs.reverse.Goals as goal
+use Rattle.big_endian.proofs.reverse.Goals.{In-loop-i}
 
 pub loop-i-init : goal.loop-i-init
 loop-i-init c = (omega arith, rest_all c.args.n, unpack_big_none (pack_little_endian c.args.width c.args.n))
 
 -- one byte more
-next : (c : goal.In-loop-i) → c.loop-i.rest % 256 + c.loop-i.sum * 256 ≡ unpack_big_endian (c.loop-i.i + 1) (pack_little_endian c.args.width c.args.n)
+next : (c : In-loop-i) → c.loop-i.rest % 256 + c.loop-i.sum * 256 ≡ unpack_big_endian (c.loop-i.i + 1) (pack_little_endian c.args.width c.args.n)
 next c =
     let a = c.args in
     let l = c.loop-i in
     turned_next a.width a.n l.i l.rest l.sum (omega arith) l.invariant.1 l.invariant.2
 
-below : (c : goal.In-loop-i) → c.loop-i.rest % 256 + c.loop-i.sum * 256 < 2 ^ 64
+below : (c : In-loop-i) → c.loop-i.rest % 256 + c.loop-i.sum * 256 < 2 ^ 64
 below c =
     let a = c.args in
     rw (next c) (unpack_big_fits c.loop-i.i (pack_little_endian a.width a.n) (pack_bytes a.width a.n) (omega arith))
