@@ -16,7 +16,7 @@ use Rattle.rows.proofs.Laws.{ends, Passed, row_passed, children_of, row-refused,
 use Rattle.rows.proofs.Size.{own_most, children_hold_lem, size_decides}
 use Rattle.rows.proofs.Meaning.{children, wanted-refused}
 use Rattle.rows.proofs.+check_children.Goals as goal
-use Rattle.rows.proofs.+check_children.Goals.{After-is_parent, After-size_holds, Else-is_parent, In-Children, Joined-is_parent}
+use Rattle.rows.proofs.+check_children.Goals.{After-is_parent, After-size_holds, In-Children, Joined-is_parent, then-is_parent+in_default, else-is_parent}
 
 pub loop-left-init : goal.loop-left-init
 loop-left-init t c = (omega arith, omega arith, refl)
@@ -65,11 +65,12 @@ inner-end t c =
     ap (λ (n : ℕ). ends (children_of a.rows.now a.store.now i (i + n) c.in-Children.inner (i + 1))) c.span_at-span.ensures
 
 -- a row that is no parent has none
-alone : (t : ℕ) (c : Else-is_parent t) → accepted tt ≡ ends (inner t (goal.at.Else-is_parent t c).In-Children)
-alone t c =
+alone : (t : ℕ) (c : After-is_parent t) → c.is_parent.result ≡ false → accepted tt ≡ ends (inner t (goal.at.After-is_parent t c).In-Children)
+alone t c none =
     let a = c.args in
     let i = c.loop-left.i in
-    childless a.rows.now a.store.now i c.in-Children.inner (i + c.span_at-span.result) (omega (arith, (reach t (goal.at.Else-is_parent t c).In-Children).some, c.span_at-span.ensures)) (sym c.is_parent.ensures ∙ c.if-is_parent.false) ∙ inner-end t (goal.at.Else-is_parent t c).In-Children
+    let d = (goal.at.After-is_parent t c).In-Children in
+    childless a.rows.now a.store.now i c.in-Children.inner (i + c.span_at-span.result) (omega (arith, (reach t d).some, c.span_at-span.ensures)) (sym c.is_parent.ensures ∙ none) ∙ inner-end t d
 
 pub overflow_add-next : goal.overflow_add-next
 overflow_add-next t c = omega (arith, (reach t c).reach, c.span_at-span.ensures, c.ranges.end)
@@ -93,10 +94,10 @@ returns-in-Refused-check_children t c =
 
 -- behind the branch its children have passed, or it has none
 joined : (t : ℕ) (c : Joined-is_parent t) → accepted tt ≡ ends (inner t (goal.at.Joined-is_parent t c).In-Children)
-joined t c = ⊎_elim
-    (λ w. done w.3.given.1 (w.1.ensures ∙ inner-end t (goal.at.Joined-is_parent t c).In-Children))
-    (λ w. alone t record { before = (goal.at.Joined-is_parent t c).After-is_parent; if2 = w })
-    c.if-is_parent.branch
+joined t c =
+    let d = (goal.at.Joined-is_parent t c).In-Children in
+    let p = (goal.at.Joined-is_parent t c).After-is_parent in
+    elim c.if-is_parent.branch [ then-is_parent+in_default w ↦ done w.in_default.is (w.check_children.ensures ∙ inner-end t d) | else-is_parent w ↦ alone t p w.if-is_parent.false ]
 
 -- what the slices hold
 words : (t : ℕ) (c : Joined-is_parent t) → Below (2 ^ 64) c.args.rows.now

@@ -22,6 +22,9 @@ inside c =
 pub overflow_add-end : goal.overflow_add-end
 overflow_add-end c = omega (arith, inside c)
 
+pub slice_bounds-result-end-in-At : goal.slice_bounds-result-end-in-At
+slice_bounds-result-end-in-At c = omega (arith, inside c)
+
 pub returns-in-Refused : goal.returns-in-Refused
 returns-in-Refused c =
     let s = c.args.store.now in
@@ -31,7 +34,7 @@ returns-in-Refused c =
 pub returns-in-At : goal.returns-in-At
 returns-in-At c =
     let s = c.args.store.now in
-    let f = c.start-1.given.0 in
-    let z : f.0 + f.1.0 - f.0 ≡ f.1.0 = omega arith in
+    let f = c.in-At in
+    let z : f.start + f.size - f.start ≡ f.size = omega arith in
     let e = ap given (lies (goal.at.returns-in-At c).In-At) in
     record { bytes = rw z (ap (λ (p : Part). take p.size (drop p.start s)) e); block = refl; offset = omega (arith, ap (λ (p : Part). p.start) e) }
