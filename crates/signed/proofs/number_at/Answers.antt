@@ -43,7 +43,7 @@ pub overflow_cast-pattern : goal.overflow_cast-pattern
 overflow_cast-pattern c = omega (arith, pattern-fits (goal.at.overflow_cast-pattern c).After-kind_at c.in-9.is)
 
 pub overflow_cast-result : goal.overflow_cast-result
-overflow_cast-result c = widened_fits c.signed32.result (record { sfits = c.signed32.type-inv })
+overflow_cast-result c = widened_fits c.signed32.result (record { sfits = c.signed32.type_inv })
 
 pub returns-in-0 : goal.returns-in-0
 unfolding kind_of kinds signed_of_row
@@ -83,11 +83,11 @@ returns-in-8 c = c.not_signed-in-8.ensures ∙ arm (goal.at.returns-in-8 c).Afte
 
 pub returns-in-9 : goal.returns-in-9
 unfolding kind_of kinds signed_of_row
-returns-in-9 c = ap accepted (widened c.signed32.result (record { sfits = c.signed32.type-inv }) ∙ c.signed32.ensures) ∙ as_read (goal.at.returns-in-9 c).After-kind_at 4 ∙ arm (goal.at.returns-in-9 c).After-kind_at c.in-9.is refl
+returns-in-9 c = ap accepted (widened c.signed32.result (record { sfits = c.signed32.type_inv }) ∙ c.signed32.ensures) ∙ as_read (goal.at.returns-in-9 c).After-kind_at 4 ∙ arm (goal.at.returns-in-9 c).After-kind_at c.in-9.is refl
 
 pub returns-in-10 : goal.returns-in-10
 unfolding kind_of kinds signed_of_row
-returns-in-10 c = ap accepted (to_z-of_z w64 c.signed64.result (record { sfits = c.signed64.type-inv }) ∙ c.signed64.ensures) ∙ as_read (goal.at.returns-in-10 c).After-kind_at 8 ∙ arm (goal.at.returns-in-10 c).After-kind_at c.in-10.is refl
+returns-in-10 c = ap accepted (to_z-of_z w64 c.signed64.result (record { sfits = c.signed64.type_inv }) ∙ c.signed64.ensures) ∙ as_read (goal.at.returns-in-10 c).After-kind_at 8 ∙ arm (goal.at.returns-in-10 c).After-kind_at c.in-10.is refl
 
 pub returns-in-11-to-18446744073709551615 : goal.returns-in-11-to-18446744073709551615
 unfolding signed_of_row

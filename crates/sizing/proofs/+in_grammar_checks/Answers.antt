@@ -16,7 +16,7 @@ use Rattle.sizing.specs.Checks.{Checks}
 use Rattle.sizing.proofs.Walk.{tree_kind, tree_element, tuple-parts, union-parts, tree_parts, part_count, tree_case, one_child, child_above, not_named, arm_other, arm_leaf, arm_array, arm_count, arm_tuple, arm_tag, arm_case, elements_stand, fields_stand, case_stands, first_stands, others_stand, next-inside, Left, left_all, left_none, left_stopped, left_next, all-step, each_step, none-step, none_each}
 use Prim.Native.Nat.{ℕ, ◌<◌}
 use Rattle.sizing.proofs.+in_grammar_checks.Goals as goal
-use Rattle.sizing.proofs.+in_grammar_checks.Goals.{Else-kind-word}
+use Rattle.sizing.proofs.+in_grammar_checks.Goals.{check_in_grammar-Else-kind-word}
 
 pub check_all_in_grammar-check_in_grammar-requires : goal.check_all_in_grammar-check_in_grammar-requires
 check_all_in_grammar-check_in_grammar-requires t c =
@@ -113,25 +113,21 @@ check_each_in_grammar-returns t c =
     let n = count_word g a.node in
     left_none a.rows.now n a.row (λ vs. check_each_in_grammar vs (child_trees g (tree_of g) f n) a.row) (n - l.k) l.i (λ vs. check_each_in_grammar vs (child_trees g (tree_of g) (f + l.k) (n - l.k)) l.i) l.invariant.3 (omega (arith, l.invariant.1)) (none_each (child_trees g (tree_of g) (f + l.k) (n - l.k)) l.i)
 
--- behind the test of the kinds: the row's kind is the node's, which is its tree's
-abbrev Agreed : ℕ → Type 0
-Agreed t = check_in_grammar_lts.Else1 (check-in-grammar-calls t) (check-in-grammar-at t) check-in-grammar.Post
+node-word : (t : ℕ) (c : check_in_grammar-Else-kind-word t) {k : ℕ} → c.kind_at-kind.result ≡ k → let a = c.args in kind_word a.grammar.now a.node ≡ k
+node-word t c e = omega (arith, c.word.ensures.0)
 
-node-word : (t : ℕ) (c : Agreed t) {k : ℕ} → c.before.before.before.before.kind_at.result ≡ k → let a = c.before.before.before.before.before.before.before.args in kind_word a.grammar.now a.node ≡ k
-node-word t c e = omega (arith, c.before.word2.ensures.0)
+row-kind : (t : ℕ) (c : check_in_grammar-Else-kind-word t) {k : ℕ} → c.kind_at-kind.result ≡ k → let a = c.args in (row_at a.rows.now a.row).kind ≡ k
+row-kind t c e = sym c.kind_at-kind.ensures ∙ e
 
-row-kind : (t : ℕ) (c : Agreed t) {k : ℕ} → c.before.before.before.before.kind_at.result ≡ k → let a = c.before.before.before.before.before.before.before.args in (row_at a.rows.now a.row).kind ≡ k
-row-kind t c e = sym c.before.before.before.before.kind_at.ensures ∙ e
-
-tree_is : (t : ℕ) (c : Agreed t) {k : ℕ} → c.before.before.before.before.kind_at.result ≡ k → let a = c.before.before.before.before.before.before.before.args in kind_number (tree_of a.grammar.now a.node) ≡ k
+tree_is : (t : ℕ) (c : check_in_grammar-Else-kind-word t) {k : ℕ} → c.kind_at-kind.result ≡ k → let a = c.args in kind_number (tree_of a.grammar.now a.node) ≡ k
 tree_is t c e =
-    let a = c.before.before.before.before.before.before.before.args in
-    let p = c.before.before.before.before.before.before.before.requires.1 in
+    let a = c.args in
+    let p = c.requires in
     tree_kind a.grammar.now p.0 a.node p.1 ∙ node-word t c e
 
-leaf : (t : ℕ) (c : Agreed t) {k : ℕ} → c.before.before.before.before.kind_at.result ≡ k → is_parent k ≡ false → let a = c.before.before.before.before.before.before.before.args in Checks a.rows.now a.row (tree_of a.grammar.now a.node) Accepted
+leaf : (t : ℕ) (c : check_in_grammar-Else-kind-word t) {k : ℕ} → c.kind_at-kind.result ≡ k → is_parent k ≡ false → let a = c.args in Checks a.rows.now a.row (tree_of a.grammar.now a.node) Accepted
 leaf t c e n s v h =
-    let a = c.before.before.before.before.before.before.before.args in
+    let a = c.args in
     arm_leaf a.rows.now s a.row (tree_of a.grammar.now a.node) v h (row-kind t c e ∙ sym (tree_is t c e)) (ap is_parent (row-kind t c e) ∙ n)
 
 pub check_in_grammar-returns-then-kind-word : goal.check_in_grammar-returns-then-kind-word
