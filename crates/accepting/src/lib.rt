@@ -12,7 +12,7 @@ use refusal::{Answer, Refusal};
 use tables::MOST_ROWS;
 
 // The answer of `accepts`: yes or no with the values begun, 0 where there was no walk.
-#[derive(Drop)]
+#[derive(Clone, Copy)]
 pub enum YesOrNo {
     Yes(usize),
     No(usize),

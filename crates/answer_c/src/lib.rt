@@ -29,7 +29,7 @@ use signed::SignedNumber;
 
 // The header's `route_answer`.
 #[repr(C)]
-#[derive(Drop)]
+#[derive(Clone, Copy)]
 pub struct RouteAnswer {
     pub number: u64,
     pub place_kind: u64,

@@ -15,7 +15,7 @@ use tables::MOST_ROWS;
 const MOST_GRAMMARS: usize = 16;
 
 // The answer of `choose_grammar`: the number of the grammar, and the values begun over all tries.
-#[derive(Drop)]
+#[derive(Clone, Copy)]
 pub enum Chosen {
     Grammar { number: usize, begun: usize },
     Refused(Refusal),

@@ -9,7 +9,7 @@ use refusal::{Answer, Refusal};
 use tables::MOST_ROWS;
 
 // The answer of `same_route`: yes, no, or the refusal of the grammar, of the first record or of the second.
-#[derive(Drop)]
+#[derive(Clone, Copy)]
 pub enum SameRoute {
     Yes,
     No,

@@ -23,14 +23,14 @@ use packed::{UnpackedU32, UnpackedU64};
 use refusal::{Answer, Refusal};
 
 // The answer of an import: the row count and the bytes of the store used.
-#[derive(Drop)]
+#[derive(Clone, Copy)]
 pub enum Imported {
     Value { rows: usize, used: usize },
     Refused(Refusal),
 }
 
 // The byte position, the values begun, the bytes of the store used, and the bytes that what was imported takes in a record.
-#[derive(Drop)]
+#[derive(Clone, Copy)]
 struct Filling {
     at: usize,
     begun: usize,
@@ -39,21 +39,21 @@ struct Filling {
 }
 
 // What there is to be filled: rows, and bytes of the store. The same in both passes, though the first is lent neither.
-#[derive(Drop)]
+#[derive(Clone, Copy)]
 struct Lent {
     capacity: usize,
     room: usize,
 }
 
 // What a reader answers: the state behind what it read, or a refusal.
-#[derive(Drop)]
+#[derive(Clone, Copy)]
 enum Step {
     Next(Filling),
     Refused(Refusal),
 }
 
 // What taking a number answers.
-#[derive(Drop)]
+#[derive(Clone, Copy)]
 enum Taken {
     Number(u64, Filling),
     Refused(Refusal),

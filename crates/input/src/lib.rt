@@ -11,7 +11,7 @@ use packed::UnpackedU32;
 use refusal::Refusal;
 
 // How the input is laid out: so many words from byte 4 on, and the record, where it starts and how long it is.
-#[derive(Drop)]
+#[derive(Clone, Copy)]
 pub enum Layout {
     Parts {
         words: usize,

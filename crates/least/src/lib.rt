@@ -22,7 +22,7 @@ const SUM: bool = true;
 const LEAST: bool = false;
 
 // The answer of `least_length`: the bytes, or that the grammar has no value.
-#[derive(Drop)]
+#[derive(Clone, Copy)]
 pub enum LeastLength {
     Bytes(u64),
     NoValue,

@@ -12,13 +12,13 @@ ghost use Rattle.packed.specs.Meaning.{unpacked_u32, unpacked_u64};
 use refusal::{Answer, Refusal};
 
 // The answers of the unpackers of one number.
-#[derive(Drop)]
+#[derive(Clone, Copy)]
 pub enum UnpackedU32 {
     Number(u32),
     Refused(Refusal),
 }
 
-#[derive(Drop)]
+#[derive(Clone, Copy)]
 pub enum UnpackedU64 {
     Number(u64),
     Refused(Refusal),

@@ -12,7 +12,7 @@ use refusal::Refusal;
 use rows::SizeOf;
 
 // The answer of `preview`: the size, and the number of output bytes whose content would differ after the writing.
-#[derive(Drop)]
+#[derive(Clone, Copy)]
 pub enum Previewed {
     Preview { size: u64, changed: u64 },
     Refused(Refusal),
@@ -20,7 +20,7 @@ pub enum Previewed {
 
 // How far a value's bytes are compared with the output: the output's byte behind the last one compared, and how many differ. `changed`
 // is at most `at`, so that adding to it does not overflow.
-#[derive(Drop)]
+#[derive(Clone, Copy)]
 struct Compared {
     at: usize,
     changed: u64,

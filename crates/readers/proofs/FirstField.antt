@@ -14,7 +14,7 @@ use Rattle.refusal.specs.Outcome.{Outcome, accepted, refused, bind, map}
 use Rattle.refusal.proofs.Meaning.{matched}
 use Rattle.refusal.proofs.Outcome.{bind_inverse, map-accepted, test-true, test_passed}
 use Rattle.packed.specs.Packed.{Bytes, Below}
-use Rattle.value.specs.Kinds.{Kind, kind_of, tuple}
+use Rattle.value.specs.Kinds.{Kind, kind_of, constant, number, array, tuple, elements, union, other}
 use Rattle.value.specs.Tree.{G, Gs, GTuple, gcons, seq_g, Val, Vals, VConstant, VNumber, VArray, VTuple, VNumberArray, VCase, vnil, vcons, ValInGrammar, in_tuple, each_cons}
 use Rattle.value.specs.Step.{Step, both}
 use Rattle.value.specs.Reading.{State, Stop, Reading, stop, start, begin, claim, read_body, read_fields, read_val, read_to}
@@ -45,6 +45,12 @@ both-accepted x k t h =
 tuple_class : (k : Kind) (gs : Gs) {v : Val} {vs : Vals} → ValInGrammar (VTuple (vcons v vs)) (node_tree k gs) → (k ≡ tuple) × (0 < length (seq_g gs))
 unfolding node_tree
 tuple_class tuple gs (in_tuple (each_cons x xs)) = (refl, omega arith)
+tuple_class constant gs x = elim x [ ]
+tuple_class (number _) gs x = elim x [ ]
+tuple_class array gs x = elim x [ ]
+tuple_class (elements _) gs x = elim x [ ]
+tuple_class union gs x = elim x [ ]
+tuple_class other gs x = elim x [ ]
 
 module _ (g : List ℕ) (p : Passes g) where
   root_tree : tree_of g 0 ≡ node_tree (kind_of (kind_word g 0)) (child_trees g (tree_of g) (first_word g 0) (count_word g 0))

@@ -20,7 +20,7 @@ use packed::{UnpackedU32, UnpackedU64};
 use refusal::{Answer, Refusal};
 
 // Document 01's position and rows used, under a capacity. `begun` counts each time a row is asked for, the refused time too.
-#[derive(Drop)]
+#[derive(Clone, Copy)]
 pub struct State {
     pub at: usize,
     pub begun: usize,
@@ -28,21 +28,21 @@ pub struct State {
 }
 
 // What a reader answers: the state behind what it read, or a refusal with the state where it ended.
-#[derive(Drop)]
+#[derive(Clone, Copy)]
 pub enum Step {
     Next(State),
     Stopped(State, Refusal),
 }
 
 // What taking a number answers.
-#[derive(Drop)]
+#[derive(Clone, Copy)]
 enum Taken {
     Number(u64, State),
     Stopped(State, Refusal),
 }
 
 // The bytes of an array's elements behind its count.
-#[derive(Drop)]
+#[derive(Clone, Copy)]
 enum Body {
     Bytes(usize),
     Refused(Refusal),

@@ -14,7 +14,7 @@ use readers::Step;
 use refusal::Refusal;
 
 // The answer of a reading: the row count and the position behind the value.
-#[derive(Drop)]
+#[derive(Clone, Copy)]
 pub enum Parsed {
     Value { rows: usize, rest_index: usize },
     Refused(Refusal),

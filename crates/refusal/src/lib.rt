@@ -53,21 +53,21 @@ pub const NO_GRAMMAR_ACCEPTS: u64 = 22;
 pub const PADDING_NOT_ZERO: u64 = 23;
 
 // Where a refusal was found: a word of a grammar or of a grammar list, a byte or a row.
-#[derive(Drop)]
+#[derive(Clone, Copy)]
 pub enum Place {
     Word(u64),
     Byte(u64),
     Row(u64),
 }
 
-#[derive(Drop)]
+#[derive(Clone, Copy)]
 pub struct Refusal {
     pub place: Place,
     pub number: u64,
 }
 
 // The answer of a call that gives no value.
-#[derive(Drop)]
+#[derive(Clone, Copy)]
 pub enum Answer {
     Accepted,
     Refused(Refusal),

@@ -16,20 +16,20 @@ use refusal::{Answer, Refusal};
 const TWO_TO_32: u64 = 4294967296;
 
 // What a row by itself answers: how many children it wants.
-#[derive(Drop)]
+#[derive(Clone, Copy)]
 enum Wanted {
     Children(u64),
     Refused(Refusal),
 }
 
-#[derive(Drop)]
+#[derive(Clone, Copy)]
 pub enum SizeOf {
     Size(u64),
     Refused(Refusal),
 }
 
 // A part of the store: its first byte, and how many.
-#[derive(Drop)]
+#[derive(Clone, Copy)]
 pub enum Located {
     At(usize, usize),
     Refused(Refusal),

@@ -12,7 +12,7 @@ ghost use Rattle.signed.specs.Meaning.{signed_number};
 
 use refusal::{Answer, Refusal};
 
-#[derive(Drop)]
+#[derive(Clone, Copy)]
 pub enum SignedNumber {
     Number(i64),
     Refused(Refusal),
