@@ -1,0 +1,38 @@
+-- The readers of the cycle meet their contracts. The measure is the rows still free: four times for a value, one more for children, two for
+-- contents, three for an array, a tuple or a case.
+use mathlib.Core.Path.{◌≡◌}
+use Prim.Native.Nat.{◌+◌, ◌-◌, ◌*◌, ◌≤◌}
+use Rattle.xdr.specs.Import.{import_fields}
+use Rattle.importing.specs.Meaning.{filling_of}
+use Rattle.importing.specs.Brings.{trees_at}
+use Rattle.importing.proofs.Cycle.{Remaining}
+use Rattle.importing.proofs.+value_importers.Given as goal
+
+abbrev pub decreases-import_array : goal.decreases-import_array
+decreases-import_array l = 4 * (l.lent.capacity - l.s.begun) + 3
+
+abbrev pub decreases-import_array_contents : goal.decreases-import_array_contents
+decreases-import_array_contents l = 4 * (l.lent.capacity - l.s.begun) + 2
+
+abbrev pub decreases-import_case : goal.decreases-import_case
+decreases-import_case l = 4 * (l.lent.capacity - l.s.begun) + 3
+
+abbrev pub decreases-import_children : goal.decreases-import_children
+decreases-import_children l = 4 * (l.lent.capacity - l.s.begun) + 1
+
+abbrev pub decreases-import_tuple : goal.decreases-import_tuple
+decreases-import_tuple l = 4 * (l.lent.capacity - l.s.begun) + 3
+
+abbrev pub decreases-import_tuple_contents : goal.decreases-import_tuple_contents
+decreases-import_tuple_contents l = 4 * (l.lent.capacity - l.s.begun) + 2
+
+abbrev pub decreases-import_value : goal.decreases-import_value
+decreases-import_value l = 4 * (l.lent.capacity - l.s.begun)
+
+abbrev pub invariant-import_children-loop-i : goal.invariant-import_children-loop-i
+invariant-import_children-loop-i l = (l.i ≤ l.count)
+    × (l.at ≡ l.place + l.step * l.i)
+    × Remaining l.bytes l.initial.rows l.initial.store l.lent l.initial.t (import_fields l.lent.capacity l.lent.room l.bytes (trees_at l.grammar l.place l.step l.count) (filling_of l.initial.t)) l.rows l.store l.t (import_fields l.lent.capacity l.lent.room l.bytes (trees_at l.grammar l.at l.step (l.count - l.i)) (filling_of l.t))
+
+abbrev pub decreases-import_children-loop-i : goal.decreases-import_children-loop-i
+decreases-import_children-loop-i l = l.count - l.i
