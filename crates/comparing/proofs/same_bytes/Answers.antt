@@ -1,5 +1,5 @@
 use mathlib.Core.Path.{◌≡◌, refl, sym, ap, ◌∙◌}
-use mathlib.Core.Logic.{◌↔◌, ⊎_elim}
+use mathlib.Core.Logic.{◌↔◌}
 use mathlib.Core.Bool.{Bool, true, false}
 use mathlib.Core.List.{List}
 use Prim.Native.Nat.{ℕ, ◌-◌}
@@ -8,6 +8,7 @@ use lib.ListN.{length, get_or}
 use lib.Seq.{ext_get_or}
 use borrow.Author.Count.{below_more}
 use Rattle.comparing.proofs.same_bytes.Goals as goal
+use Rattle.comparing.proofs.same_bytes.Goals.{then-a-i, else-a-i}
 
 other : {P : Type 0} {b : Bool} → b ≡ false → (P → ⊥) → P ↔ (b ≡ true)
 other f n = (λ p. absurd (n p), λ e. let z : ◌≡◌ {A = ℕ} 0 1 = cc in absurd (omega arith))
@@ -23,10 +24,10 @@ loop-i-preserved c =
     let l = c.loop-i in (
       l.invariant.0,
       omega arith,
-      ⊎_elim
-          (λ w. other w.1 (λ p. w.0.taken (p l.i (omega arith))))
-          (λ w. (λ p. w.1 ∙ l.invariant.2.0 (λ k m. p k (omega (arith, m))), λ e. below_more _ _ (l.invariant.2.1 (sym w.1 ∙ e)) w.0.left))
-          c.if-a-i.branch,
+      elim c.if-a-i.branch [
+        then-a-i w ↦ other w.same-is (λ p. w.if-a-i.true (p l.i (omega arith)))
+      | else-a-i w ↦ (λ p. w.same-is ∙ l.invariant.2.0 (λ k m. p k (omega (arith, m))), λ e. below_more _ _ (l.invariant.2.1 (sym w.same-is ∙ e)) w.if-a-i.false)
+      ],
     )
 
 pub returns : goal.returns

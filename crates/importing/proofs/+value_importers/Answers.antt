@@ -132,7 +132,7 @@ import_children-loop-i-preserved t c =
     let e = trees_next a.grammar.now a.lent.capacity a.lent.room a.bytes.now l.at a.step a.count l.i (filling_of l.t) c.loop-i-test.true in
     let h = rw c.node_at.ensures at c.import_value.ensures in
     let k = c.import_value.auto in
-    (omega arith, rw (l.invariant.1, add-one l.i, mul-suc a.step l.i) (omega arith), remaining_next a.grammar.now p.table (node_at a.grammar.now l.at) (l.at + a.step) a.step (a.count - (l.i + 1)) e l.invariant.2 h c.in-Next.u c.in-Next.is k.1.1.1.0 k.1.1.1.1.0)
+    (omega arith, rw (l.invariant.1, add-one l.i, mul-suc a.step l.i) (omega arith), remaining_next a.grammar.now p.table (node_at a.grammar.now l.at) (l.at + a.step) a.step (a.count - (l.i + 1)) e l.invariant.2 h c.in-Next.u c.in-Next.is k.rows k.store)
 
 pub import_children-returns : goal.import_children-returns
 import_children-returns t c =

@@ -1,11 +1,11 @@
 use mathlib.Core.Path.{◌≡◌, ap, sym, ◌∙◌}
-use mathlib.Core.Logic.{⊎_elim}
 use Prim.Native.Nat.{ℕ, ◌+◌, ◌-◌, ◌≤◌}
 use native.Mathlib.Omega.{arith}
 use lib.ListN.{take, drop}
 use Rattle.previewing.specs.Preview.{differing}
 use Rattle.previewing.proofs.Differing.{differing-none, front-most, next-equal, next-different}
 use Rattle.previewing.proofs.count_block.Goals as goal
+use Rattle.previewing.proofs.count_block.Goals.{then-a-i, else-a-i}
 
 pub loop-k-init : goal.loop-k-init
 loop-k-init c =
@@ -23,10 +23,10 @@ loop-k-preserved c =
     let a = c.args in
     let l = c.loop-k in (
       omega arith,
-      ⊎_elim
-          (λ w. w.1 ∙ ap (λ (n : ℕ). n + 1) l.invariant.1 ∙ sym (next-different a.a.now a.i a.b.now a.j l.k (omega arith) (omega arith) w.0.taken))
-          (λ w. w.1 ∙ l.invariant.1 ∙ sym (next-equal a.a.now a.i a.b.now a.j l.k (omega arith) (omega arith) w.0.left))
-          c.if-a-i.branch,
+      elim c.if-a-i.branch [
+        then-a-i w ↦ w.changed-is ∙ ap (λ (n : ℕ). n + 1) l.invariant.1 ∙ sym (next-different a.a.now a.i a.b.now a.j l.k (omega arith) (omega arith) w.if-a-i.true)
+      | else-a-i w ↦ w.changed-is ∙ l.invariant.1 ∙ sym (next-equal a.a.now a.i a.b.now a.j l.k (omega arith) (omega arith) w.if-a-i.false)
+      ],
     )
 
 pub returns : goal.returns

@@ -1,18 +1,20 @@
 use mathlib.Core.Path.{◌≡◌, ap, sym, ◌∙◌}
-use mathlib.Core.Logic.{⊎_elim}
 use Prim.Native.Nat.{ℕ, ◌+◌, ◌-◌, ◌≤◌, ◌<◌}
 use native.Mathlib.Omega.{arith}
 use lib.ListN.{take, drop}
 use Rattle.previewing.specs.Preview.{differing}
 use Rattle.previewing.proofs.Differing.{differing-none, front-most, next-block}
 use Rattle.previewing.proofs.count_differing.Goals as goal
-use Rattle.previewing.proofs.count_differing.Goals.{Joined-size-gt-BLOCK}
+use Rattle.previewing.proofs.count_differing.Goals.{Joined-size-gt-BLOCK, then-size-gt-BLOCK, else-size-gt-BLOCK}
 
 -- a block has places, as many as a byte counts and as are left at most
 block : (c : Joined-size-gt-BLOCK) → (0 < c.if-size-gt-BLOCK.size) × (c.if-size-gt-BLOCK.size ≤ 255) × (c.loop-k.k + c.if-size-gt-BLOCK.size ≤ c.args.count)
 block c =
     let t = c.loop-k-test.true in
-    ⊎_elim (λ w. (omega (arith, w.1), omega (arith, w.1), omega (arith, w.1, w.0.taken, t))) (λ w. (omega (arith, w.1, t), omega (arith, w.1, w.0.left), omega (arith, w.1, t))) c.if-size-gt-BLOCK.branch
+    elim c.if-size-gt-BLOCK.branch [
+      then-size-gt-BLOCK w ↦ (omega (arith, w.size-is), omega (arith, w.size-is), omega (arith, w.size-is, w.if-size-gt-BLOCK.true, t))
+    | else-size-gt-BLOCK w ↦ (omega (arith, w.size-is, t), omega (arith, w.size-is, w.if-size-gt-BLOCK.false), omega (arith, w.size-is, t))
+    ]
 
 pub loop-k-init : goal.loop-k-init
 loop-k-init c =
@@ -21,7 +23,7 @@ loop-k-init c =
 
 pub count_block-requires : goal.count_block-requires
 count_block-requires c =
-    let b = block c in
+    let b = block (goal.at.count_block-requires c).Joined-size-gt-BLOCK in
     let p = c.requires in
     (b.1, omega (arith, b.2, p.0), omega (arith, b.2, p.1))
 
