@@ -2,12 +2,33 @@
 // end of the input, and one byte more than the longest input is enough to tell that it is too long.
 #![tactic(auto)]
 
-use libc::{STDIN_FILENO, STDOUT_FILENO};
+ghost use Rattle.std.specs.Prelude.{◌≤◌, length};
 
-fn main() {
+use std::io;
+use std::io::Read;
+
+// Reads until the buffer is full, the input ends or a read fails, and gives how many bytes it put at the start of the buffer.
+fn read_full(rt: &HostRuntime, buffer: &mut [u8]) -> usize
+    ensures { result ≤ length buffer.new }
+{
+    let mut input = rt.stdin();
+    let mut len: usize = 0;
+    while len < buffer.len() {
+        let Ok(n) = input.read(&mut buffer[len..]) else {
+            break;
+        };
+        if n == 0 {
+            break;
+        }
+        len += n;
+    }
+    len
+}
+
+fn main(rt: HostRuntime) -> io::Result<()> {
     let mut input = [0u8; input::MOST_INPUT + 1];
     let mut out = [0u8; text::MOST_TEXT];
-    let len = io::read_full(STDIN_FILENO, &mut input);
+    let len = read_full(&rt, &mut input);
     let size = text::show(&input[..len], &mut out);
-    io::write_all(STDOUT_FILENO, &out[..size]);
+    rt.write_all(&out[..size])
 }
