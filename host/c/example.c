@@ -3,7 +3,7 @@
  * link that drops its tail, sending for it again on refusal 9 alone, says which records are routes,
  * chooses the grammar of records of two kinds, and exports the route as XDR and imports it.
  *
- *     cc -std=c11 -Wall -Wextra -Werror -Ihost/c host/c/example.c target/staticlib/libroute_c.a */
+ *     cc -std=c11 -Wall -Wextra -Werror -Ihost/c host/c/example.c crates/route_c/out/libroute_c.a */
 
 #include <inttypes.h>
 #include <stdio.h>

@@ -1,4 +1,4 @@
-/* route_record.h: the C interface of the route-record library (target/staticlib/libroute_c.a).
+/* route_record.h: the C interface of the route-record library (crates/route_c/out/libroute_c.a).
  *
  * Arrays: a pointer and the length that follows it are one array. A length counts elements, not
  * bytes; the bytes of an array are fewer than 2^63. A null pointer is fine with length 0. An array

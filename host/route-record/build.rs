@@ -14,14 +14,14 @@ fn main() {
         exit(1);
     }
     println!("cargo:rerun-if-env-changed={FOLDER}");
-    let built = concat!(env!("CARGO_MANIFEST_DIR"), "/../../target/staticlib");
+    let built = concat!(env!("CARGO_MANIFEST_DIR"), "/../../crates/route_c/out");
     let folder = env::var_os(FOLDER).map_or(PathBuf::from(built), PathBuf::from);
     let archive = folder.join("libroute_c.a");
     println!("cargo:rerun-if-changed={}", archive.display());
     // A check or the documentation needs no archive, so only linking fails without one.
     if !archive.is_file() {
         println!(
-            "cargo:warning=nothing links without {}: `rt staticlib route_c`, run in the \
+            "cargo:warning=nothing links without {}: `rt lib route_c`, run in the \
              repository's root, builds it, and {FOLDER} names another folder for it",
             archive.display()
         );

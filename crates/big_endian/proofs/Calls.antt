@@ -1,6 +1,6 @@
 -- What the code's proofs need: a number byte by byte, and the steps of the loops.
 use mathlib.Core.Path.{◌≡◌, refl, ap, sym, ◌∙◌}
-use mathlib.Core.List.{List, [], ◌∷◌, ◌++◌, append_assoc, append-nil, reverse, reverse-append, reverse-reverse}
+use mathlib.Core.List.{List, [], ◌∷◌, ◌++◌, append_assoc, append-nil, reverse, reverse-append}
 use Prim.Native.Nat.{ℕ, zero, suc, ◌+◌, ◌*◌, ◌/◌, ◌%◌, ◌^◌, ◌<◌, ◌≤◌}
 use native.Mathlib.Nat.{pow-suc, pow-succ', pow-le-pow_right, div-div-eq-div-mul, div-one, mul-suc, mul-zero, mul-le-mul_left, mul_comm, le-div_iff_mul-le, add_comm, lt_of_lt_of_le, le_refl}
 use native.Mathlib.Numerals.{add-one}

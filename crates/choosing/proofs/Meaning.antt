@@ -3,7 +3,6 @@ use mathlib.Core.Path.{◌≡◌, sym, ap}
 use Rattle.refusal.proofs.Outcome.{clash}
 use Rattle.refusal.proofs.Meaning.{reason_injective}
 use Rattle.choosing.specs.declared.Chosen.{Chosen}
-use Rattle.choosing.specs.declared.Chosen.TheVariants as Chosen
 use Rattle.choosing.specs.Choose.{Choice, chosen_of}
 
 pub chosen_of_injective : (a b : Chosen) → chosen_of a ≡ chosen_of b → a ≡ b

@@ -4,7 +4,6 @@ use mathlib.Core.Bool.{Bool, true, false}
 use Rattle.refusal.specs.Outcome.{Outcome, accepted, refused}
 use Rattle.refusal.proofs.Meaning.{refusal_of, refusal-of}
 use Rattle.comparing.specs.declared.SameRoute.{SameRoute}
-use Rattle.comparing.specs.declared.SameRoute.TheVariants as SameRoute
 use Rattle.comparing.specs.SameRoute.{NamedReason, of_grammar, of_first, of_second, same_route_of}
 
 -- the answer that means o

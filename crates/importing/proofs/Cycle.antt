@@ -1,17 +1,17 @@
 -- The readers of the cycle: how an import of parts makes an import of the whole, with its rows and its store.
-use mathlib.Core.Path.{◌≡◌, refl, ap, sym, subst, fun_ext, ◌∙◌}
-use mathlib.Core.Logic.{◌⊎◌, inl, inr, ⊎_elim}
+use mathlib.Core.Path.{◌≡◌, refl, ap, sym, subst, ◌∙◌}
+use mathlib.Core.Logic.{inl, inr, ⊎_elim}
 use mathlib.Core.Bool.{Bool, true, false}
 use mathlib.Core.List.{List, [], ◌∷◌, ◌++◌, append-nil}
 use Prim.Native.Nat.{ℕ, zero, suc, ◌+◌, ◌-◌, ◌*◌, ◌^◌, ◌≤◌, ◌<◌}
-use native.Mathlib.Nat.{add-zero, mul-zero}
+use native.Mathlib.Nat.{add-zero}
 use native.Mathlib.Numerals.{add-one}
 use native.Mathlib.Decide.{dec_le, dec_lt}
 use native.Mathlib.Omega.{arith}
-use lib.ListN.{length, get_or, length-append}
+use lib.ListN.{length, get_or}
 use lib.Dec.{leb, ltb}
 use borrow.Author.Tests.{lt-ltb, le-ltb, le-leb, lt-leb, ltb-true}
-use Rattle.refusal.specs.Outcome.{Outcome, accepted, refused, bind, test, map, Reason, reason, byte}
+use Rattle.refusal.specs.Outcome.{Outcome, accepted, refused, bind, test, map, Reason}
 use Rattle.refusal.specs.Meaning.{reason_of}
 use Rattle.refusal.specs.declared.Refusal.{Refusal}
 use Rattle.refusal.proofs.Outcome.{clash, map-accepted, test-true, test-false, test_passed, bind_inverse, post_accepted}
@@ -23,21 +23,21 @@ use Rattle.value.specs.Step.{Step, yield, next, give, both, elements}
 use Rattle.value.proofs.KindLaws.{other-kinds, is_parent, not-parent}
 use Rattle.tables.specs.Grammar.{node_count, kind_word, first_word, count_word, child_word}
 use Rattle.tables.specs.Row.{row_width, laid}
-use Rattle.grammar.specs.Rule.{CountRule, ChildrenRule}
+use Rattle.grammar.specs.Rule.{CountRule}
 use Rattle.grammar.specs.Tree.{node_tree, child_trees, tree_of}
 use Rattle.grammar.proofs.Rule.{node-inside, child_inside}
 use Rattle.grammar.proofs.Tree.{tree_node, tree_valid, trees_length, trees_at_lem}
 use Rattle.rows.specs.Layout.{own_row}
-use Rattle.xdr.specs.Xdr.{xdr_of, xdr_of_all, xdr_size, store_of, store_of_all, rows_in, rows_in_all}
+use Rattle.xdr.specs.Xdr.{xdr_size, store_of, store_of_all, rows_in, rows_in_all}
 use Rattle.xdr.specs.Import.{Filling, Importing, refusal, begin, claim, free, take_number, import_body, import_fields, import_case_at, import_val}
 use Rattle.xdr.proofs.Sizes.{sizes}
 use Rattle.xdr.proofs.Rows.{length-rows_in, length-rows_in_all}
-use Rattle.xdr.proofs.Import.{Took, import_takes, fields_takes}
+use Rattle.xdr.proofs.Import.{import_takes, fields_takes}
 use Rattle.importing.specs.declared.Filling.{Filling as CodeFilling}
 use Rattle.importing.specs.declared.Lent.{Lent as CodeLent}
 use Rattle.importing.specs.declared.Step.{Step as CodeStep}
 use Rattle.importing.specs.declared.Step.TheVariants as S
-use Rattle.importing.specs.Meaning.{filling_of, step_of, StepSize, taken_of}
+use Rattle.importing.specs.Meaning.{filling_of, step_of, StepSize}
 use Rattle.importing.specs.Brings.{Ready, Brings, take_below, closed, Counted, child_place, node_at, trees_at, Table, Children, Node, RowClaimed, Leaf}
 use Rattle.importing.proofs.Laws.{brings_refused, brings_next, take_moves, node-named}
 

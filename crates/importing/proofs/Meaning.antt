@@ -1,7 +1,5 @@
 -- An `Imported` is determined by what it means, so a contract through the meaning fixes the answer.
 use mathlib.Core.Path.{◌≡◌, ap, sym}
-use Prim.Native.Nat.{ℕ}
-use Rattle.refusal.specs.Outcome.{accepted, refused}
 use Rattle.refusal.proofs.Meaning.{reason_injective}
 use Rattle.refusal.proofs.Outcome.{clash}
 use Rattle.importing.specs.declared.Imported.{Imported}

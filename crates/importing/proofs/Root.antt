@@ -1,19 +1,19 @@
 -- The import of the root: 1 to 6, the check, and the rows and the store that are filled.
 use mathlib.Core.Path.{◌≡◌, refl, ap, sym, ◌∙◌}
 use mathlib.Core.Bool.{Bool, true, false}
-use mathlib.Core.List.{List, [], ◌∷◌}
-use Prim.Native.Nat.{ℕ, ◌+◌, ◌*◌, ◌^◌, ◌≤◌}
+use mathlib.Core.List.{List}
+use Prim.Native.Nat.{ℕ, ◌*◌, ◌^◌, ◌≤◌}
 use native.Mathlib.Omega.{arith}
 use lib.ListN.{length}
 use lib.Dec.{leb, eqb}
 use borrow.Author.Tests.{eq-eqb, ne_eqb, leb-true}
-use Rattle.refusal.specs.Outcome.{Outcome, accepted, refused, bind, test, map, contents, Reason, reason, byte}
+use Rattle.refusal.specs.Outcome.{Outcome, accepted, refused, test, map, Reason, reason, byte}
 use Rattle.refusal.specs.Meaning.{reason_of}
 use Rattle.refusal.specs.declared.Refusal.{Refusal}
 use Rattle.refusal.proofs.Outcome.{clash, map-accepted, bind_inverse, test-true, test-false, test_passed}
-use Rattle.packed.specs.Packed.{Bytes, Below, put, Lent}
+use Rattle.packed.specs.Packed.{Bytes, Below}
 use Rattle.packed.proofs.Fitting.{put_within-fits}
-use Rattle.value.specs.Tree.{G, Val, vnil, vcons, SizeOfV, SeqSum, row_count}
+use Rattle.value.specs.Tree.{G, Val, vnil, vcons, SizeOfV, SeqSum}
 use Rattle.value.specs.Step.{Step, yield, next}
 use Rattle.tables.specs.Row.{row_width}
 use Rattle.grammar.specs.Check.{check_grammar}
@@ -30,7 +30,7 @@ use Rattle.importing.specs.declared.Step.{Step as CodeStep}
 use Rattle.importing.specs.declared.Step.TheVariants as S
 use Rattle.importing.specs.declared.Imported.TheVariants as I
 use Rattle.importing.specs.Meaning.{filling_of, step_of}
-use Rattle.importing.specs.Brings.{Ready, Brings, trees_at, Table, Admitted}
+use Rattle.importing.specs.Brings.{Ready, Brings, trees_at, Admitted}
 use Rattle.importing.specs.Calls.{admit_of, import_of, Imports}
 use Rattle.importing.proofs.Cycle.{went_on, stopped, brings_as, one-row, one_store, one_size, tree_one, val-accepted}
 

@@ -4,7 +4,6 @@ use Prim.Native.Nat.{ℕ}
 use native.Mathlib.Omega.{arith}
 use Rattle.refusal.proofs.Meaning.{reason_injective}
 use Rattle.previewing.specs.declared.Previewed.{Previewed}
-use Rattle.previewing.specs.declared.Previewed.TheVariants as Previewed
 use Rattle.previewing.specs.Preview.{Preview, previewed_of}
 
 pub previewed_of_injective : (a b : Previewed) → previewed_of a ≡ previewed_of b → a ≡ b

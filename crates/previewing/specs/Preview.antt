@@ -10,7 +10,6 @@ use Rattle.rows.specs.declared.SizeOf.{SizeOf}
 use Rattle.sizing.specs.Writes.{marshall_val_of}
 use Rattle.writing.specs.Marshall.{Marshalls}
 use Rattle.previewing.specs.declared.Previewed.{Previewed}
-use Rattle.previewing.specs.declared.Previewed.TheVariants as Previewed
 
 -- at how many places two lists differ, up to the end of the shorter: of lists of one length their Hamming distance
 unfoldable pub differing : List ℕ → List ℕ → ℕ

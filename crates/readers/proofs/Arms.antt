@@ -17,7 +17,7 @@ use Rattle.value.specs.Kinds.{Kind, Number, Elements, width, number_kind, elemen
 use Rattle.value.specs.Tree.{G, Gs, GConstant, GNumber, GArray, GTuple, GNumberArray, GTaggedUnion, seq_g, seq_v, case_at, Val, Vals, VConstant, VNumber, VArray, VTuple, VNumberArray, VCase, SizeOfV, SeqSum, row_count, row_counts}
 use Rattle.value.specs.Step.{Step, yield, next, give, elements}
 use Rattle.value.specs.Parse.{Parse}
-use Rattle.value.specs.Reading.{State, Stop, Reading, stop, move, begin, claim, free, take_number, take_numbers, read_body, read_fields, read_val}
+use Rattle.value.specs.Reading.{State, Stop, Reading, stop, move, begin, claim, take_number, take_numbers, read_body, read_fields, read_val}
 use Rattle.value.proofs.KindLaws.{number-kind, elements-kind, other-kinds, is_parent, not-parent}
 use Rattle.value.proofs.Agreement.{Agrees, agrees, agrees_elements, agrees_fields, agrees_accepted, elements-count, fields_count}
 use Rattle.value.proofs.Ends.{EndsBehind, ends_body, ends-value, ends-elements, ends_fields}

@@ -1,12 +1,11 @@
 -- The readers of the cycle: how a reading of parts makes a reading of the whole, with its rows.
 use mathlib.Core.Path.{◌≡◌, refl, ap, sym, ◌∙◌}
-use mathlib.Core.Logic.{◌⊎◌, inl, inr, ⊎_elim}
+use mathlib.Core.Logic.{inl, inr, ⊎_elim}
 use mathlib.Core.Bool.{Bool, true, false}
-use mathlib.Core.List.{List, [], ◌∷◌, ◌++◌, append_assoc}
+use mathlib.Core.List.{List, [], ◌∷◌, ◌++◌}
 use Prim.Native.Nat.{ℕ, suc, ◌+◌, ◌-◌, ◌*◌, ◌≤◌, ◌<◌}
 use native.Mathlib.Omega.{arith}
-use lib.ListN.{length, take, drop, length-append}
-use lib.Seq.{length-take-le, drop_at, take-take, take-append-le}
+use lib.ListN.{length}
 use native.Mathlib.Decide.{dec_le, dec_lt}
 use mathlib.Core.Path.{fun_ext}
 use borrow.Author.Tests.{lt-ltb, le-ltb, le-leb, lt-leb}

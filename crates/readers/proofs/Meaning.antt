@@ -9,7 +9,6 @@ use Rattle.readers.specs.declared.State.{State as CodeState}
 use Rattle.readers.specs.declared.Step.{Step as CodeStep}
 use Rattle.readers.specs.declared.Step.TheVariants as Step
 use Rattle.readers.specs.declared.Body.{Body}
-use Rattle.readers.specs.declared.Body.TheVariants as Body
 use Rattle.readers.specs.Meaning.{state_of, step_of, StepKeeps, body_of}
 
 state_of_injective : (s t : CodeState) → state_of s ≡ state_of t → s.capacity ≡ t.capacity → s ≡ t

@@ -4,7 +4,6 @@ use Prim.Native.Nat.{ℕ}
 use native.Mathlib.Omega.{arith}
 use Rattle.refusal.proofs.Meaning.{reason_injective}
 use Rattle.reading.specs.declared.Parsed.{Parsed}
-use Rattle.reading.specs.declared.Parsed.TheVariants as Parsed
 use Rattle.reading.specs.Meaning.{Counts, parsed_of}
 
 pub parsed_of_injective : (a b : Parsed) → parsed_of a ≡ parsed_of b → a ≡ b

@@ -44,7 +44,7 @@ use Rattle.sizing.specs.InGrammar.{check_in_grammar}
 use Rattle.sizing.specs.Writes.{value_in_grammar, check_size, value_to_write, marshall_val_of}
 use Rattle.sizing.proofs.InGrammar.{in_grammar_exactly, in_grammar-refused}
 use Rattle.xdr.specs.Xdr.{xdr_size, store_of}
-use Rattle.xdr.specs.Import.{Filling, Importing, start as start_filling, import_val, import_whole, at_end as at_xdr_end}
+use Rattle.xdr.specs.Import.{Importing, start as start_filling, import_val, import_whole, at_end as at_xdr_end}
 use Rattle.xdr.proofs.Small.{FewCases, small_of}
 use Rattle.xdr.proofs.Stops.{Stops, stops8, stops9, stops10, stops17, stops23, import_stays, front-refused}
 use Rattle.exporting.specs.Export.{value_to_export, export_of}

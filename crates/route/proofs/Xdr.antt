@@ -1,36 +1,30 @@
 -- Request 08, proved.
 use mathlib.Core.Path.{◌≡◌, refl, sym, ap, subst, ◌∙◌}
-use mathlib.Core.Logic.{◌↔◌, ◌⊎◌, inl, inr}
-use mathlib.Core.List.{List, [], ◌∷◌, ◌++◌, append-nil}
-use Prim.Native.Nat.{ℕ, ◌+◌, ◌*◌, ◌^◌, ◌≤◌, ◌<◌}
+use mathlib.Core.Logic.{◌⊎◌, inl, inr}
+use mathlib.Core.List.{List, [], ◌++◌, append-nil}
+use Prim.Native.Nat.{ℕ, ◌+◌, ◌*◌, ◌≤◌}
 use native.Mathlib.Nat.{zero-add}
 use native.Mathlib.Omega.{arith}
 use lib.ListN.{length, take, drop, length-append, length-drop}
 use lib.Seq.{take_at, drop_at, take_all}
-use lib.Dec.{leb}
-use borrow.Author.Tests.{le-leb}
-use Rattle.refusal.specs.Outcome.{Outcome, accepted, refused, bind, test, map, contents, Reason, reason, byte}
-use Rattle.refusal.proofs.Outcome.{map-accepted, bind_inverse, test-true}
-use Rattle.packed.specs.Packed.{Bytes, Below, put}
+use Rattle.refusal.specs.Outcome.{Outcome, accepted, refused, map, contents, Reason, reason, byte}
+use Rattle.refusal.proofs.Outcome.{map-accepted}
+use Rattle.packed.specs.Packed.{put}
 use Rattle.packed.proofs.Put.{length-put}
 use Rattle.packed.proofs.Source.{put-there}
-use Rattle.big_endian.specs.BigEndian.{pack_big_endian, pack_big_endian_seq, unpack_big_endian}
+use Rattle.big_endian.specs.BigEndian.{pack_big_endian, pack_big_endian_seq}
 use Rattle.big_endian.proofs.Laws.{length_pack_big, unpack_big_packed, pack_big_unpack, unpack_big_sum, pack_big_seq_of-bytes}
 use Rattle.big_endian.proofs.Calls.{unpack_big_none, unpack_big_next}
 use Rattle.value.specs.Tree.{G, Val, ValueOf, row_count}
 use Rattle.value.specs.Step.{Step}
 use Rattle.tables.specs.Row.{row_width}
-use Rattle.grammar.specs.Check.{check_grammar}
-use Rattle.grammar.specs.Rule.{Passes}
 use Rattle.grammar.specs.Tree.{tree_of}
 use Rattle.grammar.proofs.Rule.{accepted_exactly}
 use Rattle.grammar.proofs.Tree.{tree_valid}
 use Rattle.rows.specs.Walk.{walk}
-use Rattle.rows.specs.Rule.{TableOf}
-use Rattle.rows.specs.Meaning.{size_of}
 use Rattle.rows.proofs.Rule.{accepted_exactly as rows_exactly}
 use Rattle.admission.specs.Admission.{capacity_of}
-use Rattle.xdr.specs.Xdr.{padding, padded, xdr_of, xdr_size, store_of, rows_in}
+use Rattle.xdr.specs.Xdr.{padded, xdr_of, xdr_size, store_of, rows_in}
 use Rattle.xdr.specs.Import.{Filling, Importing, start, import_whole, import_to}
 use Rattle.xdr.proofs.Sizes.{padding-few, padding-four, padded-numbers, sizes}
 use Rattle.xdr.proofs.Rows.{length-rows_in, packed_walk}
@@ -38,13 +32,13 @@ use Rattle.xdr.proofs.Import.{Small}
 use Rattle.xdr.proofs.AtArray.{at-array}
 use Rattle.xdr.proofs.Small.{small_of}
 use Rattle.xdr.proofs.Whole.{Imported as Whole, whole-fits, whole-few, whole_tight, whole_either, whole-accepted, one_meaning}
-use Rattle.exporting.specs.Export.{export_of, Exports}
+use Rattle.exporting.specs.Export.{export_of}
 use Rattle.exporting.proofs.Narrow.{tree_few}
 use Rattle.exporting.proofs.Exports.{accepted_exports, export_accepted}
 use Rattle.importing.specs.Meaning.{Counts, imported_of}
-use Rattle.importing.specs.Calls.{admit_of, import_of, counts_of, Imports}
+use Rattle.importing.specs.Calls.{import_of, counts_of}
 use Rattle.importing.specs.declared.Imported.{Imported}
-use Rattle.route.specs.Demands.{PutThere, Grammar, ValueOfGrammar}
+use Rattle.route.specs.Demands.{PutThere, Grammar}
 use Rattle.route.specs.Xdr.{XdrRule, XdrOf, Import, Brought, ImportsExactly, TooLittleLent, ExportThenImport, ImportThenExport, Xdr}
 use Rattle.route.proofs.Put.{put-at}
 use Rattle.route.proofs.Reading.{value_of, of-value, put_front}

@@ -1,13 +1,12 @@
 -- Document 02's request 08, XDR for the rack software, as statements over the definitions that the contracts of `export_xdr` and `import_xdr`
 -- cite. Above each part stand the words that it says, and what would leave it empty; proofs/Xdr.antt proves them.
 use Rattle.std.specs.Prelude.{◌≡◌, ◌↔◌, ◌⊎◌, List, [], ◌∷◌, ◌++◌, ℕ, ◌+◌, ◌*◌, ◌%◌, ◌^◌, ◌≤◌, ◌<◌, length, take, drop, replicate, get_or, ℤ}
-use Rattle.refusal.specs.Outcome.{Outcome, accepted, refused, byte, Reason, reason}
-use Rattle.packed.specs.Packed.{Bytes, Below, pack_little_endian_seq, put}
+use Rattle.refusal.specs.Outcome.{accepted, refused, byte, reason}
+use Rattle.packed.specs.Packed.{Bytes, Below}
 use Rattle.big_endian.specs.BigEndian.{pack_big_endian, pack_big_endian_seq, unpack_big_endian}
 use Rattle.value.specs.Kinds.{Elements}
 use Rattle.value.specs.Tree.{Val, Vals, VConstant, VArray, VTuple, VCase, vnil, vcons, VUint32, VUint64, VByteArray, VUint32Array, VUint64Array, seq_v, SizeOfV, row_count}
 use Rattle.value.specs.Signed.{pattern_of, VInt32, VInt64}
-use Rattle.value.specs.Step.{Step}
 use Rattle.tables.specs.Row.{row_width}
 use Rattle.rows.specs.Walk.{walk}
 use Rattle.rows.specs.Meaning.{size_of}

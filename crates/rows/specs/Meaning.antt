@@ -4,11 +4,8 @@ use Rattle.refusal.specs.Outcome.{Outcome, accepted, refused, Reason}
 use Rattle.refusal.specs.Meaning.{reason_of}
 use Rattle.rows.specs.Locate.{Part}
 use Rattle.rows.specs.declared.Wanted.{Wanted}
-use Rattle.rows.specs.declared.Wanted.TheVariants as Wanted
 use Rattle.rows.specs.declared.SizeOf.{SizeOf}
-use Rattle.rows.specs.declared.SizeOf.TheVariants as SizeOf
 use Rattle.rows.specs.declared.Located.{Located}
-use Rattle.rows.specs.declared.Located.TheVariants as Located
 
 -- how many children a row wants
 abbrev pub wanted : Wanted → Outcome Reason ℕ

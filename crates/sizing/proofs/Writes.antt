@@ -22,7 +22,6 @@ use Rattle.grammar.proofs.Rule.{accepted_exactly as grammar_exactly}
 use Rattle.rows.specs.Walk.{walk}
 use Rattle.rows.specs.Meaning.{size_of}
 use Rattle.rows.specs.declared.SizeOf.{SizeOf}
-use Rattle.rows.specs.declared.SizeOf.TheVariants as SizeOf
 use Rattle.rows.proofs.Calls.{Table, passed}
 use Rattle.sizing.specs.InGrammar.{check_in_grammar}
 use Rattle.sizing.specs.Checks.{Standing}

@@ -8,24 +8,24 @@ use lib.ListN.{length, take, drop, length-append, length-drop, take-append-drop,
 use lib.Seq.{drop-drop, take_at, drop_at, length-take-le}
 use lib.Dec.{leb, ltb, eqb, T, leb→le, ltb→lt, nleb→lt, nltb→le, eqb→eq}
 use borrow.Author.Tests.{le-leb}
-use Rattle.refusal.specs.Outcome.{Outcome, accepted, refused, bind, test, Reason, reason, byte}
-use Rattle.refusal.proofs.Outcome.{Post, holds, fails, post_bind, post_test, post_reflects, post_weaken, bind-test, bind_assoc, test-true}
+use Rattle.refusal.specs.Outcome.{accepted, refused, bind, test, reason, byte}
+use Rattle.refusal.proofs.Outcome.{Post, fails, post_bind, post_test, post_reflects, post_weaken, bind-test, bind_assoc}
 use Rattle.refusal.proofs.Tests.{and-true}
-use Rattle.packed.specs.Packed.{Bytes, Below, room}
+use Rattle.packed.specs.Packed.{Bytes, Below}
 use Rattle.packed.proofs.Laws.{bytes_drop, length_pack_seq}
 use Rattle.packed.proofs.Calls.{room-test}
-use Rattle.big_endian.specs.BigEndian.{pack_big_endian, unpack_big_endian, pack_big_endian_seq, unpack_big_endian_seq}
+use Rattle.big_endian.specs.BigEndian.{pack_big_endian, pack_big_endian_seq, unpack_big_endian_seq}
 use Rattle.big_endian.proofs.Laws.{length_pack_big, unpack_big_packed, unpack_big_below, pack_big_unpack, length_pack_big_seq, length_unpack_big_seq, unpack_big_seq_below, unpack_big_seq_pack_seq, pack_big_seq_unpack_seq}
 use Rattle.value.specs.Kinds.{width, Elements, element_width}
-use Rattle.value.specs.Tree.{G, Gs, GConstant, GNumber, GArray, GTuple, GNumberArray, GTaggedUnion, gnil, gcons, Val, Vals, VConstant, VNumber, VArray, VTuple, VNumberArray, VCase, vnil, vcons, seq_g, seq_v, case_at, ValInGrammar, AllInGrammar, EachInGrammar, in_constant, in_number, in_array, in_tuple, in_number_array, in_case, all_nil, all_cons, each_nil, each_cons, ValidGrammar, ValidGrammars, ValidVal, ValidVals, TypedVal, TypedVals, ValueOf, ElementsOf, FieldsOf, row_count, row_counts}
+use Rattle.value.specs.Tree.{G, Gs, GConstant, GNumber, GArray, GTuple, GNumberArray, GTaggedUnion, gnil, gcons, Val, Vals, VConstant, VNumber, VArray, VTuple, VNumberArray, VCase, vnil, vcons, seq_g, seq_v, case_at, ValInGrammar, AllInGrammar, EachInGrammar, in_constant, in_number, in_array, in_tuple, in_number_array, in_case, all_nil, all_cons, each_nil, each_cons, ValidGrammar, ValidGrammars, ValidVal, TypedVal, TypedVals, ValueOf, ElementsOf, FieldsOf, row_count, row_counts}
 use Rattle.value.specs.Step.{Step, yield, next, give, both, elements}
 use Rattle.value.proofs.KindLaws.{width_positive}
 use Rattle.value.proofs.Laws.{each_length}
 use Rattle.value.proofs.Agreement.{row_count_positive, count-rows, gives}
 use Rattle.rows.proofs.LayoutLaws.{after, within}
 use Rattle.xdr.specs.Xdr.{padding, padded, xdr_of, xdr_of_all, xdr_size, store_of, store_of_all}
-use Rattle.xdr.specs.Import.{Filling, Importing, refusal, start, move, begin, fill, zeros, claim, claimed, free, take_number, check_body, take_body, take_numbers, import_body, import_fields, import_case_at, import_val}
-use Rattle.xdr.proofs.Sizes.{length-padded, length-elements}
+use Rattle.xdr.specs.Import.{Filling, Importing, move, begin, fill, zeros, claim, claimed, free, take_number, check_body, take_body, take_numbers, import_body, import_fields, import_case_at, import_val}
+use Rattle.xdr.proofs.Sizes.{length-elements}
 
 -- counts and tags that 4 bytes hold
 unfoldable mutual

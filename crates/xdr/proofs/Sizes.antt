@@ -1,5 +1,5 @@
 -- How many bytes: of the padding, of the XDR bytes beside those of the record and of the store.
-use mathlib.Core.Path.{◌≡◌, refl, ap, sym, ◌∙◌}
+use mathlib.Core.Path.{◌≡◌}
 use mathlib.Core.List.{List, append-nil}
 use Prim.Native.Nat.{ℕ, ◌+◌, ◌*◌, ◌%◌, ◌≤◌}
 use native.Mathlib.Nat.{mul_assoc}
@@ -8,7 +8,7 @@ use lib.ListN.{length, length-append, length-replicate}
 use Rattle.packed.proofs.Laws.{length_pack_seq}
 use Rattle.big_endian.specs.BigEndian.{pack_big_endian_seq}
 use Rattle.big_endian.proofs.Laws.{length_pack_big, length_pack_big_seq}
-use Rattle.value.specs.Kinds.{width, Elements, bytes, uint32s, uint64s, element_width}
+use Rattle.value.specs.Kinds.{width, Elements, element_width}
 use Rattle.value.specs.Tree.{Val, Vals, VConstant, VNumber, VArray, VTuple, VNumberArray, VCase, vnil, vcons, SizeOfV, SeqSum, row_count, row_counts}
 use Rattle.xdr.specs.Xdr.{padding, padded, xdr_of, xdr_of_all, xdr_size, store_of, store_of_all}
 

@@ -1,21 +1,20 @@
 -- Where an import is refused, and what a refusal says of the values that the bytes begin with.
-use mathlib.Core.Path.{◌≡◌, refl, sym, ap, ◌∙◌}
+use mathlib.Core.Path.{◌≡◌, sym, ap}
 use mathlib.Core.Logic.{◌⊎◌, inl, inr}
-use mathlib.Core.Bool.{Bool}
 use mathlib.Core.List.{List, ◌++◌}
 use Prim.Native.Nat.{ℕ, zero, suc, ◌+◌, ◌-◌, ◌*◌, ◌≤◌, ◌<◌}
 use native.Mathlib.Omega.{arith}
 use lib.ListN.{length, take, drop, length-drop}
 use lib.Dec.{leb, ltb, leb→le}
-use Rattle.refusal.specs.Outcome.{Outcome, accepted, refused, test, Reason, reason, byte}
-use Rattle.refusal.proofs.Outcome.{Post, holds, fails, post_bind, post_test, post_weaken, post_refused, bind-test, clash}
+use Rattle.refusal.specs.Outcome.{refused, Reason, reason, byte}
+use Rattle.refusal.proofs.Outcome.{Post, fails, post_bind, post_test, bind-test, clash}
 use Rattle.packed.proofs.Calls.{room-test}
 use Rattle.value.specs.Kinds.{width, Elements, element_width}
-use Rattle.value.specs.Tree.{G, Gs, GConstant, GNumber, GArray, GTuple, GNumberArray, GTaggedUnion, gnil, gcons, Val, Vals, VNumber, VArray, VTuple, VNumberArray, VCase, vcons, ValueOf, row_count}
+use Rattle.value.specs.Tree.{G, Gs, GConstant, GNumber, GArray, GTuple, GNumberArray, GTaggedUnion, gnil, gcons, Val, Vals, VArray, VTuple, VNumberArray, VCase, vcons, ValueOf, row_count}
 use Rattle.value.specs.Step.{Step, next, give, both, elements}
 use Rattle.value.proofs.Agreement.{gives}
 use Rattle.xdr.specs.Xdr.{padding, xdr_of, xdr_size, store_of}
-use Rattle.xdr.specs.Import.{Filling, Importing, start, move, begin, zeros, claim, claimed, free, take_number, check_body, take_body, take_numbers, import_body, import_fields, import_case_at, import_val}
+use Rattle.xdr.specs.Import.{Filling, Importing, start, move, begin, zeros, claim, claimed, free, take_number, check_body, take_numbers, import_body, import_fields, import_case_at, import_val}
 use Rattle.xdr.proofs.Import.{Small, Fate, fits, few, tight, import_fate}
 
 abbrev number_of : Reason → ℕ

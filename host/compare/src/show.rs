@@ -22,10 +22,10 @@ pub fn show_input(grammar: &[u32], record: &[u8]) -> Vec<u8> {
 fn program() -> PathBuf {
     let root = Path::new(env!("CARGO_MANIFEST_DIR")).ancestors().nth(2);
     let root = root.expect("this crate stands two folders below the repository's root");
-    let program = root.join("target/bin/show");
+    let program = root.join("crates/show/out/show");
     assert!(
         program.is_file(),
-        "There is no {}: `rt check show`, run in {}, builds it.",
+        "There is no {}: `rt run show </dev/null`, run in {}, builds it.",
         program.display(),
         root.display()
     );

@@ -1,7 +1,7 @@
 use Rattle.choosing.specs.Choose.{count_at}
 use Rattle.choosing.proofs.Laws.{count-first, next-at, cut_short}
 use mathlib.Core.Path.{◌≡◌, ap, ◌∙◌}
-use Prim.Native.Nat.{ℕ, ◌-◌}
+use Prim.Native.Nat.{ℕ}
 use native.Mathlib.Omega.{arith}
 use lib.ListN.{length}
 use lib.Dec.{eqb}

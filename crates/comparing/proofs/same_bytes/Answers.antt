@@ -2,7 +2,7 @@ use mathlib.Core.Path.{◌≡◌, refl, sym, ap, ◌∙◌}
 use mathlib.Core.Logic.{◌↔◌}
 use mathlib.Core.Bool.{Bool, true, false}
 use mathlib.Core.List.{List}
-use Prim.Native.Nat.{ℕ, ◌-◌}
+use Prim.Native.Nat.{ℕ}
 use native.Mathlib.Omega.{arith}
 use lib.ListN.{length, get_or}
 use lib.Seq.{ext_get_or}
@@ -25,8 +25,8 @@ loop-i-preserved c =
       l.invariant.0,
       omega arith,
       elim c.if-a-i.branch [
-        then-a-i w ↦ other w.same-is (λ p. w.if-a-i.true (p l.i (omega arith)))
-      | else-a-i w ↦ (λ p. w.same-is ∙ l.invariant.2.0 (λ k m. p k (omega (arith, m))), λ e. below_more _ _ (l.invariant.2.1 (sym w.same-is ∙ e)) w.if-a-i.false)
+        | then-a-i w ↦ other w.same-is (λ p. w.if-a-i.true (p l.i (omega arith)))
+        | else-a-i w ↦ (λ p. w.same-is ∙ l.invariant.2.0 (λ k m. p k (omega (arith, m))), λ e. below_more _ _ (l.invariant.2.1 (sym w.same-is ∙ e)) w.if-a-i.false)
       ],
     )
 

@@ -1,5 +1,5 @@
 use mathlib.Core.Path.{refl, ap, ◌∙◌}
-use Prim.Native.Nat.{ℕ, ◌+◌, ◌-◌, ◌≤◌}
+use Prim.Native.Nat.{ℕ, ◌+◌, ◌≤◌}
 use native.Mathlib.Omega.{arith}
 use lib.ListN.{length, length-set}
 use Rattle.xdr.proofs.Sizes.{padding-few}
@@ -21,8 +21,8 @@ loop-i-preserved c =
       l.invariant.2,
       elim c.if-i-count.branch [ then-i-count w ↦ ap length w.out-is ∙ simp length-set l.invariant.3 | else-i-count w ↦ ap length w.out-is ∙ l.invariant.3 ],
       elim c.if-i-count.branch [
-        then-i-count w ↦ w.out-is ∙ zeros-next a.out.now l.out a.index _ l.i l.invariant.4 w.if-i-count.true l.invariant.2
-      | else-i-count w ↦ w.out-is ∙ zeros-all a.out.now l.out a.index _ l.i l.invariant.4 w.if-i-count.false
+        | then-i-count w ↦ w.out-is ∙ zeros-next a.out.now l.out a.index _ l.i l.invariant.4 w.if-i-count.true l.invariant.2
+        | else-i-count w ↦ w.out-is ∙ zeros-all a.out.now l.out a.index _ l.i l.invariant.4 w.if-i-count.false
       ],
     )
 

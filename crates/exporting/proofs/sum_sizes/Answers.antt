@@ -1,5 +1,4 @@
 use mathlib.Core.Path.{◌≡◌, ap, ◌∙◌}
-use Prim.Native.Nat.{◌-◌}
 use native.Mathlib.Omega.{arith}
 use Rattle.rows.specs.Size.{most_own_size, sum_from}
 use Rattle.rows.proofs.Loop.{size_none, size-next, size_below}

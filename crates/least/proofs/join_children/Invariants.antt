@@ -1,6 +1,6 @@
 -- The loop's invariant: what the children from child i on give.
 use mathlib.Core.Path.{◌≡◌}
-use Prim.Native.Nat.{◌-◌, ◌≤◌}
+use Prim.Native.Nat.{◌≤◌}
 use Rattle.tables.specs.Grammar.{first_word, count_word}
 use Rattle.least.specs.Least.{length_of}
 use Rattle.least.proofs.Laws.{joined_from}

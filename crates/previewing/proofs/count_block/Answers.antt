@@ -1,5 +1,5 @@
 use mathlib.Core.Path.{◌≡◌, ap, sym, ◌∙◌}
-use Prim.Native.Nat.{ℕ, ◌+◌, ◌-◌, ◌≤◌}
+use Prim.Native.Nat.{ℕ, ◌+◌, ◌≤◌}
 use native.Mathlib.Omega.{arith}
 use lib.ListN.{take, drop}
 use Rattle.previewing.specs.Preview.{differing}
@@ -24,8 +24,8 @@ loop-k-preserved c =
     let l = c.loop-k in (
       omega arith,
       elim c.if-a-i.branch [
-        then-a-i w ↦ w.changed-is ∙ ap (λ (n : ℕ). n + 1) l.invariant.1 ∙ sym (next-different a.a.now a.i a.b.now a.j l.k (omega arith) (omega arith) w.if-a-i.true)
-      | else-a-i w ↦ w.changed-is ∙ l.invariant.1 ∙ sym (next-equal a.a.now a.i a.b.now a.j l.k (omega arith) (omega arith) w.if-a-i.false)
+        | then-a-i w ↦ w.changed-is ∙ ap (λ (n : ℕ). n + 1) l.invariant.1 ∙ sym (next-different a.a.now a.i a.b.now a.j l.k (omega arith) (omega arith) w.if-a-i.true)
+        | else-a-i w ↦ w.changed-is ∙ l.invariant.1 ∙ sym (next-equal a.a.now a.i a.b.now a.j l.k (omega arith) (omega arith) w.if-a-i.false)
       ],
     )
 

@@ -1,5 +1,5 @@
 use mathlib.Core.Path.{◌≡◌, ap, sym, ◌∙◌}
-use Prim.Native.Nat.{ℕ, ◌+◌, ◌-◌, ◌≤◌, ◌<◌}
+use Prim.Native.Nat.{ℕ, ◌+◌, ◌≤◌, ◌<◌}
 use native.Mathlib.Omega.{arith}
 use lib.ListN.{take, drop}
 use Rattle.previewing.specs.Preview.{differing}
@@ -12,8 +12,8 @@ block : (c : Joined-size-gt-BLOCK) → (0 < c.if-size-gt-BLOCK.size) × (c.if-si
 block c =
     let t = c.loop-k-test.true in
     elim c.if-size-gt-BLOCK.branch [
-      then-size-gt-BLOCK w ↦ (omega (arith, w.size-is), omega (arith, w.size-is), omega (arith, w.size-is, w.if-size-gt-BLOCK.true, t))
-    | else-size-gt-BLOCK w ↦ (omega (arith, w.size-is, t), omega (arith, w.size-is, w.if-size-gt-BLOCK.false), omega (arith, w.size-is, t))
+      | then-size-gt-BLOCK w ↦ (omega (arith, w.size-is), omega (arith, w.size-is), omega (arith, w.size-is, w.if-size-gt-BLOCK.true, t))
+      | else-size-gt-BLOCK w ↦ (omega (arith, w.size-is, t), omega (arith, w.size-is, w.if-size-gt-BLOCK.false), omega (arith, w.size-is, t))
     ]
 
 pub loop-k-init : goal.loop-k-init

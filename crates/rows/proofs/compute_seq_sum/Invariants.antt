@@ -1,6 +1,6 @@
 -- The loop's invariant: the children that are left have passed, and their sizes and the sum are the whole.
 use mathlib.Core.Path.{◌≡◌}
-use Prim.Native.Nat.{◌+◌, ◌-◌, ◌*◌, ◌≤◌}
+use Prim.Native.Nat.{◌+◌, ◌*◌, ◌≤◌}
 use Rattle.rows.specs.Size.{most_own_size, child_sizes, ChildrenHold}
 use Rattle.rows.proofs.compute_seq_sum.Given as goal
 
