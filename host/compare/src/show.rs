@@ -25,9 +25,9 @@ fn program() -> PathBuf {
     let program = root.join("crates/show/out/show");
     assert!(
         program.is_file(),
-        "There is no {}: `rt run show </dev/null`, run in {}, builds it.",
+        "There is no {}: `rt run <stdin`, run in {}, builds it.",
         program.display(),
-        root.display()
+        root.join("crates/show").display()
     );
     program
 }
