@@ -50,8 +50,8 @@ count_word_lem c e =
     let a = c.args in
     by_words a.rows.now a.row c.kind_at-kind.ensures c.word2_at-word2.ensures c.word3_at-place.ensures narrow e ∙ c.requires.0.count
 
-array-words : (c : After-word3_at-place) (k : Elements) → kind_of (this c).kind ≡ elements k → let a = c.args in let n = element_width k * (this c).word2 in ((j : Elements) × (element_width k ≡ element_width j)) × ((this c).word2 < 256 ^ 4) × ((this c).word3 + n ≤ length a.store.now) × (a.index + (4 + (n + padding n)) ≤ length a.out.now)
-array-words c k e =
+array_words : (c : After-word3_at-place) (k : Elements) → kind_of (this c).kind ≡ elements k → let a = c.args in let n = element_width k * (this c).word2 in ((j : Elements) × (element_width k ≡ element_width j)) × ((this c).word2 < 256 ^ 4) × ((this c).word3 + n ≤ length a.store.now) × (a.index + (4 + (n + padding n)) ≤ length a.out.now)
+array_words c k e =
     let a = c.args in
     ((k, refl), ltb-true (this c).word2 (256 ^ 4) (count_word_lem c e), elements_fit a.rows.now a.row c.kind_at-kind.ensures c.word2_at-word2.ensures c.word3_at-place.ensures k e c.requires.0.holds, room c e)
 
@@ -77,15 +77,15 @@ export_uint32-requires-in-3 c = room (goal.at.export_uint32-requires-in-3 c).Aft
 
 pub export_elements-requires : goal.export_elements-requires
 unfolding kind_of kinds own_xdr
-export_elements-requires c = array-words (goal.at.export_elements-requires c).After-word3_at-place bytes (ap kind_of c.in-5.is)
+export_elements-requires c = array_words (goal.at.export_elements-requires c).After-word3_at-place bytes (ap kind_of c.in-5.is)
 
 pub export_elements-requires-in-6 : goal.export_elements-requires-in-6
 unfolding kind_of kinds own_xdr
-export_elements-requires-in-6 c = array-words (goal.at.export_elements-requires-in-6 c).After-word3_at-place uint32s (ap kind_of c.in-6.is)
+export_elements-requires-in-6 c = array_words (goal.at.export_elements-requires-in-6 c).After-word3_at-place uint32s (ap kind_of c.in-6.is)
 
 pub export_elements-requires-in-7 : goal.export_elements-requires-in-7
 unfolding kind_of kinds own_xdr
-export_elements-requires-in-7 c = array-words (goal.at.export_elements-requires-in-7 c).After-word3_at-place uint64s (ap kind_of c.in-7.is)
+export_elements-requires-in-7 c = array_words (goal.at.export_elements-requires-in-7 c).After-word3_at-place uint64s (ap kind_of c.in-7.is)
 
 pub overflow_cast-word2-in-8 : goal.overflow_cast-word2-in-8
 unfolding kind_of kinds own_xdr

@@ -27,16 +27,16 @@ small : (c : After-kind_at) {k : ℕ} → c.kind_at.result ≡ k → size c (kin
 small c {k} e = subst (λ (x : ℕ). x ≤ most_own_size) (sym (arm c {k = k} e refl)) c.requires
 
 -- in the arm of kind 5
-padded-bytes : (c : After-padding) → c.word2_at-count.result + c.padding.result ≡ 1 * (this (goal.at.After-padding c).After-kind_at).word2 + padding (1 * (this (goal.at.After-padding c).After-kind_at).word2)
-padded-bytes c = rw (c.padding.ensures, c.word2_at-count.ensures, one-mul)
+padded_bytes : (c : After-padding) → c.word2_at-count.result + c.padding.result ≡ 1 * (this (goal.at.After-padding c).After-kind_at).word2 + padding (1 * (this (goal.at.After-padding c).After-kind_at).word2)
+padded_bytes c = rw (c.padding.ensures, c.word2_at-count.ensures, one-mul)
 
 pub overflow_add-result : goal.overflow_add-result
 unfolding kind_of kinds
-overflow_add-result c = omega (arith, small (goal.at.overflow_add-result c).After-kind_at c.in-5.is, padded-bytes c)
+overflow_add-result c = omega (arith, small (goal.at.overflow_add-result c).After-kind_at c.in-5.is, padded_bytes c)
 
 pub overflow_add-result-in-5 : goal.overflow_add-result-in-5
 unfolding kind_of kinds
-overflow_add-result-in-5 c = omega (arith, small (goal.at.overflow_add-result-in-5 c).After-kind_at c.in-5.is, padded-bytes c)
+overflow_add-result-in-5 c = omega (arith, small (goal.at.overflow_add-result-in-5 c).After-kind_at c.in-5.is, padded_bytes c)
 
 pub overflow_mul-result : goal.overflow_mul-result
 unfolding kind_of kinds
@@ -76,7 +76,7 @@ returns-in-4 c = arm (goal.at.returns-in-4 c).After-kind_at c.in-4.is refl
 
 pub returns-in-5 : goal.returns-in-5
 unfolding kind_of kinds
-returns-in-5 c = arm (goal.at.returns-in-5 c).After-kind_at c.in-5.is (omega (arith, padded-bytes c))
+returns-in-5 c = arm (goal.at.returns-in-5 c).After-kind_at c.in-5.is (omega (arith, padded_bytes c))
 
 pub returns-in-6 : goal.returns-in-6
 unfolding kind_of kinds

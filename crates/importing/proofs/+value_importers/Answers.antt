@@ -23,25 +23,25 @@ use Rattle.importing.proofs.+value_importers.Goals as goal
 use Rattle.importing.proofs.+value_importers.Goals.{import_array-In-Number, import_case-In-Number, import_value-After-word-kind, import_value-In-Next}
 
 -- a count was taken
-count-taken : (t : ℕ) (c : import_array-In-Number t) → let a = c.args in yield c.in-Number.count (filling_of c.in-Number.t) ≡ take_below a.bytes.now (a.lent.capacity - a.s.begun + 1) 8 (filling_of a.s)
-count-taken t c = ap taken_of (sym c.in-Number.is) ∙ c.take_below.ensures.0
+count_taken : (t : ℕ) (c : import_array-In-Number t) → let a = c.args in yield c.in-Number.count (filling_of c.in-Number.t) ≡ take_below a.bytes.now (a.lent.capacity - a.s.begun + 1) 8 (filling_of a.s)
+count_taken t c = ap taken_of (sym c.in-Number.is) ∙ c.take_below.ensures.0
 
-count-size : (t : ℕ) (c : import_array-In-Number t) → c.in-Number.t.size ≡ c.args.s.size + 8
-count-size t c = subst (TakenSize _) c.in-Number.is c.take_below.ensures.1
+count_size : (t : ℕ) (c : import_array-In-Number t) → c.in-Number.t.size ≡ c.args.s.size + 8
+count_size t c = subst (TakenSize _) c.in-Number.is c.take_below.ensures.1
 
 pub import_array-import_array_contents-read-requires : goal.import_array-import_array_contents-read-requires
 import_array-import_array_contents-read-requires t c =
     let a = c.args in
-    let h = count-taken t (goal.at.import_array-import_array_contents-read-requires t c).In-Number in
+    let h = count_taken t (goal.at.import_array-import_array_contents-read-requires t c).In-Number in
     let x = below_taken a.bytes.now (a.lent.capacity - a.s.begun + 1) 8 (filling_of a.s) c.in-Number.count c.in-Number.t h in
-    (omega (arith, c.decreases, x.1), (c.requires.node, c.requires.kind, ready-below (a.lent.capacity - a.s.begun + 1) 8 a.s c.in-Number.count c.in-Number.t c.requires h (count-size t (goal.at.import_array-import_array_contents-read-requires t c).In-Number)))
+    (omega (arith, c.decreases, x.1), (c.requires.node, c.requires.kind, ready-below (a.lent.capacity - a.s.begun + 1) 8 a.s c.in-Number.count c.in-Number.t c.requires h (count_size t (goal.at.import_array-import_array_contents-read-requires t c).In-Number)))
 
 pub import_array-close_row-requires : goal.import_array-close_row-requires
 import_array-close_row-requires t c =
     let a = c.args in
     let p = c.requires in
-    let h = count-taken t (goal.at.import_array-close_row-requires t c).In-Number in
-    let z = count-size t (goal.at.import_array-close_row-requires t c).In-Number in
+    let h = count_taken t (goal.at.import_array-close_row-requires t c).In-Number in
+    let z = count_size t (goal.at.import_array-close_row-requires t c).In-Number in
     let x = below_taken a.bytes.now (a.lent.capacity - a.s.begun + 1) 8 (filling_of a.s) c.in-Number.count c.in-Number.t h in
     counted-children a.grammar.now a.bytes.now a.lent c.in-Number.t (child_place a.grammar.now a.node) 0 c.in-Number.count c.import_array_contents-read.result p.node.table (ready-below (a.lent.capacity - a.s.begun + 1) 8 a.s c.in-Number.count c.in-Number.t p h z) (omega (arith, x.1, p.claimed)) (omega (arith, z)) c.import_array_contents-read.ensures
 
@@ -51,7 +51,7 @@ import_array-returns-in-Refused t c =
 
 pub import_array-returns-in-Number : goal.import_array-returns-in-Number
 import_array-returns-in-Number t c =
-    arm_array c.requires refl c.in-Number.count c.in-Number.t (count-taken t (goal.at.import_array-returns-in-Number t c).In-Number) (count-size t (goal.at.import_array-returns-in-Number t c).In-Number) c.import_array_contents-read.ensures c.close_row.ensures.0 c.close_row.ensures.1
+    arm_array c.requires refl c.in-Number.count c.in-Number.t (count_taken t (goal.at.import_array-returns-in-Number t c).In-Number) (count_size t (goal.at.import_array-returns-in-Number t c).In-Number) c.import_array_contents-read.ensures c.close_row.ensures.0 c.close_row.ensures.1
 
 pub import_array_contents-import_children-requires : goal.import_array_contents-import_children-requires
 import_array_contents-import_children-requires t c =
@@ -63,17 +63,17 @@ import_array_contents-returns t c =
     rw c.child_place-place.ensures.0 at c.import_children.ensures
 
 -- a tag was taken
-tag-taken : (t : ℕ) (c : import_case-In-Number t) → let a = c.args in yield c.in-Number.tag (filling_of c.in-Number.t) ≡ take_below a.bytes.now c.word-limit.result 10 (filling_of a.s)
-tag-taken t c = ap taken_of (sym c.in-Number.is) ∙ c.take_below.ensures.0
+tag_taken : (t : ℕ) (c : import_case-In-Number t) → let a = c.args in yield c.in-Number.tag (filling_of c.in-Number.t) ≡ take_below a.bytes.now c.word-limit.result 10 (filling_of a.s)
+tag_taken t c = ap taken_of (sym c.in-Number.is) ∙ c.take_below.ensures.0
 
-tag-size : (t : ℕ) (c : import_case-In-Number t) → c.in-Number.t.size ≡ c.args.s.size + 8
-tag-size t c = subst (TakenSize _) c.in-Number.is c.take_below.ensures.1
+tag_size : (t : ℕ) (c : import_case-In-Number t) → c.in-Number.t.size ≡ c.args.s.size + 8
+tag_size t c = subst (TakenSize _) c.in-Number.is c.take_below.ensures.1
 
 tag_below : (t : ℕ) (c : import_case-In-Number t) → let a = c.args in let u = c.in-Number.t in (u.at ≡ a.s.at + 4) × (u.begun ≡ a.s.begun) × (u.used ≡ a.s.used) × (c.in-Number.tag < c.word-limit.result) × (a.s.at + 4 ≤ length a.bytes.now)
-tag_below t c = let a = c.args in below_taken a.bytes.now c.word-limit.result 10 (filling_of a.s) c.in-Number.tag c.in-Number.t (tag-taken t c)
+tag_below t c = let a = c.args in below_taken a.bytes.now c.word-limit.result 10 (filling_of a.s) c.in-Number.tag c.in-Number.t (tag_taken t c)
 
-tag-ready : (t : ℕ) (c : import_case-In-Number t) → let a = c.args in Ready a.bytes.now a.rows.now a.store.now a.lent c.in-Number.t
-tag-ready t c = let a = c.args in ready-below c.word-limit.result 10 a.s c.in-Number.tag c.in-Number.t c.requires (tag-taken t c) (tag-size t c)
+tag_ready : (t : ℕ) (c : import_case-In-Number t) → let a = c.args in Ready a.bytes.now a.rows.now a.store.now a.lent c.in-Number.t
+tag_ready t c = let a = c.args in ready-below c.word-limit.result 10 a.s c.in-Number.tag c.in-Number.t c.requires (tag_taken t c) (tag_size t c)
 
 pub import_case-overflow_add-place : goal.import_case-overflow_add-place
 import_case-overflow_add-place t c =
@@ -82,13 +82,13 @@ import_case-overflow_add-place t c =
 pub import_case-import_children-read-requires : goal.import_case-import_children-read-requires
 import_case-import_children-read-requires t c =
     let a = c.args in
-    (omega (arith, c.decreases, (tag_below t (goal.at.import_case-import_children-read-requires t c).In-Number).1), (rw c.child_place.ensures.0 (children-case a.grammar.now a.node c.requires.node c.in-Number.tag (omega (arith, (tag_below t (goal.at.import_case-import_children-read-requires t c).In-Number).3, c.word-limit.ensures.0))), tag-ready t (goal.at.import_case-import_children-read-requires t c).In-Number))
+    (omega (arith, c.decreases, (tag_below t (goal.at.import_case-import_children-read-requires t c).In-Number).1), (rw c.child_place.ensures.0 (children-case a.grammar.now a.node c.requires.node c.in-Number.tag (omega (arith, (tag_below t (goal.at.import_case-import_children-read-requires t c).In-Number).3, c.word-limit.ensures.0))), tag_ready t (goal.at.import_case-import_children-read-requires t c).In-Number))
 
 pub import_case-close_row-requires : goal.import_case-close_row-requires
 import_case-close_row-requires t c =
     let a = c.args in
     let p = c.requires in
-    counted-children a.grammar.now a.bytes.now a.lent c.in-Number.t (c.child_place.result + c.in-Number.tag) 0 1 c.import_children-read.result p.node.table (tag-ready t (goal.at.import_case-close_row-requires t c).In-Number) (omega (arith, (tag_below t (goal.at.import_case-close_row-requires t c).In-Number).1, p.claimed)) (omega (arith, tag-size t (goal.at.import_case-close_row-requires t c).In-Number)) c.import_children-read.ensures
+    counted-children a.grammar.now a.bytes.now a.lent c.in-Number.t (c.child_place.result + c.in-Number.tag) 0 1 c.import_children-read.result p.node.table (tag_ready t (goal.at.import_case-close_row-requires t c).In-Number) (omega (arith, (tag_below t (goal.at.import_case-close_row-requires t c).In-Number).1, p.claimed)) (omega (arith, tag_size t (goal.at.import_case-close_row-requires t c).In-Number)) c.import_children-read.ensures
 
 pub import_case-returns-in-Refused : goal.import_case-returns-in-Refused
 import_case-returns-in-Refused t c =
@@ -96,7 +96,7 @@ import_case-returns-in-Refused t c =
 
 pub import_case-returns-in-Number : goal.import_case-returns-in-Number
 import_case-returns-in-Number t c =
-    arm_case c.requires refl c.word-limit.result c.word-limit.ensures.0 c.in-Number.tag c.in-Number.t (c.child_place.result + c.in-Number.tag) (ap (λ (j : ℕ). j + c.in-Number.tag) c.child_place.ensures.0) (tag-taken t (goal.at.import_case-returns-in-Number t c).In-Number) (tag-size t (goal.at.import_case-returns-in-Number t c).In-Number) c.import_children-read.ensures c.close_row.ensures.0 c.close_row.ensures.1
+    arm_case c.requires refl c.word-limit.result c.word-limit.ensures.0 c.in-Number.tag c.in-Number.t (c.child_place.result + c.in-Number.tag) (ap (λ (j : ℕ). j + c.in-Number.tag) c.child_place.ensures.0) (tag_taken t (goal.at.import_case-returns-in-Number t c).In-Number) (tag_size t (goal.at.import_case-returns-in-Number t c).In-Number) c.import_children-read.ensures c.close_row.ensures.0 c.close_row.ensures.1
 
 pub import_children-loop-i-init : goal.import_children-loop-i-init
 import_children-loop-i-init t c =
@@ -164,67 +164,67 @@ claimed : (t : ℕ) (c : import_value-In-Next t) → Claimed c.args.lent.capacit
 claimed t c = claimed-next c.args.lent.capacity c.args.s c.in-Next.t c.in-Next.is c.claim.ensures.0 c.claim.ensures.1
 
 -- behind the kind word: what the reader of a leaf asks
-leaf-asked : (t : ℕ) (c : import_value-After-word-kind t) {k : ℕ} → c.word-kind.result ≡ k → is_parent k ≡ false → k ≤ last_kind → let a = c.args in Leaf c.word-kind.result × (a.node < 4294967296) × (c.in-Next.t.at ≤ length a.bytes.now) × (length a.bytes.now ≤ 1048576) × (c.in-Next.t.size ≤ most_size)
-leaf-asked t c e n l =
+leaf_asked : (t : ℕ) (c : import_value-After-word-kind t) {k : ℕ} → c.word-kind.result ≡ k → is_parent k ≡ false → k ≤ last_kind → let a = c.args in Leaf c.word-kind.result × (a.node < 4294967296) × (c.in-Next.t.at ≤ length a.bytes.now) × (length a.bytes.now ≤ 1048576) × (c.in-Next.t.size ≤ most_size)
+leaf_asked t c e n l =
     let a = c.args in
     let p = c.requires in
     let r = ready-claimed a.s c.in-Next.t p.1 (claimed t (goal.at.import_value-After-word-kind t c).In-Next) in
     (leaf e n l, omega (arith, (node-few a.grammar.now a.node p.0).0), r.inside, r.short, omega (arith, r.sized, r.inside, r.short, r.few, r.most))
 
 -- of a parent, its row claimed
-parent-asked : (t : ℕ) (c : import_value-After-word-kind t) {k : ℕ} → c.word-kind.result ≡ k → let a = c.args in let u = c.in-Next.t in (4 * (a.lent.capacity - u.begun) + 3 < t) × RowClaimed a.grammar.now a.bytes.now a.rows.now a.store.now a.node k a.s.begun a.lent u
-parent-asked t c e =
+parent_asked : (t : ℕ) (c : import_value-After-word-kind t) {k : ℕ} → c.word-kind.result ≡ k → let a = c.args in let u = c.in-Next.t in (4 * (a.lent.capacity - u.begun) + 3 < t) × RowClaimed a.grammar.now a.bytes.now a.rows.now a.store.now a.node k a.s.begun a.lent u
+parent_asked t c e =
     let a = c.args in
     let q = claimed t (goal.at.import_value-After-word-kind t c).In-Next in
     (omega (arith, c.decreases, q.begun, q.free), record { node = c.requires.0; kind = sym c.word-kind.ensures.0 ∙ e; ready = ready-claimed a.s c.in-Next.t c.requires.1 q; claimed = q.begun; sized = omega (arith, q.at, q.size, c.requires.1.sized) })
 
 -- what a reader brings, the value brings: of a parent, by the tree of its node
-parent-brought : (t : ℕ) (c : import_value-After-word-kind t) {r : CodeStep} {rows₁ store₁ : List ℕ} → let a = c.args in let u = c.in-Next.t in let g = tree_of a.grammar.now a.node in Brings rows_in store_of SizeOfV (import_body a.lent.capacity a.lent.room a.bytes.now g (filling_of u)) a.s.begun u.used u.size a.rows.now a.store.now r rows₁ store₁ → Brings rows_in store_of SizeOfV (import_val a.lent.capacity a.lent.room a.bytes.now g (filling_of a.s)) a.s.begun a.s.used a.s.size a.rows.now a.store.now r rows₁ store₁
-parent-brought t c h =
+parent_brought : (t : ℕ) (c : import_value-After-word-kind t) {r : CodeStep} {rows₁ store₁ : List ℕ} → let a = c.args in let u = c.in-Next.t in let g = tree_of a.grammar.now a.node in Brings rows_in store_of SizeOfV (import_body a.lent.capacity a.lent.room a.bytes.now g (filling_of u)) a.s.begun u.used u.size a.rows.now a.store.now r rows₁ store₁ → Brings rows_in store_of SizeOfV (import_val a.lent.capacity a.lent.room a.bytes.now g (filling_of a.s)) a.s.begun a.s.used a.s.size a.rows.now a.store.now r rows₁ store₁
+parent_brought t c h =
     let a = c.args in
     arm_body a.lent.capacity a.lent.room a.bytes.now (tree_of a.grammar.now a.node) a.s c.in-Next.t (claimed t (goal.at.import_value-After-word-kind t c).In-Next) h
 
 -- and of a leaf, by its kind word
-leaf-brought : (t : ℕ) (c : import_value-After-word-kind t) {r : CodeStep} {rows₁ store₁ : List ℕ} → let a = c.args in let u = c.in-Next.t in ((capacity : ℕ) (gs : Gs) → Brings rows_in store_of SizeOfV (import_body capacity a.lent.room a.bytes.now (node_tree (kind_of c.word-kind.result) gs) (filling_of u)) a.s.begun u.used u.size a.rows.now a.store.now r rows₁ store₁) → Brings rows_in store_of SizeOfV (import_val a.lent.capacity a.lent.room a.bytes.now (tree_of a.grammar.now a.node) (filling_of a.s)) a.s.begun a.s.used a.s.size a.rows.now a.store.now r rows₁ store₁
-leaf-brought t c h =
+leaf_brought : (t : ℕ) (c : import_value-After-word-kind t) {r : CodeStep} {rows₁ store₁ : List ℕ} → let a = c.args in let u = c.in-Next.t in ((capacity : ℕ) (gs : Gs) → Brings rows_in store_of SizeOfV (import_body capacity a.lent.room a.bytes.now (node_tree (kind_of c.word-kind.result) gs) (filling_of u)) a.s.begun u.used u.size a.rows.now a.store.now r rows₁ store₁) → Brings rows_in store_of SizeOfV (import_val a.lent.capacity a.lent.room a.bytes.now (tree_of a.grammar.now a.node) (filling_of a.s)) a.s.begun a.s.used a.s.size a.rows.now a.store.now r rows₁ store₁
+leaf_brought t c h =
     let a = c.args in
     let g = a.grammar.now in
     let gs = child_trees g (tree_of g) (first_word g a.node) (count_word g a.node) in
     let e : tree_of g a.node ≡ node_tree (kind_of c.word-kind.result) gs = kind_tree g a.node c.requires.0 ∙ ap (λ (w : ℕ). node_tree (kind_of w) gs) (sym c.word-kind.ensures.0) in
-    parent-brought t c (rw e (h a.lent.capacity gs))
+    parent_brought t c (rw e (h a.lent.capacity gs))
 
 pub import_value-import_leaf-requires : goal.import_value-import_leaf-requires
-import_value-import_leaf-requires t c = leaf-asked t (goal.at.import_value-import_leaf-requires t c).After-word-kind c.in-0.is refl (omega arith)
+import_value-import_leaf-requires t c = leaf_asked t (goal.at.import_value-import_leaf-requires t c).After-word-kind c.in-0.is refl (omega arith)
 
 pub import_value-import_leaf-requires-in-1 : goal.import_value-import_leaf-requires-in-1
-import_value-import_leaf-requires-in-1 t c = leaf-asked t (goal.at.import_value-import_leaf-requires-in-1 t c).After-word-kind c.in-1.is refl (omega arith)
+import_value-import_leaf-requires-in-1 t c = leaf_asked t (goal.at.import_value-import_leaf-requires-in-1 t c).After-word-kind c.in-1.is refl (omega arith)
 
 pub import_value-import_leaf-requires-in-2 : goal.import_value-import_leaf-requires-in-2
-import_value-import_leaf-requires-in-2 t c = leaf-asked t (goal.at.import_value-import_leaf-requires-in-2 t c).After-word-kind c.in-2.is refl (omega arith)
+import_value-import_leaf-requires-in-2 t c = leaf_asked t (goal.at.import_value-import_leaf-requires-in-2 t c).After-word-kind c.in-2.is refl (omega arith)
 
 pub import_value-import_array-requires : goal.import_value-import_array-requires
-import_value-import_array-requires t c = parent-asked t (goal.at.import_value-import_array-requires t c).After-word-kind c.in-3.is
+import_value-import_array-requires t c = parent_asked t (goal.at.import_value-import_array-requires t c).After-word-kind c.in-3.is
 
 pub import_value-import_tuple-requires : goal.import_value-import_tuple-requires
-import_value-import_tuple-requires t c = parent-asked t (goal.at.import_value-import_tuple-requires t c).After-word-kind c.in-4.is
+import_value-import_tuple-requires t c = parent_asked t (goal.at.import_value-import_tuple-requires t c).After-word-kind c.in-4.is
 
 pub import_value-import_leaf-requires-in-5 : goal.import_value-import_leaf-requires-in-5
-import_value-import_leaf-requires-in-5 t c = leaf-asked t (goal.at.import_value-import_leaf-requires-in-5 t c).After-word-kind c.in-5.is refl (omega arith)
+import_value-import_leaf-requires-in-5 t c = leaf_asked t (goal.at.import_value-import_leaf-requires-in-5 t c).After-word-kind c.in-5.is refl (omega arith)
 
 pub import_value-import_leaf-requires-in-6 : goal.import_value-import_leaf-requires-in-6
-import_value-import_leaf-requires-in-6 t c = leaf-asked t (goal.at.import_value-import_leaf-requires-in-6 t c).After-word-kind c.in-6.is refl (omega arith)
+import_value-import_leaf-requires-in-6 t c = leaf_asked t (goal.at.import_value-import_leaf-requires-in-6 t c).After-word-kind c.in-6.is refl (omega arith)
 
 pub import_value-import_leaf-requires-in-7 : goal.import_value-import_leaf-requires-in-7
-import_value-import_leaf-requires-in-7 t c = leaf-asked t (goal.at.import_value-import_leaf-requires-in-7 t c).After-word-kind c.in-7.is refl (omega arith)
+import_value-import_leaf-requires-in-7 t c = leaf_asked t (goal.at.import_value-import_leaf-requires-in-7 t c).After-word-kind c.in-7.is refl (omega arith)
 
 pub import_value-import_case-requires : goal.import_value-import_case-requires
-import_value-import_case-requires t c = parent-asked t (goal.at.import_value-import_case-requires t c).After-word-kind c.in-8.is
+import_value-import_case-requires t c = parent_asked t (goal.at.import_value-import_case-requires t c).After-word-kind c.in-8.is
 
 pub import_value-import_leaf-requires-in-9 : goal.import_value-import_leaf-requires-in-9
-import_value-import_leaf-requires-in-9 t c = leaf-asked t (goal.at.import_value-import_leaf-requires-in-9 t c).After-word-kind c.in-9.is refl (omega arith)
+import_value-import_leaf-requires-in-9 t c = leaf_asked t (goal.at.import_value-import_leaf-requires-in-9 t c).After-word-kind c.in-9.is refl (omega arith)
 
 pub import_value-import_leaf-requires-in-10 : goal.import_value-import_leaf-requires-in-10
-import_value-import_leaf-requires-in-10 t c = leaf-asked t (goal.at.import_value-import_leaf-requires-in-10 t c).After-word-kind c.in-10.is refl (omega arith)
+import_value-import_leaf-requires-in-10 t c = leaf_asked t (goal.at.import_value-import_leaf-requires-in-10 t c).After-word-kind c.in-10.is refl (omega arith)
 
 pub import_value-returns-in-Refused : goal.import_value-returns-in-Refused
 import_value-returns-in-Refused t c =
@@ -232,37 +232,37 @@ import_value-returns-in-Refused t c =
     arm_refused a.lent.capacity a.lent.room a.bytes.now (tree_of a.grammar.now a.node) a.s c.in-Refused.r c.in-Refused.is c.claim.ensures.0
 
 pub import_value-returns-in-0 : goal.import_value-returns-in-0
-import_value-returns-in-0 t c = leaf-brought t (goal.at.import_value-returns-in-0 t c).After-word-kind c.import_leaf.ensures
+import_value-returns-in-0 t c = leaf_brought t (goal.at.import_value-returns-in-0 t c).After-word-kind c.import_leaf.ensures
 
 pub import_value-returns-in-1 : goal.import_value-returns-in-1
-import_value-returns-in-1 t c = leaf-brought t (goal.at.import_value-returns-in-1 t c).After-word-kind c.import_leaf-in-1.ensures
+import_value-returns-in-1 t c = leaf_brought t (goal.at.import_value-returns-in-1 t c).After-word-kind c.import_leaf-in-1.ensures
 
 pub import_value-returns-in-2 : goal.import_value-returns-in-2
-import_value-returns-in-2 t c = leaf-brought t (goal.at.import_value-returns-in-2 t c).After-word-kind c.import_leaf-in-2.ensures
+import_value-returns-in-2 t c = leaf_brought t (goal.at.import_value-returns-in-2 t c).After-word-kind c.import_leaf-in-2.ensures
 
 pub import_value-returns-in-3 : goal.import_value-returns-in-3
-import_value-returns-in-3 t c = parent-brought t (goal.at.import_value-returns-in-3 t c).After-word-kind c.import_array.ensures
+import_value-returns-in-3 t c = parent_brought t (goal.at.import_value-returns-in-3 t c).After-word-kind c.import_array.ensures
 
 pub import_value-returns-in-4 : goal.import_value-returns-in-4
-import_value-returns-in-4 t c = parent-brought t (goal.at.import_value-returns-in-4 t c).After-word-kind c.import_tuple.ensures
+import_value-returns-in-4 t c = parent_brought t (goal.at.import_value-returns-in-4 t c).After-word-kind c.import_tuple.ensures
 
 pub import_value-returns-in-5 : goal.import_value-returns-in-5
-import_value-returns-in-5 t c = leaf-brought t (goal.at.import_value-returns-in-5 t c).After-word-kind c.import_leaf-in-5.ensures
+import_value-returns-in-5 t c = leaf_brought t (goal.at.import_value-returns-in-5 t c).After-word-kind c.import_leaf-in-5.ensures
 
 pub import_value-returns-in-6 : goal.import_value-returns-in-6
-import_value-returns-in-6 t c = leaf-brought t (goal.at.import_value-returns-in-6 t c).After-word-kind c.import_leaf-in-6.ensures
+import_value-returns-in-6 t c = leaf_brought t (goal.at.import_value-returns-in-6 t c).After-word-kind c.import_leaf-in-6.ensures
 
 pub import_value-returns-in-7 : goal.import_value-returns-in-7
-import_value-returns-in-7 t c = leaf-brought t (goal.at.import_value-returns-in-7 t c).After-word-kind c.import_leaf-in-7.ensures
+import_value-returns-in-7 t c = leaf_brought t (goal.at.import_value-returns-in-7 t c).After-word-kind c.import_leaf-in-7.ensures
 
 pub import_value-returns-in-8 : goal.import_value-returns-in-8
-import_value-returns-in-8 t c = parent-brought t (goal.at.import_value-returns-in-8 t c).After-word-kind c.import_case.ensures
+import_value-returns-in-8 t c = parent_brought t (goal.at.import_value-returns-in-8 t c).After-word-kind c.import_case.ensures
 
 pub import_value-returns-in-9 : goal.import_value-returns-in-9
-import_value-returns-in-9 t c = leaf-brought t (goal.at.import_value-returns-in-9 t c).After-word-kind c.import_leaf-in-9.ensures
+import_value-returns-in-9 t c = leaf_brought t (goal.at.import_value-returns-in-9 t c).After-word-kind c.import_leaf-in-9.ensures
 
 pub import_value-returns-in-10 : goal.import_value-returns-in-10
-import_value-returns-in-10 t c = leaf-brought t (goal.at.import_value-returns-in-10 t c).After-word-kind c.import_leaf-in-10.ensures
+import_value-returns-in-10 t c = leaf_brought t (goal.at.import_value-returns-in-10 t c).After-word-kind c.import_leaf-in-10.ensures
 
 pub import_value-returns-in-11-to-max : goal.import_value-returns-in-11-to-max
 import_value-returns-in-11-to-max t c =

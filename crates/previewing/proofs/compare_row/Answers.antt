@@ -39,8 +39,8 @@ nothing c = let a = c.args in compared_nothing a.out.now a.before
 number_word : (c : After-word3_at-place) {k : Kind} → kind_of (this c).kind ≡ k → own_size k (this c) ≤ 8 → let a = c.args in (own_size k (this c) ≤ 8) × (a.before.at + own_size k (this c) ≤ length a.out.now) × (a.before.changed ≤ a.before.at)
 number_word c e l = (l, room c e, c.requires.2)
 
-array-words : (c : After-word3_at-place) (k : Elements) → kind_of (this c).kind ≡ elements k → let a = c.args in ((this c).word3 + element_width k * (this c).word2 ≤ length a.store.now) × (a.before.at + (8 + element_width k * (this c).word2) ≤ length a.out.now) × (a.before.changed ≤ a.before.at)
-array-words c k e =
+array_words : (c : After-word3_at-place) (k : Elements) → kind_of (this c).kind ≡ elements k → let a = c.args in ((this c).word3 + element_width k * (this c).word2 ≤ length a.store.now) × (a.before.at + (8 + element_width k * (this c).word2) ≤ length a.out.now) × (a.before.changed ≤ a.before.at)
+array_words c k e =
     let a = c.args in
     (elements_fit a.rows.now a.row c.kind_at-kind.ensures c.word2_at-word2.ensures c.word3_at-place.ensures k e c.requires.0, room c e, c.requires.2)
 
@@ -58,15 +58,15 @@ compare_number-requires-in-3 c = number_word (goal.at.compare_number-requires-in
 
 pub compare_elements-requires : goal.compare_elements-requires
 unfolding kind_of kinds
-compare_elements-requires c = array-words (goal.at.compare_elements-requires c).After-word3_at-place bytes (ap kind_of c.in-5.is)
+compare_elements-requires c = array_words (goal.at.compare_elements-requires c).After-word3_at-place bytes (ap kind_of c.in-5.is)
 
 pub compare_elements-requires-in-6 : goal.compare_elements-requires-in-6
 unfolding kind_of kinds
-compare_elements-requires-in-6 c = array-words (goal.at.compare_elements-requires-in-6 c).After-word3_at-place uint32s (ap kind_of c.in-6.is)
+compare_elements-requires-in-6 c = array_words (goal.at.compare_elements-requires-in-6 c).After-word3_at-place uint32s (ap kind_of c.in-6.is)
 
 pub compare_elements-requires-in-7 : goal.compare_elements-requires-in-7
 unfolding kind_of kinds
-compare_elements-requires-in-7 c = array-words (goal.at.compare_elements-requires-in-7 c).After-word3_at-place uint64s (ap kind_of c.in-7.is)
+compare_elements-requires-in-7 c = array_words (goal.at.compare_elements-requires-in-7 c).After-word3_at-place uint64s (ap kind_of c.in-7.is)
 
 pub compare_number-requires-in-8 : goal.compare_number-requires-in-8
 unfolding kind_of kinds

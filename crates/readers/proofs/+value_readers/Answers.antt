@@ -23,31 +23,31 @@ use Rattle.readers.proofs.+value_readers.Goals as goal
 use Rattle.readers.proofs.+value_readers.Goals.{read_array-In-Number, read_case-In-Number, read_value-In-Next}
 
 -- a count was taken
-count-taken : (t : ℕ) (c : read_array-In-Number t) → yield c.in-Number.count (state_of c.in-Number.u) ≡ take_below c.args.bytes.now (c.args.s.capacity - c.args.s.begun + 1) 8 (state_of c.args.s)
-count-taken t c = taken_number c.in-Number.count c.in-Number.u c.in-Number.is c.take_below.ensures.0
+count_taken : (t : ℕ) (c : read_array-In-Number t) → yield c.in-Number.count (state_of c.in-Number.u) ≡ take_below c.args.bytes.now (c.args.s.capacity - c.args.s.begun + 1) 8 (state_of c.args.s)
+count_taken t c = taken_number c.in-Number.count c.in-Number.u c.in-Number.is c.take_below.ensures.0
 
-count-keeps : (t : ℕ) (c : read_array-In-Number t) → c.in-Number.u.capacity ≡ c.args.s.capacity
-count-keeps t c = rw c.in-Number.is at c.take_below.ensures.1
+count_keeps : (t : ℕ) (c : read_array-In-Number t) → c.in-Number.u.capacity ≡ c.args.s.capacity
+count_keeps t c = rw c.in-Number.is at c.take_below.ensures.1
 
-count-ready : (t : ℕ) (c : read_array-In-Number t) → Ready c.args.bytes.now c.args.rows.now c.in-Number.u
-count-ready t c = head-ready c.requires _ 8 c.in-Number.count c.in-Number.u (count-taken t c) (count-keeps t c)
+count_ready : (t : ℕ) (c : read_array-In-Number t) → Ready c.args.bytes.now c.args.rows.now c.in-Number.u
+count_ready t c = head-ready c.requires _ 8 c.in-Number.count c.in-Number.u (count_taken t c) (count_keeps t c)
 
-count-behind : (t : ℕ) (c : read_array-In-Number t) → c.args.s.at ≤ c.in-Number.u.at
-count-behind t c = head-behind c.requires _ 8 c.in-Number.count c.in-Number.u (count-taken t c) (count-keeps t c)
+count_behind : (t : ℕ) (c : read_array-In-Number t) → c.args.s.at ≤ c.in-Number.u.at
+count_behind t c = head-behind c.requires _ 8 c.in-Number.count c.in-Number.u (count_taken t c) (count_keeps t c)
 
-count-begun : (t : ℕ) (c : read_array-In-Number t) → c.in-Number.u.begun ≡ c.args.s.begun
-count-begun t c = head-begun c.requires _ 8 c.in-Number.count c.in-Number.u (count-taken t c) (count-keeps t c)
+count_begun : (t : ℕ) (c : read_array-In-Number t) → c.in-Number.u.begun ≡ c.args.s.begun
+count_begun t c = head-begun c.requires _ 8 c.in-Number.count c.in-Number.u (count_taken t c) (count_keeps t c)
 
 pub read_array-read_array_contents-read-requires : goal.read_array-read_array_contents-read-requires
 read_array-read_array_contents-read-requires t c =
     let a = c.args in
     let n = array_count a.grammar.now a.node c.requires.node c.requires.kind in
-    (omega (arith, c.decreases, count-begun t (goal.at.read_array-read_array_contents-read-requires t c).In-Number, count-keeps t (goal.at.read_array-read_array_contents-read-requires t c).In-Number), (c.requires.node, omega (arith, n), count-ready t (goal.at.read_array-read_array_contents-read-requires t c).In-Number))
+    (omega (arith, c.decreases, count_begun t (goal.at.read_array-read_array_contents-read-requires t c).In-Number, count_keeps t (goal.at.read_array-read_array_contents-read-requires t c).In-Number), (c.requires.node, omega (arith, n), count_ready t (goal.at.read_array-read_array_contents-read-requires t c).In-Number))
 
 pub read_array-close_row-requires : goal.read_array-close_row-requires
 read_array-close_row-requires t c =
     let r = c.read_array_contents-read in
-    counted-elements c.in-Number.u (count-ready t (goal.at.read_array-close_row-requires t c).In-Number) (omega (arith, count-begun t (goal.at.read_array-close_row-requires t c).In-Number, c.requires.claimed)) (omega (arith, count-behind t (goal.at.read_array-close_row-requires t c).In-Number)) (tree_of c.args.grammar.now (child_word c.args.grammar.now (first_word c.args.grammar.now c.args.node + 0))) c.in-Number.count r.result r.ensures
+    counted-elements c.in-Number.u (count_ready t (goal.at.read_array-close_row-requires t c).In-Number) (omega (arith, count_begun t (goal.at.read_array-close_row-requires t c).In-Number, c.requires.claimed)) (omega (arith, count_behind t (goal.at.read_array-close_row-requires t c).In-Number)) (tree_of c.args.grammar.now (child_word c.args.grammar.now (first_word c.args.grammar.now c.args.node + 0))) c.in-Number.count r.result r.ensures
 
 pub read_array-returns-in-Stopped : goal.read_array-returns-in-Stopped
 read_array-returns-in-Stopped t c =
@@ -55,7 +55,7 @@ read_array-returns-in-Stopped t c =
 
 pub read_array-returns-in-Number : goal.read_array-returns-in-Number
 read_array-returns-in-Number t c =
-    arm_array c.requires c.in-Number.count c.in-Number.u (count-taken t (goal.at.read_array-returns-in-Number t c).In-Number) (count-keeps t (goal.at.read_array-returns-in-Number t c).In-Number) c.read_array_contents-read.ensures c.close_row.ensures.0 c.close_row.ensures.1
+    arm_array c.requires c.in-Number.count c.in-Number.u (count_taken t (goal.at.read_array-returns-in-Number t c).In-Number) (count_keeps t (goal.at.read_array-returns-in-Number t c).In-Number) c.read_array_contents-read.ensures c.close_row.ensures.0 c.close_row.ensures.1
 
 pub read_array_contents-loop-i-init : goal.read_array_contents-loop-i-init
 read_array_contents-loop-i-init t c =
@@ -107,34 +107,34 @@ read_array_contents-returns t c =
     remaining_done l.invariant.1 (elements-none a.s.capacity a.bytes.now (tree_of a.grammar.now (child_word a.grammar.now (first_word a.grammar.now a.node + 0))) (state_of l.t) a.count l.i c.loop-i-test.false)
 
 -- a tag was taken
-tag-taken : (t : ℕ) (c : read_case-In-Number t) → yield c.in-Number.tag (state_of c.in-Number.u) ≡ take_below c.args.bytes.now c.word-limit.result 10 (state_of c.args.s)
-tag-taken t c = taken_number c.in-Number.tag c.in-Number.u c.in-Number.is c.take_below.ensures.0
+tag_taken : (t : ℕ) (c : read_case-In-Number t) → yield c.in-Number.tag (state_of c.in-Number.u) ≡ take_below c.args.bytes.now c.word-limit.result 10 (state_of c.args.s)
+tag_taken t c = taken_number c.in-Number.tag c.in-Number.u c.in-Number.is c.take_below.ensures.0
 
-tag-keeps : (t : ℕ) (c : read_case-In-Number t) → c.in-Number.u.capacity ≡ c.args.s.capacity
-tag-keeps t c = rw c.in-Number.is at c.take_below.ensures.1
+tag_keeps : (t : ℕ) (c : read_case-In-Number t) → c.in-Number.u.capacity ≡ c.args.s.capacity
+tag_keeps t c = rw c.in-Number.is at c.take_below.ensures.1
 
-tag-ready : (t : ℕ) (c : read_case-In-Number t) → Ready c.args.bytes.now c.args.rows.now c.in-Number.u
-tag-ready t c = head-ready c.requires _ 10 c.in-Number.tag c.in-Number.u (tag-taken t c) (tag-keeps t c)
+tag_ready : (t : ℕ) (c : read_case-In-Number t) → Ready c.args.bytes.now c.args.rows.now c.in-Number.u
+tag_ready t c = head-ready c.requires _ 10 c.in-Number.tag c.in-Number.u (tag_taken t c) (tag_keeps t c)
 
-tag-behind : (t : ℕ) (c : read_case-In-Number t) → c.args.s.at ≤ c.in-Number.u.at
-tag-behind t c = head-behind c.requires _ 10 c.in-Number.tag c.in-Number.u (tag-taken t c) (tag-keeps t c)
+tag_behind : (t : ℕ) (c : read_case-In-Number t) → c.args.s.at ≤ c.in-Number.u.at
+tag_behind t c = head-behind c.requires _ 10 c.in-Number.tag c.in-Number.u (tag_taken t c) (tag_keeps t c)
 
-tag-begun : (t : ℕ) (c : read_case-In-Number t) → c.in-Number.u.begun ≡ c.args.s.begun
-tag-begun t c = head-begun c.requires _ 10 c.in-Number.tag c.in-Number.u (tag-taken t c) (tag-keeps t c)
+tag_begun : (t : ℕ) (c : read_case-In-Number t) → c.in-Number.u.begun ≡ c.args.s.begun
+tag_begun t c = head-begun c.requires _ 10 c.in-Number.tag c.in-Number.u (tag_taken t c) (tag_keeps t c)
 
 pub read_case-child_at-child-requires : goal.read_case-child_at-child-requires
 read_case-child_at-child-requires t c =
     let p = c.requires in
-    (p.node, omega (arith, head-below p _ 10 c.in-Number.tag c.in-Number.u (tag-taken t (goal.at.read_case-child_at-child-requires t c).In-Number) (tag-keeps t (goal.at.read_case-child_at-child-requires t c).In-Number), c.word-limit.ensures.0))
+    (p.node, omega (arith, head-below p _ 10 c.in-Number.tag c.in-Number.u (tag_taken t (goal.at.read_case-child_at-child-requires t c).In-Number) (tag_keeps t (goal.at.read_case-child_at-child-requires t c).In-Number), c.word-limit.ensures.0))
 
 pub read_case-read_value-read-requires : goal.read_case-read_value-read-requires
 read_case-read_value-read-requires t c =
-    (omega (arith, c.decreases, tag-begun t (goal.at.read_case-read_value-read-requires t c).In-Number, tag-keeps t (goal.at.read_case-read_value-read-requires t c).In-Number), (record { passes = c.requires.node.passes; below = c.child_at-child.ensures.1; words = c.requires.node.words }, tag-ready t (goal.at.read_case-read_value-read-requires t c).In-Number))
+    (omega (arith, c.decreases, tag_begun t (goal.at.read_case-read_value-read-requires t c).In-Number, tag_keeps t (goal.at.read_case-read_value-read-requires t c).In-Number), (record { passes = c.requires.node.passes; below = c.child_at-child.ensures.1; words = c.requires.node.words }, tag_ready t (goal.at.read_case-read_value-read-requires t c).In-Number))
 
 pub read_case-close_row-requires : goal.read_case-close_row-requires
 read_case-close_row-requires t c =
     let r = c.read_value-read in
-    counted-value c.in-Number.u (tag-ready t (goal.at.read_case-close_row-requires t c).In-Number) (omega (arith, tag-begun t (goal.at.read_case-close_row-requires t c).In-Number, c.requires.claimed)) (omega (arith, tag-behind t (goal.at.read_case-close_row-requires t c).In-Number)) (tree_of c.args.grammar.now c.child_at-child.result) r.result r.ensures
+    counted-value c.in-Number.u (tag_ready t (goal.at.read_case-close_row-requires t c).In-Number) (omega (arith, tag_begun t (goal.at.read_case-close_row-requires t c).In-Number, c.requires.claimed)) (omega (arith, tag_behind t (goal.at.read_case-close_row-requires t c).In-Number)) (tree_of c.args.grammar.now c.child_at-child.result) r.result r.ensures
 
 pub read_case-returns-in-Stopped : goal.read_case-returns-in-Stopped
 read_case-returns-in-Stopped t c =
@@ -145,7 +145,7 @@ pub read_case-returns-in-Number : goal.read_case-returns-in-Number
 read_case-returns-in-Number t c =
     let h = c.child_at-child in
     let n = c.word-limit in
-    arm_case c.requires h.result c.in-Number.tag n.result c.in-Number.u n.ensures.0 h.ensures.0 (tag-taken t (goal.at.read_case-returns-in-Number t c).In-Number) (tag-keeps t (goal.at.read_case-returns-in-Number t c).In-Number) c.read_value-read.ensures c.close_row.ensures.0 c.close_row.ensures.1
+    arm_case c.requires h.result c.in-Number.tag n.result c.in-Number.u n.ensures.0 h.ensures.0 (tag_taken t (goal.at.read_case-returns-in-Number t c).In-Number) (tag_keeps t (goal.at.read_case-returns-in-Number t c).In-Number) c.read_value-read.ensures c.close_row.ensures.0 c.close_row.ensures.1
 
 pub read_tuple-read_tuple_contents-read-requires : goal.read_tuple-read_tuple_contents-read-requires
 read_tuple-read_tuple_contents-read-requires t c =
@@ -232,12 +232,12 @@ read_tuple_contents-returns t c =
     remaining_done l.invariant.1 (fields_none a.s.capacity a.bytes.now a.grammar.now (state_of l.t) (first_word a.grammar.now a.node) (count_word a.grammar.now a.node) l.i (omega (arith, c.word.ensures.0)))
 
 -- a row was claimed for the value, and what that says of the state behind
-claimed-row : (t : ℕ) (c : read_value-In-Next t) → Claimed c.args.s c.in-Next.t
-claimed-row t c = claimed-next c.args.s c.in-Next.t c.in-Next.is c.claim.ensures.0 c.claim.ensures.1
+claimed_row : (t : ℕ) (c : read_value-In-Next t) → Claimed c.args.s c.in-Next.t
+claimed_row t c = claimed-next c.args.s c.in-Next.t c.in-Next.is c.claim.ensures.0 c.claim.ensures.1
 
 -- so a reader behind the claim may be called, by the kind word w
 claimed : (t : ℕ) (c : read_value-In-Next t) {w : ℕ} → let a = c.args in kind_word a.grammar.now a.node ≡ w → RowClaimed a.grammar.now a.bytes.now a.rows.now a.node w a.s.begun c.in-Next.t
-claimed t c e = let p = c.requires in row-claimed p.0 p.1 (claimed-row t c) e
+claimed t c e = let p = c.requires in row-claimed p.0 p.1 (claimed_row t c) e
 
 pub read_value-read_leaf-requires : goal.read_value-read_leaf-requires
 read_value-read_leaf-requires t c = (claimed t (goal.at.read_value-read_leaf-requires t c).In-Next refl, leaf c.in-0.is refl)
@@ -250,12 +250,12 @@ read_value-read_leaf-requires-in-2 t c = (claimed t (goal.at.read_value-read_lea
 
 pub read_value-read_array-requires : goal.read_value-read_array-requires
 read_value-read_array-requires t c =
-    let q = claimed-row t (goal.at.read_value-read_array-requires t c).In-Next in
+    let q = claimed_row t (goal.at.read_value-read_array-requires t c).In-Next in
     (omega (arith, c.decreases, q.begun, q.capacity, q.free), claimed t (goal.at.read_value-read_array-requires t c).In-Next c.in-3.is)
 
 pub read_value-read_tuple-requires : goal.read_value-read_tuple-requires
 read_value-read_tuple-requires t c =
-    let q = claimed-row t (goal.at.read_value-read_tuple-requires t c).In-Next in
+    let q = claimed_row t (goal.at.read_value-read_tuple-requires t c).In-Next in
     (omega (arith, c.decreases, q.begun, q.capacity, q.free), claimed t (goal.at.read_value-read_tuple-requires t c).In-Next c.in-4.is)
 
 pub read_value-read_leaf-requires-in-5 : goal.read_value-read_leaf-requires-in-5
@@ -269,7 +269,7 @@ read_value-read_leaf-requires-in-7 t c = (claimed t (goal.at.read_value-read_lea
 
 pub read_value-read_case-requires : goal.read_value-read_case-requires
 read_value-read_case-requires t c =
-    let q = claimed-row t (goal.at.read_value-read_case-requires t c).In-Next in
+    let q = claimed_row t (goal.at.read_value-read_case-requires t c).In-Next in
     (omega (arith, c.decreases, q.begun, q.capacity, q.free), claimed t (goal.at.read_value-read_case-requires t c).In-Next c.in-8.is)
 
 pub read_value-read_leaf-requires-in-9 : goal.read_value-read_leaf-requires-in-9
@@ -294,7 +294,7 @@ arm : (t : ℕ) (c : read_value-In-Next t) {r : CodeStep} {exit : List ℕ} →
     Reads rows_of (read_val a.s.capacity a.bytes.now (tree_of a.grammar.now a.node) (state_of a.s)) a.s.capacity a.s.begun a.s.at a.rows.now r exit
 arm t c h =
     let a = c.args in
-    arm_body a.grammar.now a.node a.bytes.now a.rows.now a.s c.in-Next.t (claimed-row t c) h
+    arm_body a.grammar.now a.node a.bytes.now a.rows.now a.s c.in-Next.t (claimed_row t c) h
 
 pub read_value-returns-in-0 : goal.read_value-returns-in-0
 read_value-returns-in-0 t c = arm t (goal.at.read_value-returns-in-0 t c).In-Next c.read_leaf.ensures

@@ -54,11 +54,11 @@ inner t c =
     children_of a.rows.now a.store.now i (i + (row_at a.rows.now i).span) c.in-Children.inner (i + 1)
 
 -- as the code has their end
-inner-end : (t : ℕ) (c : In-Children t) →
+inner_end : (t : ℕ) (c : In-Children t) →
     let a = c.args in
     let i = c.loop-left.i in
     ends (children_of a.rows.now a.store.now i (i + c.span_at-span.result) c.in-Children.inner (i + 1)) ≡ ends (inner t c)
-inner-end t c =
+inner_end t c =
     let a = c.args in
     let i = c.loop-left.i in
     ap (λ (n : ℕ). ends (children_of a.rows.now a.store.now i (i + n) c.in-Children.inner (i + 1))) c.span_at-span.ensures
@@ -69,7 +69,7 @@ alone t c none =
     let a = c.args in
     let i = c.loop-left.i in
     let d = (goal.at.After-is_parent t c).In-Children in
-    childless a.rows.now a.store.now i c.in-Children.inner (i + c.span_at-span.result) (omega (arith, (reach t d).some, c.span_at-span.ensures)) (sym c.is_parent.ensures ∙ none) ∙ inner-end t d
+    childless a.rows.now a.store.now i c.in-Children.inner (i + c.span_at-span.result) (omega (arith, (reach t d).some, c.span_at-span.ensures)) (sym c.is_parent.ensures ∙ none) ∙ inner_end t d
 
 pub overflow_add-next : goal.overflow_add-next
 overflow_add-next t c = omega (arith, (reach t c).reach, c.span_at-span.ensures, c.ranges.end)
@@ -89,14 +89,14 @@ returns-in-Refused-check_children t c =
     let a = c.args in
     let l = c.loop-left in
     child_refused a.rows.now a.store.now a.parent a.end l.left l.i (omega arith) (omega arith)
-    (children-refused a.rows.now a.store.now a.end l.i (omega arith) (passed t (goal.at.returns-in-Refused-check_children t c).In-Children) (stopped c.in-Refused-check_children.is (c.check_children.ensures ∙ inner-end t (goal.at.returns-in-Refused-check_children t c).In-Children))) ∙ l.invariant.2
+    (children-refused a.rows.now a.store.now a.end l.i (omega arith) (passed t (goal.at.returns-in-Refused-check_children t c).In-Children) (stopped c.in-Refused-check_children.is (c.check_children.ensures ∙ inner_end t (goal.at.returns-in-Refused-check_children t c).In-Children))) ∙ l.invariant.2
 
 -- behind the branch its children have passed, or it has none
 joined : (t : ℕ) (c : Joined-is_parent t) → accepted tt ≡ ends (inner t (goal.at.Joined-is_parent t c).In-Children)
 joined t c =
     let d = (goal.at.Joined-is_parent t c).In-Children in
     let p = (goal.at.Joined-is_parent t c).After-is_parent in
-    elim c.if-is_parent.branch [ then-is_parent+in_default w ↦ done w.in_default.is (w.check_children.ensures ∙ inner-end t d) | else-is_parent w ↦ alone t p w.if-is_parent.false ]
+    elim c.if-is_parent.branch [ then-is_parent+in_default w ↦ done w.in_default.is (w.check_children.ensures ∙ inner_end t d) | else-is_parent w ↦ alone t p w.if-is_parent.false ]
 
 -- what the slices hold
 words : (t : ℕ) (c : Joined-is_parent t) → Below (2 ^ 64) c.args.rows.now

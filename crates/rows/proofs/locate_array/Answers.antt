@@ -11,15 +11,15 @@ use Rattle.rows.proofs.locate_array.Goals as goal
 use Rattle.rows.proofs.locate_array.Goals.{In-Accepted}
 
 -- a row that was found, behind the match
-row-found : (c : In-Accepted) → let a = c.args in Found 18 a.rows.now a.n a.store.now a.row
-row-found c =
+row_found : (c : In-Accepted) → let a = c.args in Found 18 a.rows.now a.n a.store.now a.row
+row_found c =
     let a = c.args in
     found a.rows.now a.n a.store.now (λ j _. (c.type_inv.rows j).fits) (λ j. (c.type_inv.store j).fits) 18 a.row (done c.in-Accepted.is c.find_row.ensures)
 
 pub elements_at-requires : goal.elements_at-requires
 elements_at-requires c =
     let a = c.args in
-    let h = row-found c in
+    let h = row_found c in
     table-small a.rows.now a.n a.store.now h.table.value h.table.table a.row h.below
 
 pub returns-in-Refused : goal.returns-in-Refused
@@ -31,5 +31,5 @@ returns-in-Refused c =
 pub returns-in-Accepted : goal.returns-in-Accepted
 unfolding locate_array
 returns-in-Accepted c =
-    let h = row-found (goal.at.returns-in-Accepted c).In-Accepted in
+    let h = row_found (goal.at.returns-in-Accepted c).In-Accepted in
     c.elements_at.ensures ∙ sym (ap (λ (o : Outcome Reason Row). bind o (λ r. elements_part (kind_of r.kind) r (reason 18 (row c.args.row)))) h.row)

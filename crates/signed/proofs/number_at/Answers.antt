@@ -28,9 +28,9 @@ arm : (c : After-kind_at) {k : ℕ} {x : Outcome Reason ℤ} → c.kind_at.resul
 arm c e h = by_kind (answer c) (sym c.kind_at.ensures ∙ e) h
 
 -- the pattern of kind 9 has 4 bytes
-pattern-fits : (c : After-kind_at) → c.kind_at.result ≡ 9 → c.word2_at-pattern.result < 256 ^ 4
+pattern_fits : (c : After-kind_at) → c.kind_at.result ≡ 9 → c.word2_at-pattern.result < 256 ^ 4
 unfolding kind_of kinds
-pattern-fits c e =
+pattern_fits c e =
     let r = this c in
     let h : keeps_rule (number int32) r ≡ true = by_kind (λ (k : Kind). keeps_rule k r) {k = 9} (sym c.kind_at.ensures ∙ e) refl ∙ c.requires in
     omega (arith, c.word2_at-pattern.ensures, number-below int32 r h)
@@ -40,7 +40,7 @@ as_read : (c : After-kind_at) (w : ℕ) → ◌≡◌ {A = Outcome Reason ℤ} (
 as_read c w = ap (λ (p : ℕ). accepted (signed_of w p)) c.word2_at-pattern.ensures
 
 pub overflow_cast-pattern : goal.overflow_cast-pattern
-overflow_cast-pattern c = omega (arith, pattern-fits (goal.at.overflow_cast-pattern c).After-kind_at c.in-9.is)
+overflow_cast-pattern c = omega (arith, pattern_fits (goal.at.overflow_cast-pattern c).After-kind_at c.in-9.is)
 
 pub overflow_cast-result : goal.overflow_cast-result
 overflow_cast-result c = widened_fits c.signed32.result (record { sfits = c.signed32.type_inv })

@@ -113,22 +113,22 @@ check_each_in_grammar-returns t c =
     let n = count_word g a.node in
     left_none a.rows.now n a.row (λ vs. check_each_in_grammar vs (child_trees g (tree_of g) f n) a.row) (n - l.k) l.i (λ vs. check_each_in_grammar vs (child_trees g (tree_of g) (f + l.k) (n - l.k)) l.i) l.invariant.3 (omega (arith, l.invariant.1)) (none_each (child_trees g (tree_of g) (f + l.k) (n - l.k)) l.i)
 
-node-word : (t : ℕ) (c : check_in_grammar-Else-kind-word t) {k : ℕ} → c.kind_at-kind.result ≡ k → let a = c.args in kind_word a.grammar.now a.node ≡ k
-node-word t c e = omega (arith, c.word.ensures.0)
+node_word : (t : ℕ) (c : check_in_grammar-Else-kind-word t) {k : ℕ} → c.kind_at-kind.result ≡ k → let a = c.args in kind_word a.grammar.now a.node ≡ k
+node_word t c e = omega (arith, c.word.ensures.0)
 
-row-kind : (t : ℕ) (c : check_in_grammar-Else-kind-word t) {k : ℕ} → c.kind_at-kind.result ≡ k → let a = c.args in (row_at a.rows.now a.row).kind ≡ k
-row-kind t c e = sym c.kind_at-kind.ensures ∙ e
+row_kind : (t : ℕ) (c : check_in_grammar-Else-kind-word t) {k : ℕ} → c.kind_at-kind.result ≡ k → let a = c.args in (row_at a.rows.now a.row).kind ≡ k
+row_kind t c e = sym c.kind_at-kind.ensures ∙ e
 
 tree_is : (t : ℕ) (c : check_in_grammar-Else-kind-word t) {k : ℕ} → c.kind_at-kind.result ≡ k → let a = c.args in kind_number (tree_of a.grammar.now a.node) ≡ k
 tree_is t c e =
     let a = c.args in
     let p = c.requires in
-    tree_kind a.grammar.now p.0 a.node p.1 ∙ node-word t c e
+    tree_kind a.grammar.now p.0 a.node p.1 ∙ node_word t c e
 
 leaf : (t : ℕ) (c : check_in_grammar-Else-kind-word t) {k : ℕ} → c.kind_at-kind.result ≡ k → is_parent k ≡ false → let a = c.args in Checks a.rows.now a.row (tree_of a.grammar.now a.node) Accepted
 leaf t c e n s v h =
     let a = c.args in
-    arm_leaf a.rows.now s a.row (tree_of a.grammar.now a.node) v h (row-kind t c e ∙ sym (tree_is t c e)) (ap is_parent (row-kind t c e) ∙ n)
+    arm_leaf a.rows.now s a.row (tree_of a.grammar.now a.node) v h (row_kind t c e ∙ sym (tree_is t c e)) (ap is_parent (row_kind t c e) ∙ n)
 
 pub check_in_grammar-returns-then-kind-word : goal.check_in_grammar-returns-then-kind-word
 check_in_grammar-returns-then-kind-word t c =
@@ -143,8 +143,8 @@ check_in_grammar-check_all_in_grammar-requires t c =
     let p = c.requires in
     let g = a.grammar.now in
     let k = c.in-3.is in
-    let x = child_above g p.0 a.node p.1 0 (one_child g p.0 a.node p.1 (node-word t (goal.at.check_in_grammar-check_all_in_grammar-requires t c).Else-kind-word k)) c.child_at-element.ensures.0 in
-    (omega (arith, c.decreases, x.0, x.2), (p.0, x.1, rw c.word2_at-word2.ensures (elements_stand a.rows.now a.row p.2 (row-kind t (goal.at.check_in_grammar-check_all_in_grammar-requires t c).Else-kind-word k))))
+    let x = child_above g p.0 a.node p.1 0 (one_child g p.0 a.node p.1 (node_word t (goal.at.check_in_grammar-check_all_in_grammar-requires t c).Else-kind-word k)) c.child_at-element.ensures.0 in
+    (omega (arith, c.decreases, x.0, x.2), (p.0, x.1, rw c.word2_at-word2.ensures (elements_stand a.rows.now a.row p.2 (row_kind t (goal.at.check_in_grammar-check_all_in_grammar-requires t c).Else-kind-word k))))
 
 pub check_in_grammar-returns-then-word2-count : goal.check_in_grammar-returns-then-word2-count
 check_in_grammar-returns-then-word2-count t c =
@@ -152,7 +152,7 @@ check_in_grammar-returns-then-word2-count t c =
     let p = c.requires in
     let g = a.grammar.now in
     let k = c.in-4.is in
-    λ s v h. c.not_in_grammar-then-word2-count.ensures ∙ arm_count a.rows.now s a.row (tree_of g a.node) v h (row-kind t (goal.at.check_in_grammar-returns-then-word2-count t c).Else-kind-word k) (λ e. c.if-word2-count.true (omega (arith, e, c.word2_at-word2.ensures, c.word-count.ensures.0, part_count g p.0 a.node p.1 tuple-parts (node-word t (goal.at.check_in_grammar-returns-then-word2-count t c).Else-kind-word k))))
+    λ s v h. c.not_in_grammar-then-word2-count.ensures ∙ arm_count a.rows.now s a.row (tree_of g a.node) v h (row_kind t (goal.at.check_in_grammar-returns-then-word2-count t c).Else-kind-word k) (λ e. c.if-word2-count.true (omega (arith, e, c.word2_at-word2.ensures, c.word-count.ensures.0, part_count g p.0 a.node p.1 tuple-parts (node_word t (goal.at.check_in_grammar-returns-then-word2-count t c).Else-kind-word k))))
 
 pub check_in_grammar-check_each_in_grammar-requires : goal.check_in_grammar-check_each_in_grammar-requires
 check_in_grammar-check_each_in_grammar-requires t c =
@@ -161,7 +161,7 @@ check_in_grammar-check_each_in_grammar-requires t c =
     let g = a.grammar.now in
     let k = c.in-4.is in
     let e : (row_at a.rows.now a.row).word2 ≡ count_word g a.node = omega (arith, c.word2_at-word2.ensures, c.word-count.ensures.0) in
-    (omega (arith, c.decreases, (node-inside g p.0 a.node p.1).1), (p.0, p.1, rw (← e) (fields_stand a.rows.now a.row p.2 (row-kind t (goal.at.check_in_grammar-check_each_in_grammar-requires t c).Else-kind-word k))))
+    (omega (arith, c.decreases, (node-inside g p.0 a.node p.1).1), (p.0, p.1, rw (← e) (fields_stand a.rows.now a.row p.2 (row_kind t (goal.at.check_in_grammar-check_each_in_grammar-requires t c).Else-kind-word k))))
 
 pub check_in_grammar-returns-then-count-word2 : goal.check_in_grammar-returns-then-count-word2
 check_in_grammar-returns-then-count-word2 t c =
@@ -169,7 +169,7 @@ check_in_grammar-returns-then-count-word2 t c =
     let p = c.requires in
     let g = a.grammar.now in
     let k = c.in-8.is in
-    λ s v h. c.not_in_grammar-then-count-word2.ensures ∙ arm_tag a.rows.now s a.row (tree_of g a.node) v h (row-kind t (goal.at.check_in_grammar-returns-then-count-word2 t c).Else-kind-word k) (tree_is t (goal.at.check_in_grammar-returns-then-count-word2 t c).Else-kind-word k) (omega (arith, c.word2_at-word2.ensures, c.word-count.ensures.0, part_count g p.0 a.node p.1 union-parts (node-word t (goal.at.check_in_grammar-returns-then-count-word2 t c).Else-kind-word k)))
+    λ s v h. c.not_in_grammar-then-count-word2.ensures ∙ arm_tag a.rows.now s a.row (tree_of g a.node) v h (row_kind t (goal.at.check_in_grammar-returns-then-count-word2 t c).Else-kind-word k) (tree_is t (goal.at.check_in_grammar-returns-then-count-word2 t c).Else-kind-word k) (omega (arith, c.word2_at-word2.ensures, c.word-count.ensures.0, part_count g p.0 a.node p.1 union-parts (node_word t (goal.at.check_in_grammar-returns-then-count-word2 t c).Else-kind-word k)))
 
 pub check_in_grammar-check_in_grammar-requires : goal.check_in_grammar-check_in_grammar-requires
 check_in_grammar-check_in_grammar-requires t c =
@@ -177,7 +177,7 @@ check_in_grammar-check_in_grammar-requires t c =
     let p = c.requires in
     let g = a.grammar.now in
     let x = child_above g p.0 a.node p.1 c.word2_at-word2.result (omega (arith, c.word-count.ensures.0)) c.child_at-case.ensures.0 in
-    (omega (arith, c.decreases, x.0, x.2), (p.0, x.1, case_stands a.rows.now a.row p.2 (row-kind t (goal.at.check_in_grammar-check_in_grammar-requires t c).Else-kind-word c.in-8.is)))
+    (omega (arith, c.decreases, x.0, x.2), (p.0, x.1, case_stands a.rows.now a.row p.2 (row_kind t (goal.at.check_in_grammar-check_in_grammar-requires t c).Else-kind-word c.in-8.is)))
 
 pub check_in_grammar-returns-in-0 : goal.check_in_grammar-returns-in-0
 check_in_grammar-returns-in-0 t c = leaf t (goal.at.check_in_grammar-returns-in-0 t c).Else-kind-word c.in-0.is refl
@@ -194,8 +194,8 @@ check_in_grammar-returns-in-3 t c =
     let p = c.requires in
     let g = a.grammar.now in
     let k = c.in-3.is in
-    let e = tree_element g p.0 a.node p.1 (node-word t (goal.at.check_in_grammar-returns-in-3 t c).Else-kind-word k) ∙ ap (tree_of g) (sym c.child_at-element.ensures.0) in
-    λ s v h. arm_array a.rows.now s a.row (tree_of g a.node) v h (row-kind t (goal.at.check_in_grammar-returns-in-3 t c).Else-kind-word k) (tree_is t (goal.at.check_in_grammar-returns-in-3 t c).Else-kind-word k) (sym c.word2_at-word2.ensures) e c.check_all_in_grammar.result c.check_all_in_grammar.ensures
+    let e = tree_element g p.0 a.node p.1 (node_word t (goal.at.check_in_grammar-returns-in-3 t c).Else-kind-word k) ∙ ap (tree_of g) (sym c.child_at-element.ensures.0) in
+    λ s v h. arm_array a.rows.now s a.row (tree_of g a.node) v h (row_kind t (goal.at.check_in_grammar-returns-in-3 t c).Else-kind-word k) (tree_is t (goal.at.check_in_grammar-returns-in-3 t c).Else-kind-word k) (sym c.word2_at-word2.ensures) e c.check_all_in_grammar.result c.check_all_in_grammar.ensures
 
 pub check_in_grammar-returns-else-word2-count : goal.check_in_grammar-returns-else-word2-count
 check_in_grammar-returns-else-word2-count t c =
@@ -204,8 +204,8 @@ check_in_grammar-returns-else-word2-count t c =
     let g = a.grammar.now in
     let k = c.in-4.is in
     let e : (row_at a.rows.now a.row).word2 ≡ count_word g a.node = omega (arith, c.word2_at-word2.ensures, c.word-count.ensures.0) in
-    let n = node-word t (goal.at.check_in_grammar-returns-else-word2-count t c).Else-kind-word k in
-    λ s v h. arm_tuple a.rows.now s a.row (tree_of g a.node) v h (row-kind t (goal.at.check_in_grammar-returns-else-word2-count t c).Else-kind-word k) (tree_is t (goal.at.check_in_grammar-returns-else-word2-count t c).Else-kind-word k) e (part_count g p.0 a.node p.1 tuple-parts n) (tree_parts g p.0 a.node p.1 tuple-parts n) c.check_each_in_grammar.result c.check_each_in_grammar.ensures
+    let n = node_word t (goal.at.check_in_grammar-returns-else-word2-count t c).Else-kind-word k in
+    λ s v h. arm_tuple a.rows.now s a.row (tree_of g a.node) v h (row_kind t (goal.at.check_in_grammar-returns-else-word2-count t c).Else-kind-word k) (tree_is t (goal.at.check_in_grammar-returns-else-word2-count t c).Else-kind-word k) e (part_count g p.0 a.node p.1 tuple-parts n) (tree_parts g p.0 a.node p.1 tuple-parts n) c.check_each_in_grammar.result c.check_each_in_grammar.ensures
 
 pub check_in_grammar-returns-in-5 : goal.check_in_grammar-returns-in-5
 check_in_grammar-returns-in-5 t c = leaf t (goal.at.check_in_grammar-returns-in-5 t c).Else-kind-word c.in-5.is refl
@@ -223,9 +223,9 @@ check_in_grammar-returns-else-count-word2 t c =
     let g = a.grammar.now in
     let k = c.in-8.is in
     let l : (row_at a.rows.now a.row).word2 < count_word g a.node = omega (arith, c.word2_at-word2.ensures, c.word-count.ensures.0) in
-    let n = node-word t (goal.at.check_in_grammar-returns-else-count-word2 t c).Else-kind-word k in
+    let n = node_word t (goal.at.check_in_grammar-returns-else-count-word2 t c).Else-kind-word k in
     let e = tree_case g p.0 a.node p.1 n (row_at a.rows.now a.row).word2 l ∙ ap (λ (m : ℕ). tree_of g (child_word g (first_word g a.node + m))) (sym c.word2_at-word2.ensures) ∙ ap (tree_of g) (sym c.child_at-case.ensures.0) in
-    λ s v h. arm_case a.rows.now s a.row (tree_of g a.node) v h (row-kind t (goal.at.check_in_grammar-returns-else-count-word2 t c).Else-kind-word k) (tree_is t (goal.at.check_in_grammar-returns-else-count-word2 t c).Else-kind-word k) (omega (arith, l, part_count g p.0 a.node p.1 union-parts n)) e c.check_in_grammar.result c.check_in_grammar.ensures
+    λ s v h. arm_case a.rows.now s a.row (tree_of g a.node) v h (row_kind t (goal.at.check_in_grammar-returns-else-count-word2 t c).Else-kind-word k) (tree_is t (goal.at.check_in_grammar-returns-else-count-word2 t c).Else-kind-word k) (omega (arith, l, part_count g p.0 a.node p.1 union-parts n)) e c.check_in_grammar.result c.check_in_grammar.ensures
 
 pub check_in_grammar-returns-in-9 : goal.check_in_grammar-returns-in-9
 check_in_grammar-returns-in-9 t c = leaf t (goal.at.check_in_grammar-returns-in-9 t c).Else-kind-word c.in-9.is refl
@@ -238,4 +238,4 @@ check_in_grammar-returns-in-11-to-18446744073709551615 t c =
     let a = c.args in
     let p = c.requires in
     let g = a.grammar.now in
-    absurd (not_named c.kind_at-kind.result c.in-11-to-18446744073709551615.in-11-to-18446744073709551615-own.rest (omega (arith, (node-inside g p.0 a.node p.1).2, node-word t (goal.at.check_in_grammar-returns-in-11-to-18446744073709551615 t c).Else-kind-word refl)))
+    absurd (not_named c.kind_at-kind.result c.in-11-to-18446744073709551615.in-11-to-18446744073709551615-own.rest (omega (arith, (node-inside g p.0 a.node p.1).2, node_word t (goal.at.check_in_grammar-returns-in-11-to-18446744073709551615 t c).Else-kind-word refl)))

@@ -41,8 +41,8 @@ number_word c k e =
     let a = c.args in
     number_fits a.rows.now a.row c.kind_at-kind.ensures c.word2_at-word2.ensures c.word3_at-place.ensures k e c.requires.0
 
-array-words : (c : After-word3_at-place) (k : Elements) → kind_of (this c).kind ≡ elements k → let a = c.args in ((this c).word3 + element_width k * (this c).word2 ≤ length a.store.now) × (a.index + (8 + element_width k * (this c).word2) ≤ length a.out.now)
-array-words c k e =
+array_words : (c : After-word3_at-place) (k : Elements) → kind_of (this c).kind ≡ elements k → let a = c.args in ((this c).word3 + element_width k * (this c).word2 ≤ length a.store.now) × (a.index + (8 + element_width k * (this c).word2) ≤ length a.out.now)
+array_words c k e =
     let a = c.args in
     (elements_fit a.rows.now a.row c.kind_at-kind.ensures c.word2_at-word2.ensures c.word3_at-place.ensures k e c.requires.0, room c e)
 
@@ -64,15 +64,15 @@ marshall_uint64-requires-in-3 c = room (goal.at.marshall_uint64-requires-in-3 c)
 
 pub marshall_elements-requires : goal.marshall_elements-requires
 unfolding kind_of kinds own_bytes
-marshall_elements-requires c = array-words (goal.at.marshall_elements-requires c).After-word3_at-place bytes (ap kind_of c.in-5.is)
+marshall_elements-requires c = array_words (goal.at.marshall_elements-requires c).After-word3_at-place bytes (ap kind_of c.in-5.is)
 
 pub marshall_elements-requires-in-6 : goal.marshall_elements-requires-in-6
 unfolding kind_of kinds own_bytes
-marshall_elements-requires-in-6 c = array-words (goal.at.marshall_elements-requires-in-6 c).After-word3_at-place uint32s (ap kind_of c.in-6.is)
+marshall_elements-requires-in-6 c = array_words (goal.at.marshall_elements-requires-in-6 c).After-word3_at-place uint32s (ap kind_of c.in-6.is)
 
 pub marshall_elements-requires-in-7 : goal.marshall_elements-requires-in-7
 unfolding kind_of kinds own_bytes
-marshall_elements-requires-in-7 c = array-words (goal.at.marshall_elements-requires-in-7 c).After-word3_at-place uint64s (ap kind_of c.in-7.is)
+marshall_elements-requires-in-7 c = array_words (goal.at.marshall_elements-requires-in-7 c).After-word3_at-place uint64s (ap kind_of c.in-7.is)
 
 pub marshall_uint64-requires-in-8 : goal.marshall_uint64-requires-in-8
 unfolding kind_of kinds own_bytes
