@@ -21,8 +21,8 @@ fn main() {
     // A check or the documentation needs no archive, so only linking fails without one.
     if !archive.is_file() {
         println!(
-            "cargo:warning=nothing links without {}: `rt lib`, run in the repository's \
-             folder crates/route_c, builds it, and {FOLDER} names another folder for it",
+            "cargo:warning=nothing links without {}: `rt lib --cpu x86-64`, run in the \
+             repository's folder crates/route_c, builds it, and {FOLDER} names another folder for it",
             archive.display()
         );
     }

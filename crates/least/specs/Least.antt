@@ -1,5 +1,5 @@
--- The least lengths of a grammar's nodes as the code holds them: an array with a mark for none, filled from the last node to the root.
-use Rattle.std.specs.Prelude.{◌≡◌, Bool, true, false, cond, List, ℕ, suc, ◌≤◌, ◌<◌, length, get_or, eqb}
+-- The least lengths of a grammar's nodes as the code holds them: 256 entries, with a mark for none, filled from the last node to the root.
+use Rattle.std.specs.Prelude.{◌≡◌, Bool, true, false, cond, List, ◌++◌, ℕ, suc, ◌≤◌, ◌<◌, length, get_or, eqb}
 use Rattle.std.proofs.Math.Option.{Option, none, some}
 use Rattle.refusal.specs.Outcome.{Outcome, accepted, refused, map, Reason}
 use Rattle.refusal.specs.Meaning.{reason_of}
@@ -11,7 +11,7 @@ use Rattle.grammar.specs.Tree.{tree_of}
 use Rattle.least.specs.declared.LeastLength.{LeastLength}
 use Rattle.least.specs.declared.LeastLength.TheVariants as L
 
--- the least length that an entry of the array holds; 2^32 − 1 is the mark
+-- the least length that an entry holds; 2^32 − 1 is the mark
 unfoldable pub length_of : ℕ → Option ℕ
 length_of n = cond (eqb n 4294967295) none (some n)
 
@@ -23,6 +23,13 @@ joining false = min_least
 abbrev pub of_no_child : Bool → Option ℕ
 of_no_child true = some 0
 of_no_child false = none
+
+-- the four blocks of 64 that the code has, and all 256 entries, one block behind the other
+abbrev pub Blocks : List ℕ → List ℕ → List ℕ → List ℕ → Type 0
+Blocks a b c d = (length a ≡ 64) × (length b ≡ 64) × (length c ≡ 64) × (length d ≡ 64)
+
+unfoldable pub entries : List ℕ → List ℕ → List ℕ → List ℕ → List ℕ
+entries a b c d = a ++ (b ++ (c ++ d))
 
 -- the entries of node k and the nodes behind it are their least lengths, and behind them all is 0
 pub record FilledFrom (k : ℕ) (g lengths : List ℕ) : Type 0 where

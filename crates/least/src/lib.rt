@@ -1,12 +1,12 @@
 // The least length of the records of a grammar, worked out for each of its nodes from the last back to the root.
 #![tactic(auto)]
 
-ghost use Rattle.std.specs.Prelude.{◌≡◌};
+ghost use Rattle.std.specs.Prelude.{◌≡◌, ◌<◌, List, ℕ, get_or, set};
 ghost use Rattle.value.specs.Least.{add_least, min_least, least, fold_least};
 ghost use Rattle.tables.specs.Grammar.{first_word, count_word};
 ghost use Rattle.grammar.specs.Rule.{Passes};
 ghost use Rattle.grammar.specs.Tree.{child_trees, tree_of};
-ghost use Rattle.least.specs.Least.{length_of, joining, of_no_child, FilledFrom, Ready, least_length_of, least_of};
+ghost use Rattle.least.specs.Least.{length_of, joining, of_no_child, Blocks, entries, FilledFrom, Ready, least_length_of, least_of};
 
 use refusal::{Answer, Refusal};
 
@@ -71,9 +71,48 @@ fn of_no_child(sum: bool) -> u32
     if sum { 0 } else { NO_VALUE }
 }
 
+// A node's entry, from the blocks of 64 entries that hold those of all nodes.
+fn entry(a: &[u32], b: &[u32], c: &[u32], d: &[u32], node: usize) -> u32
+    requires { Blocks a.now b.now c.now d.now × (node < 256) }
+    ensures { result ≡ get_or (entries a.now b.now c.now d.now) node 0 }
+{
+    if node < 64 {
+        a[node]
+    } else if node < 128 {
+        b[node - 64]
+    } else if node < 192 {
+        c[node - 128]
+    } else {
+        d[node - 192]
+    }
+}
+
+fn set_entry(a: &mut [u32], b: &mut [u32], c: &mut [u32], d: &mut [u32], node: usize, length: u32)
+    requires { Blocks a.old b.old c.old d.old × (node < 256) }
+    ensures { entries a.new b.new c.new d.new ≡ set (entries a.old b.old c.old d.old) node length }
+{
+    if node < 64 {
+        a[node] = length;
+    } else if node < 128 {
+        b[node - 64] = length;
+    } else if node < 192 {
+        c[node - 128] = length;
+    } else {
+        d[node - 192] = length;
+    }
+}
+
 // The entries of node k's children, joined from the last child to the first: their sum, or the least of them.
-fn join_children(grammar: &[u32], k: usize, sum: bool, lengths: &[u32; 256]) -> u32
-    requires { Ready k grammar.now lengths.now }
+fn join_children(
+    grammar: &[u32],
+    k: usize,
+    sum: bool,
+    a: &[u32],
+    b: &[u32],
+    c: &[u32],
+    d: &[u32],
+) -> u32
+    requires { Blocks a.now b.now c.now d.now × Ready k grammar.now (entries a.now b.now c.now d.now) }
     ensures { length_of result ≡ fold_least (joining sum) (of_no_child sum) (child_trees grammar.now (tree_of grammar.now) (first_word grammar.now k) (count_word grammar.now k)) }
 {
     let mut joined = of_no_child(sum);
@@ -81,14 +120,14 @@ fn join_children(grammar: &[u32], k: usize, sum: bool, lengths: &[u32; 256]) -> 
     while 0 < i {
         i -= 1;
         let child = tables::child_at(grammar, k, i);
-        joined = join(sum, lengths[child], joined);
+        joined = join(sum, entry(a, b, c, d, child), joined);
     }
     joined
 }
 
 // Node k's entry, from those of its children.
-fn node_length(grammar: &[u32], k: usize, lengths: &[u32; 256]) -> u32
-    requires { Ready k grammar.now lengths.now }
+fn node_length(grammar: &[u32], k: usize, a: &[u32], b: &[u32], c: &[u32], d: &[u32]) -> u32
+    requires { Blocks a.now b.now c.now d.now × Ready k grammar.now (entries a.now b.now c.now d.now) }
     ensures { length_of result ≡ least (tree_of grammar.now k) }
 {
     let kind = tables::word(grammar, 1 + 3 * k);
@@ -97,11 +136,11 @@ fn node_length(grammar: &[u32], k: usize, lengths: &[u32; 256]) -> u32
         1 => 4,
         2 => 8,
         3 => 8,
-        4 => join_children(grammar, k, SUM, lengths),
+        4 => join_children(grammar, k, SUM, a, b, c, d),
         5 => 8,
         6 => 8,
         7 => 8,
-        8 => add_least(8, join_children(grammar, k, LEAST, lengths)),
+        8 => add_least(8, join_children(grammar, k, LEAST, a, b, c, d)),
         9 => 4,
         10 => 8,
         // not met in a table that passes
@@ -117,21 +156,25 @@ fn last_count(grammar: &[u32]) -> u32
     tables::word(grammar, 3 * tables::word(grammar, 0)) as u32
 }
 
-// The entries of all nodes, filled from the last node to the root; the others stay 0. With a written 0 the compiler calls memset of the C
-// library, which the archive must not need, so the 0 is read from the table.
-fn fill(grammar: &[u32]) -> [u32; 256]
+// The root's entry, behind those of all nodes, filled from the last node to the root; the others stay 0. With a written 0, and for a local of
+// more than 256 bytes, the compiler calls memset of the C library, which the archive must not need: so the 0 is read from the table, and the
+// 256 entries are four blocks of 64.
+fn fill(grammar: &[u32]) -> u32
     requires { Passes grammar.now }
-    ensures { FilledFrom 0 grammar.now result }
+    ensures { (lengths : List ℕ) × FilledFrom 0 grammar.now lengths × (result ≡ get_or lengths 0 0) }
 {
     let zero = last_count(grammar);
-    let mut lengths = [zero; 256];
+    let mut a = [zero; 64];
+    let mut b = [zero; 64];
+    let mut c = [zero; 64];
+    let mut d = [zero; 64];
     let mut k = tables::word(grammar, 0);
     while 0 < k {
         k -= 1;
-        let length = node_length(grammar, k, &lengths);
-        lengths[k] = length;
+        let length = node_length(grammar, k, &a, &b, &c, &d);
+        set_entry(&mut a, &mut b, &mut c, &mut d, k, length);
     }
-    lengths
+    entry(&a, &b, &c, &d, 0)
 }
 
 // The least length of the records of a grammar.
@@ -141,8 +184,7 @@ pub fn least_length(grammar: &[u32]) -> LeastLength
     match grammar::check_grammar(grammar) {
         Answer::Refused(r) => LeastLength::Refused(r),
         Answer::Accepted => {
-            let lengths = fill(grammar);
-            let root = lengths[0];
+            let root = fill(grammar);
             if root == NO_VALUE {
                 LeastLength::NoValue
             } else {

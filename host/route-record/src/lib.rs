@@ -64,8 +64,8 @@
 //! route-record = { path = "where/the/repository/is/host/route-record" }
 //! ```
 //!
-//! It links `libroute_c.a`, which `rt lib`, run in the folder `crates/route_c`, builds in its
-//! folder `out`. An archive that lies elsewhere is found by the variable
+//! It links `libroute_c.a`, which `rt lib --cpu x86-64`, run in the folder `crates/route_c`,
+//! builds in its folder `out`. An archive that lies elsewhere is found by the variable
 //! `ROUTE_RECORD_LIB_DIR`, the absolute path of its folder, which may stand under `[env]` in the
 //! project's `.cargo/config.toml`. `cargo check` and `cargo doc` need no archive.
 //!

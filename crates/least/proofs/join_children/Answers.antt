@@ -11,15 +11,15 @@ loop-i-init c =
     let g = a.grammar.now in
     (omega (arith, c.word-i.ensures.0), c.of_no_child-joined.ensures ∙ joined-none a.sum g (first_word g a.k) (count_word g a.k) c.word-i.result c.word-i.ensures.0)
 
-pub bounds-lengths-child : goal.bounds-lengths-child
-bounds-lengths-child c =
+pub entry-requires : goal.entry-requires
+entry-requires c =
     let v = c.loop-i in
-    omega (arith, (child_entry c.requires (v.i - 1) (omega (arith, v.invariant.0, c.loop-i-test.true))).0, c.child_at-child.ensures.0)
+    (c.requires.0, omega (arith, (child_entry c.requires.1 (v.i - 1) (omega (arith, v.invariant.0, c.loop-i-test.true))).0, c.child_at-child.ensures.0))
 
 pub loop-i-preserved : goal.loop-i-preserved
 loop-i-preserved c =
     let v = c.loop-i in
-    (omega (arith, v.invariant.0), joined_more c.args.sum c.requires v.i c.child_at-child.result c.join-joined.result v.joined c.loop-i-test.true v.invariant.0 c.child_at-child.ensures.0 c.join-joined.ensures v.invariant.1)
+    (omega (arith, v.invariant.0), joined_more c.args.sum c.requires.1 v.i c.child_at-child.result c.join-joined.result v.joined c.loop-i-test.true v.invariant.0 c.child_at-child.ensures.0 (rw (← c.entry.ensures) c.join-joined.ensures) v.invariant.1)
 
 pub returns : goal.returns
 returns c =
