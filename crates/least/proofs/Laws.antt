@@ -4,7 +4,7 @@ use mathlib.Core.Bool.{Bool}
 use mathlib.Core.Logic.{◌⊎◌, inl, inr}
 use mathlib.Core.Option.{Option, none, some}
 use mathlib.Core.List.{List}
-use Prim.Native.Nat.{ℕ, zero, suc, ◌+◌, ◌-◌, ◌*◌, ◌≤◌, ◌<◌, min}
+use Prim.Native.Nat.{ℕ, zero, suc, ◌+◌, ◌-◌, ◌≤◌, ◌<◌, min}
 use native.Mathlib.Nat.{eq-or-lt_of_le}
 use native.Mathlib.Decide.{dec_le}
 use native.Mathlib.Omega.{arith}
@@ -101,22 +101,6 @@ joined_more sum {k} {g} {lengths} r i child n joined p h c e j =
     e ∙ rw (x, j) (joined_child sum g (first_word g k) (count_word g k) i p h)
 
 -- ---- the nodes, from the last to the root
-
-pub last_childless : (g : List ℕ) → Passes g → get_or g (3 * node_count g) 0 ≡ 0
-last_childless g p = go (dec_le 1 (count_word g k)) (ap (λ (n : ℕ). get_or g n 0) e)
-  where
-    k : ℕ
-    k = node_count g - 1
-
-    some : 0 < node_count g
-    some = p.layout.start.1.0
-
-    e : 3 * node_count g ≡ 3 + 3 * k
-    e = omega arith
-
-    go : Dec (1 ≤ count_word g k) → get_or g (3 * node_count g) 0 ≡ count_word g k → get_or g (3 * node_count g) 0 ≡ 0
-    go (yes l) q = let c = (p.node k (omega (arith, some))).children (first_word g k) (omega arith, omega arith) in absurd (omega (arith, c.0, c.1, some))
-    go (no l) q = omega arith
 
 -- a node's entry, by what its kind word is
 pub node-entry : {k : ℕ} {g lengths : List ℕ} → Ready k g lengths → {kind : ℕ} → kind ≡ kind_word g k → (key n : ℕ) → kind ≡ key → length_of n ≡ least (node_tree (kind_of key) (child_trees g (tree_of g) (first_word g k) (count_word g k))) → length_of n ≡ least (tree_of g k)

@@ -148,26 +148,16 @@ fn node_length(grammar: &[u32], k: usize, a: &[u32], b: &[u32], c: &[u32], d: &[
     }
 }
 
-// Word 3N, the count of the last node's children: 0, since their numbers would be above its own.
-fn last_count(grammar: &[u32]) -> u32
-    requires { Passes grammar.now }
-    ensures { result ≡ 0 }
-{
-    tables::word(grammar, 3 * tables::word(grammar, 0)) as u32
-}
-
-// The root's entry, behind those of all nodes, filled from the last node to the root; the others stay 0. With a written 0, and for a local of
-// more than 256 bytes, the compiler calls memset of the C library, which the archive must not need: so the 0 is read from the table, and the
-// 256 entries are four blocks of 64.
+// The root's entry, behind those of all nodes, filled from the last node to the root; the others stay 0. For a local of more than 256 bytes the
+// compiler calls memset of the C library, which the archive must not need, so the 256 entries are four blocks of 64.
 fn fill(grammar: &[u32]) -> u32
     requires { Passes grammar.now }
     ensures { (lengths : List ℕ) × FilledFrom 0 grammar.now lengths × (result ≡ get_or lengths 0 0) }
 {
-    let zero = last_count(grammar);
-    let mut a = [zero; 64];
-    let mut b = [zero; 64];
-    let mut c = [zero; 64];
-    let mut d = [zero; 64];
+    let mut a = [0u32; 64];
+    let mut b = [0u32; 64];
+    let mut c = [0u32; 64];
+    let mut d = [0u32; 64];
     let mut k = tables::word(grammar, 0);
     while 0 < k {
         k -= 1;

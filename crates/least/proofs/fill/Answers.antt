@@ -8,8 +8,8 @@ use Rattle.least.proofs.fill.Goals as goal
 
 pub loop-k-init : goal.loop-k-init
 loop-k-init c =
-    let z = all-zero 64 c.last_count-zero.result c.last_count-zero.ensures in
-    let r = replicate 64 c.last_count-zero.result in
+    let z = all-zero 64 0 refl in
+    let r = replicate 64 0 in
     let p : Blocks r r r r = (refl, refl, refl, refl) in
     (omega (arith, c.word-k.ensures.0), p, filled_none c.args.grammar.now _ c.word-k.result c.word-k.ensures.0 (length-entries r r r r p) (entries-zero r r r r p z z z z))
 
