@@ -77,11 +77,7 @@ module _ (w : ℕ) (s : List ℕ) (index : ℕ) where
         fills_accepted (λ bs. unpack_little_endian_seq w bs (length numbers)) numbers (ap (bytes (w * length numbers)) h)
         (f ∙ put_whole numbers (unpack_little_endian_seq w (drop index s) i) l ∙ ap (unpack_little_endian_seq w (drop index s)) e ∙ sym (unpack_seq_take w (length numbers) (w * length numbers) (drop index s) (le_refl (w * length numbers))))
 
--- the loop that unpacks a sequence: the bytes are there, and the first i numbers are unpacked
-abbrev pub Unpacking : ℕ → List ℕ → ℕ → List ℕ → ℕ → List ℕ → Type 0
-Unpacking w s index entry i numbers = (i ≤ length entry) × (length numbers ≡ length entry) × (index + w * length entry ≤ length s) × UnpackedTo w s index entry i numbers
-
--- the loop that packs one: there is room, and the first i numbers are put
+-- the loop that packs a sequence: there is room, and the first i numbers are put
 abbrev pub Packing : ℕ → List ℕ → List ℕ → ℕ → ℕ → List ℕ → Type 0
 Packing w numbers entry index i out = (i ≤ length numbers) × (length out ≡ length entry) × (index + w * length numbers ≤ length entry) × PackedTo w numbers entry index i out
 

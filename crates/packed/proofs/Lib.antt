@@ -1,7 +1,6 @@
 pub mod Laws
 pub mod Put
 pub mod Calls
-pub mod Meaning
 pub mod Source
 pub mod Steps
 pub mod Fitting

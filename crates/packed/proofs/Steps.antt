@@ -1,17 +1,17 @@
 -- Request 05, proved: the steps of packing and unpacking, once for every width.
-use mathlib.Core.Path.{◌≡◌, refl, sym, ap, ◌∙◌}
+use mathlib.Core.Path.{◌≡◌, refl, sym, ap, subst, ◌∙◌}
 use mathlib.Core.Logic.{◌↔◌}
 use mathlib.Core.List.{List}
 use Prim.Native.Nat.{ℕ, ◌+◌, ◌*◌, ◌/◌, ◌%◌, ◌^◌, ◌≤◌, ◌<◌}
-use native.Mathlib.Nat.{le_refl}
+use native.Mathlib.Nat.{le_refl, mod-eq_of_lt}
 use native.Mathlib.Numerals.{add-one}
 use native.Mathlib.Omega.{arith}
 use lib.ListN.{length, get_or, set, take, drop}
 use lib.Seq.{get_or-drop}
 use Rattle.refusal.specs.Outcome.{Outcome, accepted, map, contents, Fills, Reason}
-use Rattle.packed.specs.Packed.{unpack_little_endian, pack_little_endian, present, room, unpack_at, put, put_at}
+use Rattle.packed.specs.Packed.{Bytes, unpack_little_endian, pack_little_endian, present, room, unpack_at, put, put_at}
 use Rattle.packed.specs.Steps.{Summed, PutSoFar, InOrder, StepsOfE}
-use Rattle.packed.proofs.Laws.{unpack_take, length_pack, pack_snoc, pack_front, unpack_pack}
+use Rattle.packed.proofs.Laws.{unpack_at-below, unpack_take, length_pack, pack_snoc, pack_front, unpack_pack}
 use Rattle.packed.proofs.Put.{put-nothing, put_same, put-over, put_next}
 use Rattle.packed.proofs.Source.{put-there}
 use Rattle.packed.proofs.Calls.{present-all, present-fits, room-all, room_fits}
@@ -90,6 +90,10 @@ stands n out index i inside = (
 )
 
 -- the calls, where all bytes are there, or have room
+-- the sum of all bytes fits its type
+pub summed-fits : (w : ℕ) (s : List ℕ) (index : ℕ) {n : ℕ} → Bytes s → Summed s index w n → n % 256 ^ w ≡ n
+summed-fits w s index {n} h e = mod-eq_of_lt (subst (λ (x : ℕ). x < 256 ^ w) (sym e) (unpack_at-below w s index h))
+
 pub unpack_accepted : (w : ℕ) (s : List ℕ) (index : ℕ) {n : ℕ} → accepted tt ≡ present (length s) index w → Summed s index w n → accepted n ≡ unpack_at w s index
 unpack_accepted w s index h e = sym (in_order.sums_all w s index _ (present-fits (length s) index w h) e)
 

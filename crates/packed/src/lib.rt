@@ -2,26 +2,69 @@
 // its packers ask first: whether there is room.
 #![tactic(auto)]
 
-ghost use Rattle.std.specs.Prelude.{◌≡◌, ◌+◌, ◌*◌, ◌^◌, ◌≤◌, ◌<◌, length, leb};
-ghost use Rattle.refusal.specs.Outcome.{Fills};
+ghost use Rattle.std.specs.Prelude.{ℕ, ◌≡◌, ◌+◌, ◌*◌, ◌%◌, ◌^◌, ◌≤◌, ◌<◌, length, leb};
+ghost use Rattle.refusal.specs.Outcome.{Fills, map};
 ghost use Rattle.refusal.specs.Meaning.{outcome_of};
 ghost use Rattle.packed.specs.Packed.{present as present_of, room as room_of, unpack_at, unpack_seq_at};
 ghost use Rattle.packed.specs.Steps.{Summed};
-ghost use Rattle.packed.specs.Meaning.{unpacked_u32, unpacked_u64};
+ghost use Rattle.std.proofs.Common.{rules};
+ghost use Rattle.std.specs.Prelude.{map as map_list};
 
-use refusal::{Answer, Refusal};
+use refusal::Refusal;
 
-// The answers of the unpackers of one number.
-#[derive(Clone, Copy)]
-pub enum UnpackedU32 {
-    Number(u32),
-    Refused(Refusal),
+// The numbers that PackedInts packs: u32 in 4 bytes, u64 in 8.
+pub trait PackedInt: Copy {
+    ghost WIDTH: { ℕ };
+
+    ghost number: { Self → ℕ };
+
+    // The bytes of a number.
+    const WIDTH: usize;
+
+    // The number in the lowest bytes of n.
+    fn from_u64(n: u64) -> Self
+        ensures { number result ≡ n % 256 ^ WIDTH };
+
+    fn to_u64(self) -> u64
+        ensures { result ≡ number self };
+
+    ghost width_within: { (1 ≤ WIDTH) × (WIDTH ≤ 8) };
 }
 
-#[derive(Clone, Copy)]
-pub enum UnpackedU64 {
-    Number(u64),
-    Refused(Refusal),
+impl PackedInt for u32 {
+    ghost WIDTH = { 4 };
+
+    ghost number = { λ n. n };
+
+    const WIDTH: usize = 4;
+
+    fn from_u64(n: u64) -> u32 {
+        (n % 0x1_0000_0000) as u32
+    }
+
+    fn to_u64(self) -> u64 {
+        u64::from(self)
+    }
+
+    ghost width_within = { Prim.search rules };
+}
+
+impl PackedInt for u64 {
+    ghost WIDTH = { 8 };
+
+    ghost number = { λ n. n };
+
+    const WIDTH: usize = 8;
+
+    fn from_u64(n: u64) -> u64 {
+        n
+    }
+
+    fn to_u64(self) -> u64 {
+        self
+    }
+
+    ghost width_within = { Prim.search rules };
 }
 
 // Whether count numbers of width bytes from the index on end within len bytes. The count is compared and never multiplied.
@@ -38,11 +81,11 @@ pub fn within(len: usize, index: usize, count: usize, width: usize) -> bool
     count <= (len - index) / width
 }
 
-fn present(len: usize, index: usize, count: usize, width: usize) -> Answer
+fn present(len: usize, index: usize, count: usize, width: usize) -> Result<(), Refusal>
     ensures { outcome_of result ≡ present_of len index (width * count) }
 {
     if len < index {
-        return Answer::Refused(refusal::at_byte(refusal::INDEX_PAST_END, index));
+        return Err(refusal::at_byte(refusal::INDEX_PAST_END, index));
     }
     refusal::accept_if(
         within(len, index, count, width),
@@ -51,7 +94,7 @@ fn present(len: usize, index: usize, count: usize, width: usize) -> Answer
 }
 
 // Whether count numbers of width bytes have room from the index on. Every writer takes refusal 17 from here.
-pub fn room(len: usize, index: usize, count: usize, width: usize) -> Answer
+pub fn room(len: usize, index: usize, count: usize, width: usize) -> Result<(), Refusal>
     ensures { outcome_of result ≡ room_of len index (width * count) }
 {
     refusal::accept_if(
@@ -75,61 +118,64 @@ fn unpack(packed: &[u8], index: usize, width: usize) -> u64
 {
     let mut weight: u64 = 1;
     let mut sum = add_byte(0, packed, index, 0, weight);
-    let mut i: usize = 1;
-    while i < width {
+    for i in 1..width {
         weight = weight * 0x1_00;
         sum = add_byte(sum, packed, index, i, weight);
-        i += 1;
     }
     sum
 }
 
-pub fn unpack_little_endian_uint32(packed: &[u8], index: usize) -> UnpackedU32
-    ensures { unpacked_u32 result ≡ unpack_at 4 packed.now index }
+// The number at the index: 7, then 9.
+pub fn unpack_little_endian<T: PackedInt>(packed: &[u8], index: usize) -> Result<T, Refusal>
+    ensures { map T.number (outcome_of result) ≡ unpack_at T.WIDTH packed.now index }
 {
-    match present(packed.len(), index, 1, 4) {
-        Answer::Refused(r) => UnpackedU32::Refused(r),
-        Answer::Accepted => UnpackedU32::Number(unpack(packed, index, 4) as u32),
-    }
+    present(packed.len(), index, 1, T::WIDTH)?;
+    Ok(T::from_u64(unpack(packed, index, T::WIDTH)))
 }
 
-pub fn unpack_little_endian_uint64(packed: &[u8], index: usize) -> UnpackedU64
-    ensures { unpacked_u64 result ≡ unpack_at 8 packed.now index }
+// So many numbers as the slice holds, one behind the other from the index on: 7, then 9.
+pub fn unpack_little_endian_seq<T: PackedInt>(
+    packed: &[u8],
+    index: usize,
+    numbers: &mut [T],
+) -> Result<(), Refusal>
+    ensures { Fills (unpack_seq_at T.WIDTH packed.now index (length numbers.old)) (outcome_of result) (map_list T.number numbers.old) (map_list T.number numbers.new) }
 {
-    match present(packed.len(), index, 1, 8) {
-        Answer::Refused(r) => UnpackedU64::Refused(r),
-        Answer::Accepted => UnpackedU64::Number(unpack(packed, index, 8)),
+    present(packed.len(), index, numbers.len(), T::WIDTH)?;
+    for (i, number) in numbers.iter_mut().enumerate() {
+        *number = T::from_u64(unpack(packed, index + T::WIDTH * i, T::WIDTH));
     }
+    Ok(())
 }
 
-pub fn unpack_little_endian_uint32_seq(packed: &[u8], index: usize, numbers: &mut [u32]) -> Answer
+pub fn unpack_little_endian_uint32(packed: &[u8], index: usize) -> Result<u32, Refusal>
+    ensures { outcome_of result ≡ unpack_at 4 packed.now index }
+{
+    unpack_little_endian(packed, index)
+}
+
+pub fn unpack_little_endian_uint64(packed: &[u8], index: usize) -> Result<u64, Refusal>
+    ensures { outcome_of result ≡ unpack_at 8 packed.now index }
+{
+    unpack_little_endian(packed, index)
+}
+
+pub fn unpack_little_endian_uint32_seq(
+    packed: &[u8],
+    index: usize,
+    numbers: &mut [u32],
+) -> Result<(), Refusal>
     ensures { Fills (unpack_seq_at 4 packed.now index (length numbers.old)) (outcome_of result) numbers.old numbers.new }
 {
-    match present(packed.len(), index, numbers.len(), 4) {
-        Answer::Refused(r) => Answer::Refused(r),
-        Answer::Accepted => {
-            let mut i: usize = 0;
-            while i < numbers.len() {
-                numbers[i] = unpack(packed, index + 4 * i, 4) as u32;
-                i += 1;
-            }
-            Answer::Accepted
-        }
-    }
+    unpack_little_endian_seq(packed, index, numbers)
 }
 
-pub fn unpack_little_endian_uint64_seq(packed: &[u8], index: usize, numbers: &mut [u64]) -> Answer
+pub fn unpack_little_endian_uint64_seq(
+    packed: &[u8],
+    index: usize,
+    numbers: &mut [u64],
+) -> Result<(), Refusal>
     ensures { Fills (unpack_seq_at 8 packed.now index (length numbers.old)) (outcome_of result) numbers.old numbers.new }
 {
-    match present(packed.len(), index, numbers.len(), 8) {
-        Answer::Refused(r) => Answer::Refused(r),
-        Answer::Accepted => {
-            let mut i: usize = 0;
-            while i < numbers.len() {
-                numbers[i] = unpack(packed, index + 8 * i, 8);
-                i += 1;
-            }
-            Answer::Accepted
-        }
-    }
+    unpack_little_endian_seq(packed, index, numbers)
 }

@@ -1,4 +1,4 @@
-// A refusal, as document 01 has it: its number in the papers' tables and its place. Every answer of the library holds this struct.
+// A refusal, as document 01 has it: its number in the papers' tables and its place. It is the error of every call of the library.
 #![tactic(auto)]
 
 ghost use Rattle.std.specs.Prelude.{◌≡◌};
@@ -53,24 +53,17 @@ pub const NO_GRAMMAR_ACCEPTS: u64 = 22;
 pub const PADDING_NOT_ZERO: u64 = 23;
 
 // Where a refusal was found: a word of a grammar or of a grammar list, a byte or a row.
-#[derive(Clone, Copy)]
+#[derive(Clone, Copy, Debug, PartialEq, Eq)]
 pub enum Place {
     Word(u64),
     Byte(u64),
     Row(u64),
 }
 
-#[derive(Clone, Copy)]
+#[derive(Clone, Copy, Debug, PartialEq, Eq)]
 pub struct Refusal {
     pub place: Place,
     pub number: u64,
-}
-
-// The answer of a call that gives no value.
-#[derive(Clone, Copy)]
-pub enum Answer {
-    Accepted,
-    Refused(Refusal),
 }
 
 pub fn at_word(number: u64, at: usize) -> Refusal
@@ -101,12 +94,8 @@ pub fn at_row(number: u64, at: usize) -> Refusal
 }
 
 // Accepted where the test holds.
-pub fn accept_if(holds: bool, refusal: Refusal) -> Answer
+pub fn accept_if(holds: bool, refusal: Refusal) -> Result<(), Refusal>
     ensures { outcome_of result ≡ test holds (reason_of refusal) accepted }
 {
-    if holds {
-        Answer::Accepted
-    } else {
-        Answer::Refused(refusal)
-    }
+    if holds { Ok(()) } else { Err(refusal) }
 }

@@ -14,6 +14,16 @@ pub const MOST_ROWS: usize = 4096;
 // The bytes of the longest record, store or value that is written.
 pub const MOST_BYTES: usize = 1048576;
 
+// The words of a row: the kind, the rows of the value, word 2, word 3 and the bytes of the value.
+#[derive(Clone, Copy, Debug, PartialEq, Eq)]
+pub struct Row {
+    pub kind: u64,
+    pub span: u64,
+    pub word2: u64,
+    pub word3: u64,
+    pub size: u64,
+}
+
 // Word i of a row that the slice does not hold whole: the row behind the whole ones may have some of its words.
 fn cut_word(rows: &[u64], row: usize, i: usize) -> u64
     requires { i < row_width }
@@ -71,24 +81,16 @@ pub fn size_at(rows: &[u64], row: usize) -> u64
 }
 
 // Puts a row where the slice has all its words, else nothing.
-pub fn put_row(
-    rows: &mut [u64],
-    row: usize,
-    kind: u64,
-    span: u64,
-    word2: u64,
-    word3: u64,
-    size: u64,
-)
-    ensures { rows.new ≡ laid rows.old row (kind ∷ span ∷ word2 ∷ word3 ∷ size ∷ []) }
+pub fn put_row(rows: &mut [u64], at: usize, row: Row)
+    ensures { rows.new ≡ laid rows.old at (row.kind ∷ row.span ∷ row.word2 ∷ row.word3 ∷ row.size ∷ []) }
 {
-    if row < rows.len() / ROW_WIDTH {
-        let at = ROW_WIDTH * row;
-        rows[at] = kind;
-        rows[at + 1] = span;
-        rows[at + 2] = word2;
-        rows[at + 3] = word3;
-        rows[at + 4] = size;
+    if at < rows.len() / ROW_WIDTH {
+        let first = ROW_WIDTH * at;
+        rows[first] = row.kind;
+        rows[first + 1] = row.span;
+        rows[first + 2] = row.word2;
+        rows[first + 3] = row.word3;
+        rows[first + 4] = row.size;
     }
 }
 

@@ -1,4 +1,5 @@
 pub mod Kinds
+pub mod Meaning
 pub mod Tree
 pub mod Bytes
 pub mod Step
