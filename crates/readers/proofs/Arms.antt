@@ -10,15 +10,12 @@ use lib.ListN.{length}
 use lib.Dec.{ltb}
 use borrow.Author.Tests.{ltb-true}
 use Rattle.refusal.specs.Outcome.{Outcome, accepted, refused, bind, test}
-use Rattle.refusal.specs.Meaning.{reason_of}
-use Rattle.refusal.specs.declared.Refusal.{Refusal}
 use Rattle.refusal.proofs.Outcome.{post_accepted}
-use Rattle.value.specs.Kinds.{Kind, Number, Elements, width, number_kind, element_width, elements_kind, kind_of, constant, number, array, tuple, elements as elements_class, union}
+use Rattle.value.specs.Kinds.{Kind, Number, Elements, width, element_width, kind_of, constant, number, array, tuple, elements as elements_class, union}
 use Rattle.value.specs.Tree.{G, Gs, GConstant, GNumber, GArray, GTuple, GNumberArray, GTaggedUnion, seq_g, seq_v, case_at, Val, Vals, VConstant, VNumber, VArray, VTuple, VNumberArray, VCase, SizeOfV, SeqSum, row_count, row_counts}
 use Rattle.value.specs.Step.{Step, yield, next, give, elements}
 use Rattle.value.specs.Parse.{Parse}
 use Rattle.value.specs.Reading.{State, Stop, Reading, stop, move, begin, claim, take_number, take_numbers, read_body, read_fields, read_val}
-use Rattle.value.proofs.KindLaws.{number-kind, elements-kind, other-kinds, is_parent, not-parent}
 use Rattle.value.proofs.Agreement.{Agrees, agrees, agrees_elements, agrees_fields, agrees_accepted, elements-count, fields_count}
 use Rattle.value.proofs.Ends.{EndsBehind, ends_body, ends-value, ends-elements, ends_fields}
 use Rattle.tables.specs.Grammar.{kind_word, first_word, count_word, child_word}
@@ -29,12 +26,18 @@ use Rattle.tables.specs.Row.{row_width, laid}
 use Rattle.rows.specs.Layout.{own_row, rows_of, rows_of_all}
 use Rattle.rows.proofs.LayoutLaws.{length_rows_of}
 use Rattle.readers.specs.declared.State.{State as CodeState}
-use Rattle.readers.specs.declared.Step.{Step as CodeStep}
-use Rattle.readers.specs.declared.Step.TheVariants.{Next, Stopped}
-use Rattle.readers.specs.Meaning.{state_of, step_of, StepKeeps}
-use Rattle.readers.specs.Reads.{Room, Ready, Node, RowClaimed, Leaf, Reads, closed, Counted, take_below}
+use Rattle.std.specs.Prelude.{Ok, Err, Some}
+use Rattle.value.specs.declared.Kind.{Kind as CodeKind}
+use Rattle.value.specs.Meaning.{kind_named}
+use Rattle.readers.specs.declared.Stopped.{Stopped}
+use Rattle.readers.specs.Meaning.{CodeStep, stop_of, state_of}
+use Rattle.readers.specs.Reads.{Room, Ready, Node, RowClaimed, Reads, closed, Counted, take_below}
 use Rattle.readers.proofs.Laws.{take_moves, test-accepted, reads_stopped, reads_next, node-inside}
 use Rattle.readers.proofs.Cycle.{went_on, reads_close, array_body, case_body}
+
+-- the kind of an arm of the match on a kind word
+pub of_kind : {k q : CodeKind} {x : Kind} → kind_named (Some k) ≡ x → k ≡ q → x ≡ kind_named (Some q)
+of_kind h e = sym h ∙ ap (λ (k : CodeKind). kind_named (Some k)) e
 
 -- the row of the value that starts at s is claimed, and t is the state behind it
 pub record Claimed (s t : CodeState) : Type 0 where
@@ -44,22 +47,21 @@ pub record Claimed (s t : CodeState) : Type 0 where
   pub free : s.begun < s.capacity
   pub claimed : claim s.capacity (state_of s) ≡ accepted (state_of t)
 
-pub claimed-next : (s t : CodeState) {r : CodeStep} → r ≡ Next t → step_of r ≡ claim s.capacity (state_of s) → StepKeeps s.capacity r → Claimed s t
+pub claimed-next : (s t : CodeState) → accepted (state_of t) ≡ claim s.capacity (state_of s) → t.capacity ≡ s.capacity → Claimed s t
 unfolding claim
-claimed-next s t e h k =
-    let q : accepted (state_of t) ≡ claim s.capacity (state_of s) = ap step_of (sym e) ∙ h in
+claimed-next s t q k =
     let x = test-accepted (ltb s.begun s.capacity) (stop 8 (begin (state_of s))) (begin (state_of s)) q in
     record {
       at = ap (λ (u : State). u.at) x.1;
       begun = ap (λ (u : State). u.begun) x.1 ∙ sym (add-one s.begun);
-      capacity = rw e at k;
+      capacity = k;
       free = ltb-true s.begun s.capacity x.0;
       claimed = sym q;
     }
 
 -- a claim that was refused
-pub claim-refused : (d : List ℕ) {entry exit : List ℕ} (g : G) (s t : CodeState) (f : Refusal) {r : CodeStep} → r ≡ Stopped t f → step_of r ≡ claim s.capacity (state_of s) → StepKeeps s.capacity r → Reads rows_of (read_val s.capacity d g (state_of s)) s.capacity s.begun s.at entry (Stopped t f) exit
-claim-refused d g s t f e h k = reads_stopped t f (ap (λ (x : Outcome Stop State). bind x (read_body s.capacity d g)) (ap step_of (sym e) ∙ h)) (rw e at k)
+pub claim-refused : (d : List ℕ) {entry exit : List ℕ} (g : G) (s : CodeState) (z : Stopped) → refused (stop_of z) ≡ claim s.capacity (state_of s) → z.state.capacity ≡ s.capacity → Reads rows_of (read_val s.capacity d g (state_of s)) s.capacity s.begun s.at entry (Err z) exit
+claim-refused d g s z h k = reads_stopped z (ap (λ (x : Outcome Stop State). bind x (read_body s.capacity d g)) h) k
 
 -- a state behind a count or a tag
 pub below_taken : (d : List ℕ) (limit code : ℕ) (s : State) (n : ℕ) (u : CodeState) → yield n (state_of u) ≡ take_below d limit code s → (u.at ≡ s.at + 8) × (u.begun ≡ s.begun) × (n < limit) × (s.at + 8 ≤ length d)
@@ -104,9 +106,9 @@ case_rows tag v = refl
 own_fits : (v : Val) (row p capacity : ℕ) → row + row_count v ≤ capacity → row_width * row + length (rows_of v p) ≤ row_width * capacity
 own_fits v row p capacity h = rw (length_rows_of v p) (omega arith)
 
--- the tree of a node, by the value of its kind word
-node_tree_lem : (g : List ℕ) (node : ℕ) → Node g node → (w : ℕ) (k : Kind) → kind_word g node ≡ w → kind_of w ≡ k → tree_of g node ≡ node_tree k (child_trees g (tree_of g) (first_word g node) (count_word g node))
-node_tree_lem g node n w k e f = tree_node g n.passes node n.below ∙ ap (λ (x : Kind). node_tree x (child_trees g (tree_of g) (first_word g node) (count_word g node))) (ap kind_of e ∙ f)
+-- the tree of a node, by its kind
+node_tree_lem : (g : List ℕ) (node : ℕ) → Node g node → (k : Kind) → kind_of (kind_word g node) ≡ k → tree_of g node ≡ node_tree k (child_trees g (tree_of g) (first_word g node) (count_word g node))
+node_tree_lem g node n k e = tree_node g n.passes node n.below ∙ ap (λ (x : Kind). node_tree x (child_trees g (tree_of g) (first_word g node) (count_word g node))) e
 
 -- The claimed row, then the body.
 
@@ -127,7 +129,7 @@ module _ (g : List ℕ) (node : ℕ) (d entry : List ℕ) (s t : CodeState) (c :
 
 -- Behind the claimed row.
 
-module _ {g d entry : List ℕ} {node w row : ℕ} {s : CodeState} (p : RowClaimed g d entry node w row s) where
+module _ {g d entry : List ℕ} {node row : ℕ} {w : Kind} {s : CodeState} (p : RowClaimed g d entry node w row s) where
   own_free : row < s.capacity
   own_free = omega (arith, p.claimed, p.ready.few)
 
@@ -136,17 +138,17 @@ module _ {g d entry : List ℕ} {node w row : ℕ} {s : CodeState} (p : RowClaim
 
   -- Kinds that are read at once.
 
-  pub leaf-constant : w ≡ 0 → {r : CodeStep} {exit : List ℕ} → r ≡ Next s → exit ≡ laid entry row (0 ∷ 1 ∷ 0 ∷ 0 ∷ 0 ∷ []) → Reads rows_of (read_body s.capacity d (tree_of g node) (state_of s)) s.capacity row s.at entry r exit
+  pub leaf-constant : w ≡ constant → {r : CodeState} {exit : List ℕ} → r ≡ s → exit ≡ laid entry row (0 ∷ 1 ∷ 0 ∷ 0 ∷ 0 ∷ []) → Reads rows_of (read_body s.capacity d (tree_of g node) (state_of s)) s.capacity row s.at entry (Ok r) exit
   unfolding read_body node_tree rows_of own_row row_count SizeOfV
-  leaf-constant e q h = rw (q, body_tree GConstant (node_tree_lem g node p.node 0 constant (p.kind ∙ e) other-kinds.0)) (reads_next s VConstant refl refl h)
+  leaf-constant e q h = rw (q, body_tree GConstant (node_tree_lem g node p.node constant (p.kind ∙ e))) (reads_next s VConstant refl refl h)
 
-  pub leaf-number : (k : Number) {x : Reading ℕ} {r : CodeStep} {exit : List ℕ} → w ≡ number_kind k → x ≡ take_number d (width k) (state_of s) → Reads rows_of (give (VNumber k) x) s.capacity row s.at entry r exit → Reads rows_of (read_body s.capacity d (tree_of g node) (state_of s)) s.capacity row s.at entry r exit
+  pub leaf-number : (k : Number) {r : CodeStep} {exit : List ℕ} → w ≡ number k → Reads rows_of (give (VNumber k) (take_number d (width k) (state_of s))) s.capacity row s.at entry r exit → Reads rows_of (read_body s.capacity d (tree_of g node) (state_of s)) s.capacity row s.at entry r exit
   unfolding read_body node_tree
-  leaf-number k e q h = rw (body_tree (GNumber k) (node_tree_lem g node p.node (number_kind k) (number k) (p.kind ∙ e) (number-kind k)) ∙ ap (give (VNumber k)) (sym q)) h
+  leaf-number k e h = rw (body_tree (GNumber k) (node_tree_lem g node p.node (number k) (p.kind ∙ e))) h
 
-  pub leaf-elements : (k : Elements) {r : CodeStep} {exit : List ℕ} → w ≡ elements_kind k → Reads rows_of (give (VNumberArray k) (take_numbers d (element_width k) (state_of s))) s.capacity row s.at entry r exit → Reads rows_of (read_body s.capacity d (tree_of g node) (state_of s)) s.capacity row s.at entry r exit
+  pub leaf-elements : (k : Elements) {r : CodeStep} {exit : List ℕ} → w ≡ elements_class k → Reads rows_of (give (VNumberArray k) (take_numbers d (element_width k) (state_of s))) s.capacity row s.at entry r exit → Reads rows_of (read_body s.capacity d (tree_of g node) (state_of s)) s.capacity row s.at entry r exit
   unfolding read_body node_tree
-  leaf-elements k e h = rw (body_tree (GNumberArray k) (node_tree_lem g node p.node (elements_kind k) (elements_class k) (p.kind ∙ e) (elements-kind k))) h
+  leaf-elements k e h = rw (body_tree (GNumberArray k) (node_tree_lem g node p.node (elements_class k) (p.kind ∙ e))) h
 
   -- the size of a value is the position behind its children less its start
   body_size : {A : Type 0} (x : Reading A) (f : A → Val) → read_body s.capacity d (tree_of g node) (state_of s) ≡ give f x → (t : Step State A) → x ≡ accepted t → t.state.at - s.at ≡ SizeOfV (f t.value)
@@ -189,16 +191,16 @@ module _ {g d entry : List ℕ} {node w row : ℕ} {s : CodeState} (p : RowClaim
         (subst (λ (i : ℕ). Reads rows_at (x i) i u.begun u.at entry read mid) m r))
 
   -- a head that was refused
-  head_stopped : (x : G) (limit code : ℕ) (k : ℕ → State → Reading Val) (u : CodeState) (f : Refusal) {exit : List ℕ} → tree_of g node ≡ x → next (take_below d limit code (state_of s)) k ≡ read_body s.capacity d x (state_of s) → refused (record { why = reason_of f; state = state_of u }) ≡ take_below d limit code (state_of s) → u.capacity ≡ s.capacity → Reads rows_of (read_body s.capacity d (tree_of g node) (state_of s)) s.capacity row s.at entry (Stopped u f) exit
-  head_stopped x limit code k u f e b h q = reads_stopped u f (ap (λ (y : Reading ℕ). next y k) h ∙ b ∙ sym (body_tree x e)) q
+  head_stopped : (x : G) (limit code : ℕ) (k : ℕ → State → Reading Val) (z : Stopped) {exit : List ℕ} → tree_of g node ≡ x → next (take_below d limit code (state_of s)) k ≡ read_body s.capacity d x (state_of s) → refused (stop_of z) ≡ take_below d limit code (state_of s) → z.state.capacity ≡ s.capacity → Reads rows_of (read_body s.capacity d (tree_of g node) (state_of s)) s.capacity row s.at entry (Err z) exit
+  head_stopped x limit code k z e b h q = reads_stopped z (ap (λ (y : Reading ℕ). next y k) h ∙ b ∙ sym (body_tree x e)) q
 
-pub array_count : (g : List ℕ) (node : ℕ) → Node g node → kind_word g node ≡ 3 → count_word g node ≡ 1
-array_count g node n e = subst (λ (x : Kind). CountRule x (first_word g node) (count_word g node)) (ap kind_of e ∙ other-kinds.1) (node-inside g node n).3.0
+pub array_count : (g : List ℕ) (node : ℕ) → Node g node → kind_of (kind_word g node) ≡ array → count_word g node ≡ 1
+array_count g node n e = subst (λ (x : Kind). CountRule x (first_word g node) (count_word g node)) e (node-inside g node n).3.0
 
-module _ {g d entry : List ℕ} {node row : ℕ} {s : CodeState} (p : RowClaimed g d entry node 3 row s) where
+module _ {g d entry : List ℕ} {node row : ℕ} {s : CodeState} (p : RowClaimed g d entry node array row s) where
   array_tree : tree_of g node ≡ GArray (tree_of g (child_word g (first_word g node + 0)))
   unfolding node_tree child_trees
-  array_tree = node_tree_lem g node p.node 3 array p.kind other-kinds.1 ∙ rw (array_count g node p.node p.kind, add-zero (first_word g node))
+  array_tree = node_tree_lem g node p.node array p.kind ∙ rw (array_count g node p.node p.kind, add-zero (first_word g node))
 
   pub arm_array : (count : ℕ) (u : CodeState) {read r : CodeStep} {mid exit : List ℕ} → yield count (state_of u) ≡ take_below d (s.capacity - s.begun + 1) 8 (state_of s) → u.capacity ≡ s.capacity → Reads rows_of_all (elements count (read_val u.capacity d (tree_of g (child_word g (first_word g node + 0)))) (state_of u)) u.capacity u.begun u.at entry read mid → r ≡ read → exit ≡ closed row s.at 3 count read mid → Reads rows_of (read_body s.capacity d (tree_of g node) (state_of s)) s.capacity row s.at entry r exit
   arm_array count u h m i q o =
@@ -212,15 +214,15 @@ module _ {g d entry : List ℕ} {node row : ℕ} {s : CodeState} (p : RowClaimed
       (omega (arith, f.1, y.1), omega (arith, f.2, y.1), λ span size b j. own_array span count size s.at v.value b j n))
       (moved p (s.capacity - s.begun + 1) 8 count u h m (λ j. elements count (read_val j d tree) (state_of u)) i) q o
 
-  pub arm_array_stopped : (u : CodeState) (f : Refusal) {exit : List ℕ} → refused (record { why = reason_of f; state = state_of u }) ≡ take_below d (s.capacity - s.begun + 1) 8 (state_of s) → u.capacity ≡ s.capacity → Reads rows_of (read_body s.capacity d (tree_of g node) (state_of s)) s.capacity row s.at entry (Stopped u f) exit
-  arm_array_stopped u f h m =
+  pub arm_array_stopped : (z : Stopped) {exit : List ℕ} → refused (stop_of z) ≡ take_below d (s.capacity - s.begun + 1) 8 (state_of s) → z.state.capacity ≡ s.capacity → Reads rows_of (read_body s.capacity d (tree_of g node) (state_of s)) s.capacity row s.at entry (Err z) exit
+  arm_array_stopped z h m =
       let tree = tree_of g (child_word g (first_word g node + 0)) in
-      head_stopped p (GArray tree) (s.capacity - s.begun + 1) 8 (λ n v. give VArray (elements n (read_val s.capacity d tree) v)) u f array_tree (array_body s.capacity d (state_of s) tree) h m
+      head_stopped p (GArray tree) (s.capacity - s.begun + 1) 8 (λ n v. give VArray (elements n (read_val s.capacity d tree) v)) z array_tree (array_body s.capacity d (state_of s) tree) h m
 
-module _ {g d entry : List ℕ} {node row : ℕ} {s : CodeState} (p : RowClaimed g d entry node 4 row s) where
+module _ {g d entry : List ℕ} {node row : ℕ} {s : CodeState} (p : RowClaimed g d entry node tuple row s) where
   tuple_tree : tree_of g node ≡ GTuple (child_trees g (tree_of g) (first_word g node) (count_word g node))
   unfolding node_tree
-  tuple_tree = node_tree_lem g node p.node 4 tuple p.kind other-kinds.2
+  tuple_tree = node_tree_lem g node p.node tuple p.kind
 
   pub arm_tuple : (count : ℕ) {read r : CodeStep} {mid exit : List ℕ} → count ≡ count_word g node → Reads rows_of_all (read_fields s.capacity d (child_trees g (tree_of g) (first_word g node) (count_word g node)) (state_of s)) s.capacity s.begun s.at entry read mid → r ≡ read → exit ≡ closed row s.at 4 count read mid → Reads rows_of (read_body s.capacity d (tree_of g node) (state_of s)) s.capacity row s.at entry r exit
   unfolding read_body
@@ -233,10 +235,10 @@ module _ {g d entry : List ℕ} {node row : ℕ} {s : CodeState} (p : RowClaimed
       (f.1, f.2, λ span size l j. own_tuple span count size s.at v.value l j n))
       (subst (λ (z : ℕ). Reads rows_of_all (read_fields s.capacity d gs (state_of s)) s.capacity z s.at entry read mid) b i) q o
 
-module _ {g d entry : List ℕ} {node row : ℕ} {s : CodeState} (p : RowClaimed g d entry node 8 row s) where
+module _ {g d entry : List ℕ} {node row : ℕ} {s : CodeState} (p : RowClaimed g d entry node union row s) where
   union_tree : tree_of g node ≡ GTaggedUnion (child_trees g (tree_of g) (first_word g node) (count_word g node))
   unfolding node_tree
-  union_tree = node_tree_lem g node p.node 8 union p.kind other-kinds.3
+  union_tree = node_tree_lem g node p.node union p.kind
 
   pub arm_case : (child tag limit : ℕ) (u : CodeState) {read r : CodeStep} {mid exit : List ℕ} → limit ≡ count_word g node → child ≡ child_word g (first_word g node + tag) → yield tag (state_of u) ≡ take_below d limit 10 (state_of s) → u.capacity ≡ s.capacity → Reads rows_of (read_val u.capacity d (tree_of g child) (state_of u)) u.capacity u.begun u.at entry read mid → r ≡ read → exit ≡ closed row s.at 8 tag read mid → Reads rows_of (read_body s.capacity d (tree_of g node) (state_of s)) s.capacity row s.at entry r exit
   arm_case child tag limit u n e h m i q o =
@@ -251,11 +253,11 @@ module _ {g d entry : List ℕ} {node row : ℕ} {s : CodeState} (p : RowClaimed
       (omega (arith, f.1, y.1), omega (arith, f.2, y.1), λ span size b j. own_case span tag size s.at v.value b j))
       (moved p limit 10 tag u h m (λ j. read_val j d (tree_of g child) (state_of u)) i) q o
 
-  pub arm_case_stopped : (limit : ℕ) (u : CodeState) (f : Refusal) {exit : List ℕ} → limit ≡ count_word g node → refused (record { why = reason_of f; state = state_of u }) ≡ take_below d limit 10 (state_of s) → u.capacity ≡ s.capacity → Reads rows_of (read_body s.capacity d (tree_of g node) (state_of s)) s.capacity row s.at entry (Stopped u f) exit
-  arm_case_stopped limit u f e h m =
+  pub arm_case_stopped : (limit : ℕ) (z : Stopped) {exit : List ℕ} → limit ≡ count_word g node → refused (stop_of z) ≡ take_below d limit 10 (state_of s) → z.state.capacity ≡ s.capacity → Reads rows_of (read_body s.capacity d (tree_of g node) (state_of s)) s.capacity row s.at entry (Err z) exit
+  arm_case_stopped limit z e h m =
       let gs = child_trees g (tree_of g) (first_word g node) (count_word g node) in
       let l : limit ≡ length (seq_g gs) = e ∙ sym (trees_length g (tree_of g) (count_word g node) (first_word g node)) in
-      head_stopped p (GTaggedUnion gs) (length (seq_g gs)) 10 (λ c v. give (VCase c) (read_val s.capacity d (case_at gs c) v)) u f union_tree (case_body s.capacity d (state_of s) gs) (h ∙ ap (λ (j : ℕ). take_below d j 10 (state_of s)) l) m
+      head_stopped p (GTaggedUnion gs) (length (seq_g gs)) 10 (λ c v. give (VCase c) (read_val s.capacity d (case_at gs c) v)) z union_tree (case_body s.capacity d (state_of s) gs) (h ∙ ap (λ (j : ℕ). take_below d j 10 (state_of s)) l) m
 
 -- What the readers of the cycle ask of each other.
 
@@ -263,14 +265,14 @@ module _ {g : List ℕ} {node : ℕ} {d entry : List ℕ} {s t : CodeState} (n :
   ready-claimed : Ready d entry t
   ready-claimed = record { inside = omega (arith, c.at, ready.inside); short = ready.short; few = omega (arith, c.begun, c.capacity, c.free); most = omega (arith, c.capacity, ready.most); room = subst (λ (m : ℕ). Room m entry) (sym c.capacity) ready.room; byte_values = ready.byte_values }
 
-  pub row-claimed : {w : ℕ} → kind_word g node ≡ w → RowClaimed g d entry node w s.begun t
+  pub row-claimed : {w : Kind} → kind_of (kind_word g node) ≡ w → RowClaimed g d entry node w s.begun t
   row-claimed k = record { node = n; kind = k; ready = ready-claimed; claimed = c.begun }
 
 -- children that were read are counted behind the row of their parent, and end behind its start
 module _ {d entry mid : List ℕ} {row start : ℕ} (u : CodeState) (ready : Ready d entry u) (l : row < u.begun) (b : start ≤ u.at) where
   counted : {A : Type 0} {rows_at : A → ℕ → List ℕ} {x : Reading A} {y : Parse A} (count size : A → ℕ) (read : CodeStep) → Agrees u.capacity d count (state_of u) x y → EndsBehind size u.at x → Reads rows_at x u.capacity u.begun u.at entry read mid → Counted row start read
-  counted count size (Stopped v f) a e h = tt
-  counted count size (Next v) a e h =
+  counted count size (Err z) a e h = tt
+  counted count size (Ok v) a e h =
       let w = went_on v refl h in
       let f = agrees_accepted a (record { value = w.0; state = state_of v }) w.1 in
       (omega (arith, f.1), omega (arith, f.1, f.2, ready.few, ready.most), omega (arith, (post_accepted (rw w.1 at e)).at))
@@ -283,7 +285,3 @@ module _ {d entry mid : List ℕ} {row start : ℕ} (u : CodeState) (ready : Rea
 
   pub counted-value : (g : G) (read : CodeStep) → Reads rows_of (read_val u.capacity d g (state_of u)) u.capacity u.begun u.at entry read mid → Counted row start read
   counted-value g read h = counted row_count SizeOfV read (agrees u.capacity d g (state_of u) ready.inside) (ends-value u.capacity d g (state_of u)) h
-
--- a kind word other than 3, 4 and 8
-pub leaf : {w k : ℕ} → w ≡ k → is_parent k ≡ false → Leaf w
-leaf e n = record { no_array = not-parent e n refl; no_tuple = not-parent e n refl; no_case = not-parent e n refl }

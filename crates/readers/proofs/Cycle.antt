@@ -23,9 +23,9 @@ use Rattle.tables.specs.Row.{row_width, laid}
 use Rattle.rows.specs.Layout.{rows_of, rows_of_all}
 use Rattle.rows.proofs.LayoutLaws.{length_rows_of, length-rows_of_all}
 use Rattle.readers.specs.declared.State.{State as CodeState}
-use Rattle.readers.specs.declared.Step.{Step as CodeStep}
-use Rattle.readers.specs.declared.Step.TheVariants.{Next, Stopped}
-use Rattle.readers.specs.Meaning.{state_of, step_of}
+use Rattle.std.specs.Prelude.{Ok, Err}
+use Rattle.readers.specs.declared.Stopped.{Stopped}
+use Rattle.readers.specs.Meaning.{CodeStep, stop_of, state_of, step_of}
 use Rattle.readers.specs.Reads.{Room, Reads, closed, take_below}
 use Rattle.readers.proofs.Laws.{reads_next}
 
@@ -44,7 +44,7 @@ module _ (capacity : ℕ) (d : List ℕ) (g : G) (s : State) (h : s.at ≤ lengt
       (ap (λ (u : Step State Val). u.state.at) y.2, x.1, x.2, x.0)
 
 -- a matched answer of a reader that went on
-pub went_on : {A : Type 0} {rows_at : A → ℕ → List ℕ} {x : Reading A} {capacity row p : ℕ} {entry exit : List ℕ} {r : CodeStep} (u : CodeState) → r ≡ Next u → Reads rows_at x capacity row p entry r exit → (a : A) × (x ≡ yield a (state_of u)) × (u.capacity ≡ capacity) × (exit ≡ laid entry row (rows_at a p))
+pub went_on : {A : Type 0} {rows_at : A → ℕ → List ℕ} {x : Reading A} {capacity row p : ℕ} {entry exit : List ℕ} {r : CodeStep} (u : CodeState) → r ≡ Ok u → Reads rows_at x capacity row p entry r exit → (a : A) × (x ≡ yield a (state_of u)) × (u.capacity ≡ capacity) × (exit ≡ laid entry row (rows_at a p))
 went_on {A} {rows_at} {x} {capacity} {row} {p} {entry} {exit} u e r =
     let q : accepted (state_of u) ≡ map (λ t. t.state) x = ap step_of (sym e) ∙ r.answers in
     let m = map-accepted (λ (t : Step State A). t.state) x (sym q) in
@@ -66,7 +66,7 @@ give-accepted f (refused e) t h = let z : ◌≡◌ {A = ℕ} 0 1 = cc in absurd
 
 -- Values one behind the other.
 
-pub reads_none : (entry : List ℕ) (u : CodeState) → Reads rows_of_all (yield vnil (state_of u)) u.capacity u.begun u.at entry (Next u) entry
+pub reads_none : (entry : List ℕ) (u : CodeState) → Reads rows_of_all (yield vnil (state_of u)) u.capacity u.begun u.at entry (Ok u) entry
 unfolding rows_of
 reads_none entry u = reads_next u vnil refl refl (sym (put_within-nothing entry (row_width * u.begun)))
 
@@ -92,19 +92,19 @@ module _ {x : Reading Val} {capacity row p : ℕ} {entry mid exit : List ℕ} {r
 
 module _ {A : Type 0} {rows_at : A → ℕ → List ℕ} {x : Reading A} {capacity row p q : ℕ} {entry mid : List ℕ} (f : A → Val) (kind word2 : ℕ) (room : Room capacity entry) where
   pub reads_close : (c : CodeStep) → ((t : Step State A) → x ≡ accepted t → (rows_of (f t.value) p ≡ (kind ∷ (t.state.begun - row) ∷ word2 ∷ 0 ∷ (t.state.at - p) ∷ []) ++ rows_at t.value q) × (row_width * row + length (rows_of (f t.value) p) ≤ row_width * capacity)) → Reads rows_at x capacity (suc row) q entry c mid → Reads rows_of (give f x) capacity row p entry c (closed row p kind word2 c mid)
-  reads_close (Next u) own r =
+  reads_close (Ok u) own r =
       let w = went_on u refl r in
       let o = own (record { value = w.0; state = state_of u }) w.1 in
       let ws = kind ∷ (u.begun - row) ∷ word2 ∷ 0 ∷ (u.at - p) ∷ [] in
       let n : length (rows_of (f w.0) p) ≡ row_width + length (rows_at w.0 q) = ap length o.0 ∙ omega arith in
       reads_next u (f w.0) (sym (ap (give f) w.1)) w.2
       (ap (λ (l : List ℕ). laid l row ws) w.3 ∙ put_within-before entry (row_width * row) (row_width * suc row) ws (rows_at w.0 q) (omega arith) (fits-room capacity entry row (length ws + length (rows_at w.0 q)) room (omega (arith, o.1))) ∙ ap (laid entry row) (sym o.0))
-  reads_close (Stopped u g) own r = record {
+  reads_close (Err e) own r = record {
     answers = r.answers ∙ sym (map-give f x);
     keeps = r.keeps;
     rows = λ t h.
         let y = give-accepted f x t h in
-        let z : step_of (Stopped u g) ≡ accepted y.0.state = r.answers ∙ ap (map (λ (t : Step State A). t.state)) y.1 in
+        let z : step_of (Err e) ≡ accepted y.0.state = r.answers ∙ ap (map (λ (t : Step State A). t.state)) y.1 in
         let n : ◌≡◌ {A = ℕ} 0 1 = cc in absurd (omega arith);
   }
 

@@ -27,9 +27,9 @@ use Rattle.grammar.proofs.Tree.{tree_node, tree_valid, trees_length}
 use Rattle.rows.proofs.Rule.{class_word}
 use Rattle.admission.specs.Admission.{in_force}
 use Rattle.readers.specs.declared.State.{State as CodeState}
-use Rattle.readers.specs.declared.Step.{Step as CodeStep}
-use Rattle.readers.specs.declared.Step.TheVariants.{Next, Stopped}
-use Rattle.readers.specs.Meaning.{step_of, StepKeeps}
+use Rattle.std.specs.Prelude.{Ok, Err}
+use Rattle.readers.specs.declared.Stopped.{Stopped}
+use Rattle.readers.specs.Meaning.{CodeStep, stop_of, step_of, StepKeeps}
 use Rattle.readers.specs.Root.{capacity_within, read_root, FillsRows, Admitted, behind_first_field, first_field_of, ReadsFirstField}
 use Rattle.readers.proofs.Cycle.{give-accepted}
 use Rattle.readers.proofs.Root.{within_none, root_admitted, root-accepted}
@@ -129,10 +129,10 @@ module _ (g d : List ℕ) (named : ℕ) {r : CodeStep} {entry exit : List ℕ} (
   whole-check = subst (λ (c : ℕ). (step_of r ≡ map (λ t. t.state) (read_root g d 0 c true)) × StepKeeps c r) (sym (within_none named 0 refl)) (f.answers, f.keeps)
 
   -- the whole reading stopped
-  pub field_stopped : (u : CodeState) (q : Refusal) → r ≡ Stopped u q → (step_of (Stopped u q) ≡ first_field_of g d (in_force named)) × (u.capacity ≡ in_force named)
-  field_stopped u q e = let k = whole-check.1 in (refusal_stays (read_root g d 0 (in_force named) true) (matched step_of e whole-check.0), rw e at k)
+  pub field_stopped : (z : Stopped) → r ≡ Err z → (step_of (Err z) ≡ first_field_of g d (in_force named)) × (z.state.capacity ≡ in_force named)
+  field_stopped z e = let k = whole-check.1 in (refusal_stays (read_root g d 0 (in_force named) true) (matched step_of e whole-check.0), rw e at k)
 
-  module _ (u : CodeState) (e : r ≡ Next u) where
+  module _ (u : CodeState) (e : r ≡ Ok u) where
     in_force_lem : u.capacity ≡ in_force named
     in_force_lem = let k = whole-check.1 in rw e at k
 

@@ -17,20 +17,17 @@ use Rattle.packed.specs.Packed.{present, unpack_at, unpack_little_endian, unpack
 use Rattle.packed.proofs.Calls.{present-fits}
 use Rattle.value.specs.Step.{Step, yield, next}
 use Rattle.value.specs.Reading.{State, Stop, Reading, stop, move, claim, take_number, take_numbers}
-use Rattle.value.specs.Kinds.{Elements, element_width, elements_kind, last_kind}
+use Rattle.value.specs.Kinds.{kind_of, other, Elements, element_width, elements_kind, last_kind}
 use Rattle.value.specs.Tree.{VNumberArray, SizeOfV, row_count}
 use Rattle.tables.specs.Grammar.{node_count, kind_word, first_word, count_word}
 use Rattle.grammar.specs.Rule.{ChildRule, ChildrenRule}
-use Rattle.grammar.proofs.Rule.{node-inside as grammar-node-inside, child_inside as grammar_child_inside}
+use Rattle.grammar.proofs.Rule.{node-inside as grammar-node-inside, node-named as grammar_node-named, child_inside as grammar_child_inside}
 use Rattle.tables.specs.Row.{laid}
 use Rattle.rows.specs.Layout.{own_row, rows_of}
 use Rattle.readers.specs.declared.State.{State as CodeState}
-use Rattle.readers.specs.declared.Step.TheVariants.{Next, Stopped}
-use Rattle.readers.specs.declared.Taken.{Taken}
-use Rattle.readers.specs.declared.Taken.TheVariants.{Number, Stopped as TakenStopped}
-use Rattle.readers.specs.declared.Body.{Body}
-use Rattle.readers.specs.declared.Body.TheVariants.{Bytes, Refused as BodyRefused}
-use Rattle.readers.specs.Meaning.{state_of, taken_of, body_of}
+use Rattle.std.specs.Prelude.{Ok, Err}
+use Rattle.readers.specs.declared.Stopped.{Stopped}
+use Rattle.readers.specs.Meaning.{stop_of, state_of}
 use Rattle.readers.specs.Reads.{Node, Reads}
 
 -- Steps.
@@ -100,14 +97,14 @@ elements-row k ns p e l m z = rw (e, l, m, z)
 -- What the code did beside a reading.
 
 module _ {A : Type 0} {rows_at : A → ℕ → List ℕ} {x : Reading A} {capacity row p : ℕ} {entry exit : List ℕ} where
-  pub reads_stopped : (u : CodeState) (r : Refusal) → refused (record { why = reason_of r; state = state_of u }) ≡ x → u.capacity ≡ capacity → Reads rows_at x capacity row p entry (Stopped u r) exit
-  reads_stopped u r e c = record {
+  pub reads_stopped : (z : Stopped) → refused (stop_of z) ≡ x → z.state.capacity ≡ capacity → Reads rows_at x capacity row p entry (Err z) exit
+  reads_stopped z e c = record {
     answers = ap (λ (y : Reading A). map (λ t. t.state) y) e;
     keeps = c;
     rows = λ t f. let z : ◌≡◌ {A = ℕ} 0 1 = cc in absurd (omega arith);
   }
 
-  pub reads_next : (u : CodeState) (a : A) → yield a (state_of u) ≡ x → u.capacity ≡ capacity → exit ≡ laid entry row (rows_at a p) → Reads rows_at x capacity row p entry (Next u) exit
+  pub reads_next : (u : CodeState) (a : A) → yield a (state_of u) ≡ x → u.capacity ≡ capacity → exit ≡ laid entry row (rows_at a p) → Reads rows_at x capacity row p entry (Ok u) exit
   reads_next u a e c l = record {
     answers = ap (λ (y : Reading A). map (λ t. t.state) y) e;
     keeps = c;
@@ -125,15 +122,6 @@ unpacked-fits w d at n h =
 pub child_inside : (t : List ℕ) (k i : ℕ) → Node t k → i < count_word t k → (3 + 3 * k < length t) × (2 + 3 * node_count t + (first_word t k + i) < length t) × (node_count t ≤ 256) × (first_word t k ≤ 1024) × ChildRule t k (first_word t k + i)
 child_inside t k i n h = grammar_child_inside t n.passes k n.below i h
 
--- Matched answers of the state's methods.
-
-module _ {x : Reading ℕ} {r : Taken} where
-  pub taken_number : (n : ℕ) (u : CodeState) → r ≡ Number n u → taken_of r ≡ x → yield n (state_of u) ≡ x
-  taken_number n u e h = ap taken_of (sym e) ∙ h
-
-  pub taken_stopped : (u : CodeState) (f : Refusal) → r ≡ TakenStopped u f → taken_of r ≡ x → refused (record { why = reason_of f; state = state_of u }) ≡ x
-  taken_stopped u f e h = ap taken_of (sym e) ∙ h
-
 -- where a number was taken
 pub taken_at : (d : List ℕ) (w : ℕ) (s : State) (n : ℕ) (u : CodeState) → yield n (state_of u) ≡ take_number d w s → (u.at ≡ s.at + w) × (s.at + w ≤ length d)
 taken_at d w s n u h = let m = take_moves d w s n (state_of u) h in (ap (λ (t : State). t.at) m.0, m.1)
@@ -146,21 +134,28 @@ part_length : (d : List ℕ) (p : ℕ) → length (take (length d - p) (drop p d
 part_length d p = rw (part_from d p, length-drop)
 
 -- an array's body, decided on the part behind the count n of the value at s
-module _ (d : List ℕ) (w : ℕ) (s : State) (n : ℕ) (u : CodeState) (h : yield n (state_of u) ≡ take_number d 8 s) (r : Body) (b : body_of r ≡ test (leb n (length (take (length d - u.at) (drop u.at d)) / w)) (reason 9 (byte s.at)) (λ _. accepted (w * n))) where
-  decided : body_of r ≡ test (leb n ((length d - s.at - 8) / w)) (reason 9 (byte s.at)) (λ _. accepted (w * n))
-  decided =
-      let e : length (take (length d - u.at) (drop u.at d)) ≡ length d - s.at - 8 = part_length d u.at ∙ omega (arith, (taken_at d 8 s n u h).0) in
-      b ∙ ap (λ (l : ℕ). test (leb n (l / w)) (reason 9 (byte s.at)) (λ _. accepted (w * n))) e
+module _ (d : List ℕ) (w : ℕ) (s : State) (n : ℕ) (u : CodeState) (h : yield n (state_of u) ≡ take_number d 8 s) where
+  abbrev body : ℕ → Outcome Reason ℕ
+  body left = test (leb n (left / w)) (reason 9 (byte s.at)) (λ _. accepted (w * n))
 
-  pub body_missing : (f : Refusal) → r ≡ BodyRefused f → refused (record { why = reason_of f; state = s }) ≡ take_numbers d w s
-  body_missing f e =
-      let x = test-refused (leb n ((length d - s.at - 8) / w)) (reason 9 (byte s.at)) (w * n) (ap body_of (sym e) ∙ decided) in
+  decided : {o : Outcome Reason ℕ} → o ≡ body (length (take (length d - u.at) (drop u.at d))) → o ≡ body (length d - s.at - 8)
+  decided b =
+      let e : length (take (length d - u.at) (drop u.at d)) ≡ length d - s.at - 8 = part_length d u.at ∙ omega (arith, (taken_at d 8 s n u h).0) in
+      b ∙ ap body e
+
+  pub body_missing : {f : Reason} → refused f ≡ body (length (take (length d - u.at) (drop u.at d))) → refused (record { why = f; state = s }) ≡ take_numbers d w s
+  body_missing b =
+      let x = test-refused (leb n ((length d - s.at - 8) / w)) (reason 9 (byte s.at)) (w * n) (decided b) in
       ap (λ (y : Reason). refused (record { why = y; state = s })) x.1 ∙ numbers-missing d w s n (state_of u) h x.0
 
-  pub body_bytes : (m : ℕ) → r ≡ Bytes m → (m ≡ w * n) × (yield (unpack_little_endian_seq w (take (w * n) (drop u.at d)) n) (move (w * n) (state_of u)) ≡ take_numbers d w s) × (n ≤ (length d - s.at - 8) / w)
-  body_bytes m e =
-      let x = test-accepted (leb n ((length d - s.at - 8) / w)) (reason 9 (byte s.at)) (w * n) (ap body_of (sym e) ∙ decided) in
+  pub body_bytes : {m : ℕ} → accepted m ≡ body (length (take (length d - u.at) (drop u.at d))) → (m ≡ w * n) × (yield (unpack_little_endian_seq w (take (w * n) (drop u.at d)) n) (move (w * n) (state_of u)) ≡ take_numbers d w s) × (n ≤ (length d - s.at - 8) / w)
+  body_bytes b =
+      let x = test-accepted (leb n ((length d - s.at - 8) / w)) (reason 9 (byte s.at)) (w * n) (decided b) in
       (x.1, numbers_taken d w s n (state_of u) h x.0, leb-true n ((length d - s.at - 8) / w) x.0)
+
+-- a node's kind word names a kind
+pub node-named : (t : List ℕ) (k : ℕ) → Node t k → kind_of (kind_word t k) ≡ other → ⊥
+node-named t k n = grammar_node-named t n.passes k n.below
 
 -- a node's words lie within its table
 pub node-inside : (t : List ℕ) (k : ℕ) → Node t k → (3 + 3 * k < length t) × (k < 256) × (kind_word t k ≤ last_kind) × ChildrenRule t k

@@ -17,9 +17,9 @@ use Rattle.grammar.specs.Tree.{tree_of, child_trees}
 use Rattle.tables.specs.Row.{row_width}
 use Rattle.rows.specs.Layout.{rows_of, rows_of_all}
 use Rattle.readers.specs.declared.State.{State as CodeState}
-use Rattle.readers.specs.declared.Step.{Step as CodeStep}
-use Rattle.readers.specs.declared.Step.TheVariants.{Next, Stopped}
-use Rattle.readers.specs.Meaning.{state_of, step_of}
+use Rattle.std.specs.Prelude.{Ok, Err}
+use Rattle.readers.specs.declared.Stopped.{Stopped}
+use Rattle.readers.specs.Meaning.{CodeStep, stop_of, state_of, step_of}
 use Rattle.readers.specs.Reads.{Room, Ready, Reads}
 use Rattle.readers.proofs.Laws.{reads_stopped}
 use Rattle.readers.proofs.Cycle.{val-accepted, went_on, reads_none, reads_both}
@@ -33,12 +33,12 @@ room-kept capacity l m e r = ⊎_elim (λ (n : l ≡ []). inl (none m (e ∙ ap 
     none (x ∷ k) h = absurd (omega arith)
 
 -- a reader that stopped
-pub stopped_at : {A : Type 0} {rows_at : A → ℕ → List ℕ} {x : Reading A} {capacity row p : ℕ} {entry exit : List ℕ} {r : CodeStep} (u : CodeState) (f : Refusal) → r ≡ Stopped u f → Reads rows_at x capacity row p entry r exit → (refused (record { why = reason_of f; state = state_of u }) ≡ x) × (u.capacity ≡ capacity)
-stopped_at {A} {rows_at} {x} u f e r = (sym (go x (ap step_of (sym e) ∙ r.answers)), rw e at r.keeps)
+pub stopped_at : {A : Type 0} {rows_at : A → ℕ → List ℕ} {x : Reading A} {capacity row p : ℕ} {entry exit : List ℕ} {r : CodeStep} (z : Stopped) → r ≡ Err z → Reads rows_at x capacity row p entry r exit → (refused (stop_of z) ≡ x) × (z.state.capacity ≡ capacity)
+stopped_at {A} {rows_at} {x} z e r = (sym (go x (ap step_of (sym e) ∙ r.answers)), rw e at r.keeps)
   where
-    go : (y : Reading A) → refused (record { why = reason_of f; state = state_of u }) ≡ map (λ t. t.state) y → y ≡ refused (record { why = reason_of f; state = state_of u })
+    go : (y : Reading A) → refused (stop_of z) ≡ map (λ t. t.state) y → y ≡ refused (stop_of z)
     go (accepted t) h = let z : ◌≡◌ {A = ℕ} 0 1 = cc in absurd (omega arith)
-    go (refused g) h = let q : record { why = reason_of f; state = state_of u } ≡ g = cc in ap refused (sym q)
+    go (refused g) h = let q : stop_of z ≡ g = cc in ap refused (sym q)
 
 -- a loop that has come to t with rows read so far: reading `rest` from t makes the whole reading from s
 pub record Remaining (d entry : List ℕ) (s : CodeState) (whole : Reading Vals) (rows : List ℕ) (t : CodeState) (rest : Reading Vals) : Type 0 where
@@ -56,12 +56,12 @@ module _ {d entry rows mid : List ℕ} {s t : CodeState} {whole rest : Reading V
   here : Reads rows_of (read_val s.capacity d g (state_of t)) s.capacity t.begun t.at rows r mid
   here = subst (λ (c : ℕ). Reads rows_of (read_val c d g (state_of t)) c t.begun t.at rows r mid) i.capacity h
 
-  pub remaining_stopped : (u : CodeState) (f : Refusal) → r ≡ Stopped u f → Reads rows_of_all whole s.capacity s.begun s.at entry (Stopped u f) mid
-  remaining_stopped u f q =
-      let x = stopped_at u f q here in
-      i.then (Stopped u f) mid (reads_stopped u f (ap (λ (y : Reading Val). both y k) x.0 ∙ sym e) x.1)
+  pub remaining_stopped : (z : Stopped) → r ≡ Err z → Reads rows_of_all whole s.capacity s.begun s.at entry (Err z) mid
+  remaining_stopped z q =
+      let x = stopped_at z q here in
+      i.then (Err z) mid (reads_stopped z (ap (λ (y : Reading Val). both y k) x.0 ∙ sym e) x.1)
 
-  pub remaining_next : (u : CodeState) → r ≡ Next u → ValidGrammar g → length mid ≡ length rows → ((w : Step State Vals) → (state_of u).at ≤ length d → k (state_of u) ≡ accepted w → row_counts w.value ≤ s.capacity - u.begun) → Remaining d entry s whole mid u (k (state_of u))
+  pub remaining_next : (u : CodeState) → r ≡ Ok u → ValidGrammar g → length mid ≡ length rows → ((w : Step State Vals) → (state_of u).at ≤ length d → k (state_of u) ≡ accepted w → row_counts w.value ≤ s.capacity - u.begun) → Remaining d entry s whole mid u (k (state_of u))
   remaining_next u q v l few =
       let x = went_on u q here in
       let y = val-accepted s.capacity d g (state_of t) i.ready.inside v i.ready.byte_values (record { value = x.0; state = state_of u }) x.1 in
@@ -77,8 +77,8 @@ module _ {d entry rows mid : List ℕ} {s t : CodeState} {whole rest : Reading V
         then = λ a b' w. i.then a b' (rw e (reads_both k u x.0 x.1 y.0 y.1 b x.3 room (λ z o. few z y.3 o) w));
       }
 
-pub remaining_done : {d entry rows : List ℕ} {s t : CodeState} {whole rest : Reading Vals} → Remaining d entry s whole rows t rest → rest ≡ yield vnil (state_of t) → Reads rows_of_all whole s.capacity s.begun s.at entry (Next t) rows
-remaining_done {d} {entry} {rows} {s} {t} i e = i.then (Next t) rows (rw e (subst (λ (c : ℕ). Reads rows_of_all (yield vnil (state_of t)) c t.begun t.at rows (Next t) rows) i.capacity (reads_none rows t)))
+pub remaining_done : {d entry rows : List ℕ} {s t : CodeState} {whole rest : Reading Vals} → Remaining d entry s whole rows t rest → rest ≡ yield vnil (state_of t) → Reads rows_of_all whole s.capacity s.begun s.at entry (Ok t) rows
+remaining_done {d} {entry} {rows} {s} {t} i e = i.then (Ok t) rows (rw e (subst (λ (c : ℕ). Reads rows_of_all (yield vnil (state_of t)) c t.begun t.at rows (Ok t) rows) i.capacity (reads_none rows t)))
 
 -- the rows of elements and of fields that are read were free
 pub few-elements : (capacity : ℕ) (d : List ℕ) (g : G) (n : ℕ) (u : State) → u.at ≤ length d → (w : Step State Vals) → elements n (read_val capacity d g) u ≡ accepted w → row_counts w.value ≤ capacity - u.begun

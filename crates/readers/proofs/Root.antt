@@ -22,9 +22,9 @@ use Rattle.rows.specs.Layout.{rows_of}
 use Rattle.admission.specs.Admission.{in_force, capacity_of, admit_of}
 use Rattle.admission.proofs.Admission.{admitted}
 use Rattle.readers.specs.declared.State.{State as CodeState}
-use Rattle.readers.specs.declared.Step.{Step as CodeStep}
-use Rattle.readers.specs.declared.Step.TheVariants.{Next, Stopped}
-use Rattle.readers.specs.Meaning.{state_of, step_of, StepKeeps}
+use Rattle.std.specs.Prelude.{Ok, Err}
+use Rattle.readers.specs.declared.Stopped.{Stopped}
+use Rattle.readers.specs.Meaning.{CodeStep, stop_of, state_of, step_of, StepKeeps}
 use Rattle.readers.specs.Reads.{Room, Reads}
 use Rattle.readers.specs.Root.{capacity_within, before_start, ended, read_root, FillsRows, Admitted}
 use Rattle.packed.proofs.Fitting.{put_within-none}
@@ -64,21 +64,21 @@ module _ (d : List ℕ) where
       go false = refl
 
   -- what was read as a check, with its end
-  module _ (whole : Bool) (x : Reading Val) {capacity : ℕ} {r : CodeStep} (u : CodeState) (a : step_of r ≡ map (λ t. t.state) x) (k : StepKeeps capacity r) where
-    pub check_stopped : (f : Refusal) → r ≡ Stopped u f → (step_of (Stopped u f) ≡ map (λ t. t.state) (ended whole d x)) × (u.capacity ≡ capacity)
-    check_stopped f e = (ended-refused whole x (ap step_of (sym e) ∙ a), rw e at k)
+  module _ (whole : Bool) (x : Reading Val) {capacity : ℕ} {r : CodeStep} (a : step_of r ≡ map (λ t. t.state) x) (k : StepKeeps capacity r) where
+    pub check_stopped : (z : Stopped) → r ≡ Err z → (step_of (Err z) ≡ map (λ t. t.state) (ended whole d x)) × (z.state.capacity ≡ capacity)
+    check_stopped z e = (ended-refused whole x (ap step_of (sym e) ∙ a), rw e at k)
 
-    module _ (e : r ≡ Next u) where
-      pub check_open : whole ≡ false → (step_of (Next u) ≡ map (λ t. t.state) (ended whole d x)) × (u.capacity ≡ capacity)
+    module _ (u : CodeState) (e : r ≡ Ok u) where
+      pub check_open : whole ≡ false → (step_of (Ok u) ≡ map (λ t. t.state) (ended whole d x)) × (u.capacity ≡ capacity)
       check_open w = (ended_open whole x w (ap step_of (sym e) ∙ a), rw e at k)
 
-      pub check-ended : whole ≡ true → u.at ≡ length d → (step_of (Next u) ≡ map (λ t. t.state) (ended whole d x)) × (u.capacity ≡ capacity)
+      pub check-ended : whole ≡ true → u.at ≡ length d → (step_of (Ok u) ≡ map (λ t. t.state) (ended whole d x)) × (u.capacity ≡ capacity)
       check-ended w l = (sym (test-true _ _ (eq-eqb _ _ l)) ∙ ended-whole whole x w (ap step_of (sym e) ∙ a), rw e at k)
 
-      pub check_left_over : (f : Refusal) → whole ≡ true → (u.at ≡ length d → ⊥) → reason_of f ≡ reason 11 (byte u.at) → (step_of (Stopped u f) ≡ map (λ t. t.state) (ended whole d x)) × (u.capacity ≡ capacity)
-      check_left_over f w l n =
-          let q : step_of (Stopped u f) ≡ refused (stop 11 (state_of u)) = rw n in
-          (q ∙ sym (test-false _ _ (ne_eqb _ _ l)) ∙ ended-whole whole x w (ap step_of (sym e) ∙ a), rw e at k)
+      pub check_left_over : (z : Stopped) → z.state ≡ u → whole ≡ true → (u.at ≡ length d → ⊥) → reason_of z.refusal ≡ reason 11 (byte u.at) → (step_of (Err z) ≡ map (λ t. t.state) (ended whole d x)) × (z.state.capacity ≡ capacity)
+      check_left_over z s w l n =
+          let q : step_of (Err z) ≡ refused (stop 11 (state_of u)) = rw (n, s) in
+          (q ∙ sym (test-false _ _ (ne_eqb _ _ l)) ∙ ended-whole whole x w (ap step_of (sym e) ∙ a), rw s (rw e at k))
 
   -- what is accepted as a whole was accepted
   pub ended-accepted : (whole : Bool) (x : Reading Val) {t : Step State Val} → ended whole d x ≡ accepted t → x ≡ accepted t
@@ -127,15 +127,15 @@ module _ (g d : List ℕ) (index : ℕ) where
 
 module _ {x : Reading Val} {capacity index : ℕ} {entry : List ℕ} where
   -- a refusal leaves them
-  pub fills_stopped : (u : CodeState) (f : Refusal) → refused (record { why = reason_of f; state = state_of u }) ≡ map (λ t. t.state) x → u.capacity ≡ capacity → FillsRows x capacity index (Stopped u f) entry entry
-  fills_stopped u f h c = record { answers = h; keeps = c; rows = go x h }
+  pub fills_stopped : (z : Stopped) → refused (stop_of z) ≡ map (λ t. t.state) x → z.state.capacity ≡ capacity → FillsRows x capacity index (Err z) entry entry
+  fills_stopped z h c = record { answers = h; keeps = c; rows = go x h }
     where
-      go : (y : Reading Val) → refused (record { why = reason_of f; state = state_of u }) ≡ map (λ t. t.state) y → entry ≡ contents (map (λ t. laid entry 0 (rows_of t.value index)) y) entry
+      go : (y : Reading Val) → refused (stop_of z) ≡ map (λ t. t.state) y → entry ≡ contents (map (λ t. laid entry 0 (rows_of t.value index)) y) entry
       go (refused e) q = refl
       go (accepted t) q = let z : ◌≡◌ {A = ℕ} 0 1 = cc in absurd (omega arith)
 
   -- none are lent
-  pub fills_none : (u : CodeState) → accepted (state_of u) ≡ map (λ t. t.state) x → u.capacity ≡ capacity → length entry ≡ 0 → FillsRows x capacity index (Next u) entry entry
+  pub fills_none : (u : CodeState) → accepted (state_of u) ≡ map (λ t. t.state) x → u.capacity ≡ capacity → length entry ≡ 0 → FillsRows x capacity index (Ok u) entry entry
   fills_none u h c n = record { answers = h; keeps = c; rows = go x }
     where
       empty : (l : List ℕ) → length l ≡ 0 → l ≡ []
@@ -163,17 +163,17 @@ module _ (g d : List ℕ) (index : ℕ) (whole : Bool) {entry : List ℕ} {most 
   at_most : {r : CodeStep} {exit : List ℕ} → FillsRows (read_root g d index most whole) most index r entry exit → FillsRows (read_root g d index capacity whole) capacity index r entry exit
   at_most {r} {exit} f = subst (λ (c : ℕ). FillsRows (read_root g d index c whole) c index r entry exit) m f
 
-  pub read-refused : (f : Refusal) → refused (reason_of f) ≡ admit_of g d index → FillsRows (read_root g d index capacity whole) capacity index (Stopped (record { at = index; begun = 0; capacity = most }) f) entry entry
-  read-refused f h = at_most (fills_stopped (record { at = index; begun = 0; capacity = most }) f (ap (map (λ (t : Step State Val). t.state)) (root-refused g d index most whole h)) refl)
+  pub read-refused : (f : Refusal) → refused (reason_of f) ≡ admit_of g d index → FillsRows (read_root g d index capacity whole) capacity index (Err (record { state = record { at = index; begun = 0; capacity = most }; refusal = f })) entry entry
+  read-refused f h = at_most (fills_stopped (record { state = record { at = index; begun = 0; capacity = most }; refusal = f }) (ap (map (λ (t : Step State Val). t.state)) (root-refused g d index most whole h)) refl)
 
   module _ (h : accepted tt ≡ admit_of g d index) {r : CodeStep} (k : (step_of r ≡ map (λ t. t.state) (ended whole d (read_val most d (tree_of g 0) (start index)))) × StepKeeps most r) where
-    pub read_stopped : (u : CodeState) (f : Refusal) → r ≡ Stopped u f → FillsRows (read_root g d index capacity whole) capacity index (Stopped u f) entry entry
-    read_stopped u f e = let c = k.1 in at_most (fills_stopped u f (root-checked g d index whole most h k.0 e) (rw e at c))
+    pub read_stopped : (z : Stopped) → r ≡ Err z → FillsRows (read_root g d index capacity whole) capacity index (Err z) entry entry
+    read_stopped z e = let c = k.1 in at_most (fills_stopped z (root-checked g d index whole most h k.0 e) (rw e at c))
 
-    pub read_none : (u : CodeState) → r ≡ Next u → length entry ≡ 0 → FillsRows (read_root g d index capacity whole) capacity index (Next u) entry entry
+    pub read_none : (u : CodeState) → r ≡ Ok u → length entry ≡ 0 → FillsRows (read_root g d index capacity whole) capacity index (Ok u) entry entry
     read_none u e n = let c = k.1 in at_most (fills_none u (root-checked g d index whole most h k.0 e) (rw e at c) n)
 
-    pub read_filled : (u : CodeState) {q : CodeStep} {exit : List ℕ} → r ≡ Next u → Reads rows_of (read_val most d (tree_of g 0) (start index)) most 0 index entry q exit → FillsRows (read_root g d index capacity whole) capacity index q entry exit
+    pub read_filled : (u : CodeState) {q : CodeStep} {exit : List ℕ} → r ≡ Ok u → Reads rows_of (read_val most d (tree_of g 0) (start index)) most 0 index entry q exit → FillsRows (read_root g d index capacity whole) capacity index q entry exit
     read_filled u e i = at_most (fills_read (root-checked g d index whole most h k.0 e) (λ t z. (root-accepted g d index most whole t z).1) i)
 
 -- the rows of what is accepted are within the capacity

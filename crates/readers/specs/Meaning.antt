@@ -1,38 +1,39 @@
 -- What the states and answers of the code mean.
-use Rattle.std.specs.Prelude.{◌≡◌, ℕ}
-use Rattle.refusal.specs.Outcome.{Outcome, accepted, refused, Reason}
+use Rattle.std.specs.Prelude.{◌≡◌, ℕ, Result, Ok, Err}
+use Rattle.refusal.specs.Outcome.{Outcome, accepted, refused}
 use Rattle.refusal.specs.Meaning.{reason_of}
 use Rattle.value.specs.Step.{yield}
 use Rattle.value.specs.Reading.{State, Stop, Reading}
 use Rattle.readers.specs.declared.State.{State as CodeState}
-use Rattle.readers.specs.declared.Step.{Step as CodeStep}
-use Rattle.readers.specs.declared.Step.TheVariants as S
-use Rattle.readers.specs.declared.Body.{Body}
-use Rattle.readers.specs.declared.Body.TheVariants as B
-use Rattle.readers.specs.declared.Taken.{Taken}
-use Rattle.readers.specs.declared.Taken.TheVariants as T
+use Rattle.readers.specs.declared.Stopped.{Stopped}
 
 abbrev pub state_of : CodeState → State
 state_of s = record { at = s.at; begun = s.begun }
 
+abbrev pub stop_of : Stopped → Stop
+stop_of e = record { why = reason_of e.refusal; state = state_of e.state }
+
+-- what a reader answers: the state behind what it read, or a refusal with the state where it ended
+abbrev pub CodeStep : Type 0
+CodeStep = Result CodeState Stopped
+
 abbrev pub step_of : CodeStep → Outcome Stop State
-step_of (S.Next s) = accepted (state_of s)
-step_of (S.Stopped s r) = refused (record { why = reason_of r; state = state_of s })
+step_of (Ok s) = accepted (state_of s)
+step_of (Err e) = refused (stop_of e)
+
+-- what taking a number answers
+abbrev pub Taken : Type 0
+Taken = Result (ℕ × CodeState) Stopped
 
 abbrev pub taken_of : Taken → Reading ℕ
-taken_of (T.Number n s) = yield n (state_of s)
-taken_of (T.Stopped s r) = refused (record { why = reason_of r; state = state_of s })
+taken_of (Ok t) = yield t.0 (state_of t.1)
+taken_of (Err e) = refused (stop_of e)
 
 -- the capacity is handed on as it was
 abbrev pub StepKeeps : ℕ → CodeStep → Type 0
-StepKeeps capacity (S.Next s) = s.capacity ≡ capacity
-StepKeeps capacity (S.Stopped s r) = s.capacity ≡ capacity
+StepKeeps capacity (Ok s) = s.capacity ≡ capacity
+StepKeeps capacity (Err e) = e.state.capacity ≡ capacity
 
 abbrev pub TakenKeeps : ℕ → Taken → Type 0
-TakenKeeps capacity (T.Number n s) = s.capacity ≡ capacity
-TakenKeeps capacity (T.Stopped s r) = s.capacity ≡ capacity
-
--- the bytes of an array's elements, or the refusal
-abbrev pub body_of : Body → Outcome Reason ℕ
-body_of (B.Bytes n) = accepted n
-body_of (B.Refused r) = refused (reason_of r)
+TakenKeeps capacity (Ok t) = t.1.capacity ≡ capacity
+TakenKeeps capacity (Err e) = e.state.capacity ≡ capacity

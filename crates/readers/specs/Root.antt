@@ -11,8 +11,7 @@ use Rattle.grammar.specs.Tree.{tree_of}
 use Rattle.tables.specs.Row.{laid}
 use Rattle.rows.specs.Layout.{rows_of}
 use Rattle.admission.specs.Admission.{in_force, capacity_of, admit_of}
-use Rattle.readers.specs.declared.Step.{Step as CodeStep}
-use Rattle.readers.specs.Meaning.{step_of, StepKeeps}
+use Rattle.readers.specs.Meaning.{CodeStep, step_of, StepKeeps}
 use Rattle.readers.specs.Reads.{Room}
 
 -- the capacity of a reading for which one is named: with no words lent, as a check, the one in force, else at most that of the words lent

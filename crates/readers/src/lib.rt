@@ -2,8 +2,10 @@
 #![tactic(auto)]
 
 ghost use Rattle.std.specs.Prelude.{◌≡◌, ◌∷◌, [], ℕ, ◌+◌, ◌-◌, ◌*◌, ◌/◌, ◌≤◌, ◌<◌, min, length, get_or, leb};
-ghost use Rattle.refusal.specs.Outcome.{accepted, refused, test, reason, byte, word as word_at, map};
-ghost use Rattle.value.specs.Kinds.{Number, width as number_width, number_kind, Elements, elements_kind, element_width};
+ghost use Rattle.refusal.specs.Meaning.{outcome_of};
+ghost use Rattle.refusal.specs.Outcome.{accepted, test, reason, byte, word as word_at, map};
+ghost use Rattle.value.specs.Kinds.{width as number_width, element_width, array, tuple, union};
+ghost use Rattle.value.specs.Meaning.{number_named, elements_named, kind_word};
 ghost use Rattle.value.specs.Tree.{VNumber, VNumberArray};
 ghost use Rattle.value.specs.Reading.{claim as claim_of, take_number, take_numbers, move, start, read_body, read_val, read_fields};
 ghost use Rattle.value.specs.Step.{give, elements};
@@ -12,57 +14,62 @@ ghost use Rattle.grammar.specs.Tree.{tree_of, child_trees};
 ghost use Rattle.tables.specs.Row.{row_width, laid};
 ghost use Rattle.rows.specs.Layout.{rows_of, rows_of_all};
 ghost use Rattle.admission.specs.Admission.{in_force};
-ghost use Rattle.readers.specs.Meaning.{state_of, step_of, taken_of, body_of, StepKeeps, TakenKeeps};
-ghost use Rattle.readers.specs.Reads.{Ready, Node, RowClaimed, Leaf, Reads, closed, Counted, take_below};
+ghost use Rattle.readers.specs.Meaning.{state_of, stop_of, step_of, taken_of, StepKeeps, TakenKeeps};
+ghost use Rattle.readers.specs.Reads.{Ready, Node, RowClaimed, Reads, closed, Counted, take_below};
 ghost use Rattle.readers.specs.Root.{capacity_within, ended, read_root, Admitted, FillsRows, first_field_of, ReadsFirstField};
 
-use packed::{UnpackedU32, UnpackedU64};
-use refusal::{Answer, Refusal};
+use packed::PackedInt;
+use refusal::Refusal;
+use tables::Row;
+use value::{Elements, Kind, Number};
 
 // Document 01's position and rows used, under a capacity. `begun` counts each time a row is asked for, the refused time too.
-#[derive(Clone, Copy)]
+#[derive(Clone, Copy, Debug, PartialEq, Eq)]
 pub struct State {
     pub at: usize,
     pub begun: usize,
     pub capacity: usize,
 }
 
-// What a reader answers: the state behind what it read, or a refusal with the state where it ended.
-#[derive(Clone, Copy)]
-pub enum Step {
-    Next(State),
-    Stopped(State, Refusal),
+// A refusal, with the state where the reading ended.
+#[derive(Clone, Copy, Debug, PartialEq, Eq)]
+pub struct Stopped {
+    pub state: State,
+    pub refusal: Refusal,
 }
 
-// What taking a number answers.
-#[derive(Clone, Copy)]
-enum Taken {
-    Number(u64, State),
-    Stopped(State, Refusal),
-}
+impl From<Stopped> for Refusal {
+    ghost from_gives = { λ e r. r ≡ e.refusal };
 
-// The bytes of an array's elements behind its count.
-#[derive(Clone, Copy)]
-enum Body {
-    Bytes(usize),
-    Refused(Refusal),
+    fn from(e: Stopped) -> Refusal {
+        e.refusal
+    }
 }
 
 impl State {
+    // The reading ends here.
+    fn stop(self, refusal: Refusal) -> Stopped
+        ensures { result ≡ record { state = self; refusal = refusal } }
+    {
+        Stopped {
+            state: self,
+            refusal: refusal,
+        }
+    }
+
     // A row for the value that starts here.
-    fn claim(self) -> Step
+    fn claim(self) -> Result<State, Stopped>
         requires { self.begun ≤ 4096 }
         ensures { (step_of result ≡ claim_of self.capacity (state_of self)) × StepKeeps self.capacity result }
     {
         let next = State {
-            at: self.at,
             begun: self.begun + 1,
-            capacity: self.capacity,
+            ..self
         };
         if self.begun < self.capacity {
-            Step::Next(next)
+            Ok(next)
         } else {
-            Step::Stopped(next, refusal::at_byte(refusal::ROWS_EXHAUSTED, self.at))
+            Err(next.stop(refusal::at_byte(refusal::ROWS_EXHAUSTED, self.at)))
         }
     }
 
@@ -73,49 +80,44 @@ impl State {
     {
         State {
             at: self.at + n,
-            begun: self.begun,
-            capacity: self.capacity,
+            ..self
         }
     }
 
-    // The next 4 bytes as a number; 9 where they are missing.
-    fn take4(self, bytes: &[u8]) -> Taken
+    // The next bytes as a number; 9 where they are missing.
+    fn take<T: PackedInt>(self, bytes: &[u8]) -> Result<(u64, State), Stopped>
         requires { (self.at ≤ length bytes.now) × (length bytes.now ≤ 1048576) }
-        ensures { (taken_of result ≡ take_number bytes.now 4 (state_of self)) × TakenKeeps self.capacity result }
+        ensures { (taken_of result ≡ take_number bytes.now T.WIDTH (state_of self)) × TakenKeeps self.capacity result }
     {
-        let at = self.at;
-        match packed::unpack_little_endian_uint32(bytes, at) {
-            UnpackedU32::Number(n) => Taken::Number(n as u64, self.move_on(4)),
-            UnpackedU32::Refused(r) => Taken::Stopped(self, r),
+        match packed::unpack_little_endian::<T>(bytes, self.at) {
+            Ok(n) => Ok((n.to_u64(), self.move_on(T::WIDTH))),
+            Err(r) => Err(self.stop(r)),
         }
     }
 
-    // The next 8 bytes as a number; 9 where they are missing.
-    fn take8(self, bytes: &[u8]) -> Taken
+    // The next bytes as a number of a kind.
+    fn take_number(self, bytes: &[u8], number: Number) -> Result<(u64, State), Stopped>
         requires { (self.at ≤ length bytes.now) × (length bytes.now ≤ 1048576) }
-        ensures { (taken_of result ≡ take_number bytes.now 8 (state_of self)) × TakenKeeps self.capacity result }
+        ensures { (taken_of result ≡ take_number bytes.now (number_width (number_named number)) (state_of self)) × TakenKeeps self.capacity result }
     {
-        let at = self.at;
-        match packed::unpack_little_endian_uint64(bytes, at) {
-            UnpackedU64::Number(n) => Taken::Number(n, self.move_on(8)),
-            UnpackedU64::Refused(r) => Taken::Stopped(self, r),
+        match number {
+            Number::Uint32 => self.take::<u32>(bytes),
+            Number::Uint64 => self.take::<u64>(bytes),
+            Number::Int32 => self.take::<u32>(bytes),
+            Number::Int64 => self.take::<u64>(bytes),
         }
     }
 
     // An 8-byte number below a limit; from the limit on it is refused by its number, where the value starts.
-    fn take_below(self, bytes: &[u8], limit: u64, number: u64) -> Taken
+    fn take_below(self, bytes: &[u8], limit: u64, number: u64) -> Result<(u64, State), Stopped>
         requires { (self.at ≤ length bytes.now) × (length bytes.now ≤ 1048576) }
         ensures { (taken_of result ≡ take_below bytes.now limit number (state_of self)) × TakenKeeps self.capacity result }
     {
-        match self.take8(bytes) {
-            Taken::Stopped(u, r) => Taken::Stopped(u, r),
-            Taken::Number(n, u) => {
-                if n < limit {
-                    Taken::Number(n, u)
-                } else {
-                    Taken::Stopped(self, refusal::at_byte(number, self.at))
-                }
-            }
+        let (n, next) = self.take::<u64>(bytes)?;
+        if n < limit {
+            Ok((n, next))
+        } else {
+            Err(self.stop(refusal::at_byte(number, self.at)))
         }
     }
 }
@@ -143,48 +145,73 @@ fn close_row(
     rows: &mut [u64],
     row: usize,
     start: usize,
-    kind: u64,
+    kind: Kind,
     word2: u64,
-    children: Step,
-) -> Step
+    children: Result<State, Stopped>,
+) -> Result<State, Stopped>
     requires { Counted row start children }
-    ensures { (result ≡ children) × (rows.new ≡ closed row start kind word2 children rows.old) }
+    ensures { (result ≡ children) × (rows.new ≡ closed row start (kind_word kind) word2 children rows.old) }
 {
-    match children {
-        Step::Stopped(u, r) => Step::Stopped(u, r),
-        Step::Next(u) => {
-            let span = (u.begun - row) as u64;
-            let size = (u.at - start) as u64;
-            tables::put_row(rows, row, kind, span, word2, 0, size);
-            Step::Next(u)
-        }
-    }
+    let next = children?;
+    let closed = Row {
+        kind: kind.word(),
+        span: (next.begun - row) as u64,
+        word2: word2,
+        word3: 0,
+        size: (next.at - start) as u64,
+    };
+    tables::put_row(rows, row, closed);
+    Ok(next)
 }
 
-// A number of size bytes that was taken, with its row.
-fn read_number(rows: &mut [u64], row: usize, kind: u64, size: u64, taken: Taken) -> Step
-    ensures { (k : Number) (capacity p : ℕ) → kind ≡ number_kind k → size ≡ number_width k → TakenKeeps capacity taken → Reads rows_of (give (VNumber k) (taken_of taken)) capacity row p rows.old result rows.new }
+fn read_constant(rows: &mut [u64], row: usize, s: State) -> State
+    ensures { (result ≡ s) × (rows.new ≡ laid rows.old row (0 ∷ 1 ∷ 0 ∷ 0 ∷ 0 ∷ [])) }
 {
-    match taken {
-        Taken::Stopped(u, r) => Step::Stopped(u, r),
-        Taken::Number(n, u) => {
-            tables::put_row(rows, row, kind, 1, n, 0, size);
-            Step::Next(u)
-        }
-    }
+    let constant = Row {
+        kind: Kind::Constant.word(),
+        span: 1,
+        word2: 0,
+        word3: 0,
+        size: 0,
+    };
+    tables::put_row(rows, row, constant);
+    s
+}
+
+// Kinds 1, 2, 9 and 10.
+fn read_number(
+    bytes: &[u8],
+    rows: &mut [u64],
+    row: usize,
+    number: Number,
+    s: State,
+) -> Result<State, Stopped>
+    requires { (s.at ≤ length bytes.now) × (length bytes.now ≤ 1048576) }
+    ensures { Reads rows_of (give (VNumber (number_named number)) (take_number bytes.now (number_width (number_named number)) (state_of s))) s.capacity row s.at rows.old result rows.new }
+{
+    let (n, next) = s.take_number(bytes, number)?;
+    let taken = Row {
+        kind: Kind::Number(number).word(),
+        span: 1,
+        word2: n,
+        word3: 0,
+        size: number.width(),
+    };
+    tables::put_row(rows, row, taken);
+    Ok(next)
 }
 
 // The bytes that count elements of a width take in the part handed on, which starts right behind the count of the
 // value that starts at start. The count is compared and never multiplied first.
-fn read_array_body(part: &[u8], count: u64, width: u64, start: usize) -> Body
+fn read_array_body(part: &[u8], count: u64, width: u64, start: usize) -> Result<usize, Refusal>
     requires { (0 < width) × (width ≤ 8) }
-    ensures { body_of result ≡ test (leb count (length part.now / width)) (reason 9 (byte start)) (λ _. accepted (width * count)) }
+    ensures { outcome_of result ≡ test (leb count (length part.now / width)) (reason 9 (byte start)) (λ _. accepted (width * count)) }
 {
     let left = part.len() as u64;
     if left / width < count {
-        return Body::Refused(refusal::at_byte(refusal::BYTES_MISSING, start));
+        return Err(refusal::at_byte(refusal::BYTES_MISSING, start));
     }
-    Body::Bytes((width * count) as usize)
+    Ok((width * count) as usize)
 }
 
 // Kinds 5 to 7: the count, then the elements.
@@ -192,101 +219,61 @@ fn read_elements(
     bytes: &[u8],
     rows: &mut [u64],
     row: usize,
-    kind: u64,
-    width: u64,
+    elements: Elements,
     s: State,
-) -> Step
-    requires { (s.at ≤ length bytes.now) × (length bytes.now ≤ 1048576) × (0 < width) × (width ≤ 8) }
-    ensures { (k : Elements) → kind ≡ elements_kind k → width ≡ element_width k → Reads rows_of (give (VNumberArray k) (take_numbers bytes.now width (state_of s))) s.capacity row s.at rows.old result rows.new }
+) -> Result<State, Stopped>
+    requires { (s.at ≤ length bytes.now) × (length bytes.now ≤ 1048576) }
+    ensures { Reads rows_of (give (VNumberArray (elements_named elements)) (take_numbers bytes.now (element_width (elements_named elements)) (state_of s))) s.capacity row s.at rows.old result rows.new }
 {
-    match s.take8(bytes) {
-        Taken::Stopped(u, r) => Step::Stopped(u, r),
-        Taken::Number(count, u) => {
-            let place = u.at;
-            match read_array_body(&bytes[place..], count, width, s.at) {
-                Body::Refused(r) => Step::Stopped(s, r),
-                Body::Bytes(n) => {
-                    let size = (8 + n) as u64;
-                    tables::put_row(rows, row, kind, 1, count, place as u64, size);
-                    Step::Next(u.move_on(n))
-                }
-            }
+    let (count, next) = s.take::<u64>(bytes)?;
+    let place = next.at;
+    match read_array_body(&bytes[place..], count, elements.width(), s.at) {
+        Err(r) => Err(s.stop(r)),
+        Ok(n) => {
+            let taken = Row {
+                kind: Kind::Elements(elements).word(),
+                span: 1,
+                word2: count,
+                word3: place as u64,
+                size: (8 + n) as u64,
+            };
+            tables::put_row(rows, row, taken);
+            Ok(next.move_on(n))
         }
     }
 }
 
-fn read_constant(rows: &mut [u64], row: usize, s: State) -> Step
-    ensures { (result ≡ Step.Next s) × (rows.new ≡ laid rows.old row (0 ∷ 1 ∷ 0 ∷ 0 ∷ 0 ∷ [])) }
-{
-    tables::put_row(rows, row, 0, 1, 0, 0, 0);
-    Step::Next(s)
-}
-
 // Refusal 3, at a node's kind word.
-fn refuse_kind(node: usize, s: State) -> Step
+fn refuse_kind(node: usize, s: State) -> Stopped
     requires { node < 256 }
-    ensures { step_of result ≡ refused (record { why = reason 3 (word_at (1 + 3 * node)); state = state_of s }) }
+    ensures { stop_of result ≡ record { why = reason 3 (word_at (1 + 3 * node)); state = state_of s } }
 {
-    Step::Stopped(s, refusal::at_word(refusal::NODE_KIND, 1 + 3 * node))
+    s.stop(refusal::at_word(refusal::NODE_KIND, 1 + 3 * node))
 }
 
-// A value without children, behind its claimed row. The arms that refuse the kind are not reached: the cycle reads parents
-// itself, and no kind is above 10 in a table that passes.
-fn read_leaf(
+// The value that starts at s and stands for a node. Arrays, tuples and cases are functions by themselves, also because the
+// compiler then lets them share one frame. In a table that passes each kind word names a kind.
+#[cycle(value_readers)]
+fn read_value(
     grammar: &[u32],
     node: usize,
     bytes: &[u8],
     rows: &mut [u64],
-    row: usize,
-    kind: u32,
     s: State,
-) -> Step
-    requires { RowClaimed grammar.now bytes.now rows.old node kind row s × Leaf kind }
-    ensures { Reads rows_of (read_body s.capacity bytes.now (tree_of grammar.now node) (state_of s)) s.capacity row s.at rows.old result rows.new }
-{
-    match kind {
-        0 => read_constant(rows, row, s),
-        1 => read_number(rows, row, 1, 4, s.take4(bytes)),
-        2 => read_number(rows, row, 2, 8, s.take8(bytes)),
-        3 => refuse_kind(node, s),
-        4 => refuse_kind(node, s),
-        5 => read_elements(bytes, rows, row, 5, 1, s),
-        6 => read_elements(bytes, rows, row, 6, 4, s),
-        7 => read_elements(bytes, rows, row, 7, 8, s),
-        8 => refuse_kind(node, s),
-        9 => read_number(rows, row, 9, 4, s.take4(bytes)),
-        10 => read_number(rows, row, 10, 8, s.take8(bytes)),
-        11..=4294967295 => refuse_kind(node, s),
-    }
-}
-
-// The value that starts at s and stands for a node. Arrays, tuples and cases are functions by themselves, also because the
-// compiler then lets them share one frame.
-#[cycle(value_readers)]
-fn read_value(grammar: &[u32], node: usize, bytes: &[u8], rows: &mut [u64], s: State) -> Step
+) -> Result<State, Stopped>
     requires { Node grammar.now node × Ready bytes.now rows.old s }
     ensures { Reads rows_of (read_val s.capacity bytes.now (tree_of grammar.now node) (state_of s)) s.capacity s.begun s.at rows.old result rows.new }
 {
     let row = s.begun;
-    match s.claim() {
-        Step::Stopped(t, r) => Step::Stopped(t, r),
-        Step::Next(t) => {
-            let kind = grammar[1 + 3 * node];
-            match kind {
-                0 => read_leaf(grammar, node, bytes, rows, row, kind, t),
-                1 => read_leaf(grammar, node, bytes, rows, row, kind, t),
-                2 => read_leaf(grammar, node, bytes, rows, row, kind, t),
-                3 => read_array(grammar, node, bytes, rows, row, t),
-                4 => read_tuple(grammar, node, bytes, rows, row, t),
-                5 => read_leaf(grammar, node, bytes, rows, row, kind, t),
-                6 => read_leaf(grammar, node, bytes, rows, row, kind, t),
-                7 => read_leaf(grammar, node, bytes, rows, row, kind, t),
-                8 => read_case(grammar, node, bytes, rows, row, t),
-                9 => read_leaf(grammar, node, bytes, rows, row, kind, t),
-                10 => read_leaf(grammar, node, bytes, rows, row, kind, t),
-                11..=4294967295 => refuse_kind(node, t),
-            }
-        }
+    let t = s.claim()?;
+    match Kind::of_word(grammar[1 + 3 * node] as u64) {
+        Some(Kind::Constant) => Ok(read_constant(rows, row, t)),
+        Some(Kind::Number(number)) => read_number(bytes, rows, row, number, t),
+        Some(Kind::Array) => read_array(grammar, node, bytes, rows, row, t),
+        Some(Kind::Tuple) => read_tuple(grammar, node, bytes, rows, row, t),
+        Some(Kind::Elements(elements)) => read_elements(bytes, rows, row, elements, t),
+        Some(Kind::Union) => read_case(grammar, node, bytes, rows, row, t),
+        None => Err(refuse_kind(node, t)),
     }
 }
 
@@ -299,18 +286,14 @@ fn read_array(
     rows: &mut [u64],
     row: usize,
     s: State,
-) -> Step
-    requires { RowClaimed grammar.now bytes.now rows.old node 3 row s }
+) -> Result<State, Stopped>
+    requires { RowClaimed grammar.now bytes.now rows.old node array row s }
     ensures { Reads rows_of (read_body s.capacity bytes.now (tree_of grammar.now node) (state_of s)) s.capacity row s.at rows.old result rows.new }
 {
     let limit = (s.capacity - s.begun + 1) as u64;
-    match s.take_below(bytes, limit, refusal::ROWS_EXHAUSTED) {
-        Taken::Stopped(u, r) => Step::Stopped(u, r),
-        Taken::Number(count, u) => {
-            let read = read_array_contents(grammar, node, bytes, rows, count, u);
-            close_row(rows, row, s.at, 3, count, read)
-        }
-    }
+    let (count, t) = s.take_below(bytes, limit, refusal::ROWS_EXHAUSTED)?;
+    let read = read_array_contents(grammar, node, bytes, rows, count, t);
+    close_row(rows, row, s.at, Kind::Array, count, read)
 }
 
 // Kind 4: the fields.
@@ -322,13 +305,13 @@ fn read_tuple(
     rows: &mut [u64],
     row: usize,
     s: State,
-) -> Step
-    requires { RowClaimed grammar.now bytes.now rows.old node 4 row s }
+) -> Result<State, Stopped>
+    requires { RowClaimed grammar.now bytes.now rows.old node tuple row s }
     ensures { Reads rows_of (read_body s.capacity bytes.now (tree_of grammar.now node) (state_of s)) s.capacity row s.at rows.old result rows.new }
 {
     let read = read_tuple_contents(grammar, node, bytes, rows, s);
     let count = word(grammar, 3 + 3 * node);
-    close_row(rows, row, s.at, 4, count as u64, read)
+    close_row(rows, row, s.at, Kind::Tuple, count as u64, read)
 }
 
 // Kind 8: the tag, then the value of its case.
@@ -340,19 +323,15 @@ fn read_case(
     rows: &mut [u64],
     row: usize,
     s: State,
-) -> Step
-    requires { RowClaimed grammar.now bytes.now rows.old node 8 row s }
+) -> Result<State, Stopped>
+    requires { RowClaimed grammar.now bytes.now rows.old node union row s }
     ensures { Reads rows_of (read_body s.capacity bytes.now (tree_of grammar.now node) (state_of s)) s.capacity row s.at rows.old result rows.new }
 {
     let limit = word(grammar, 3 + 3 * node) as u64;
-    match s.take_below(bytes, limit, refusal::TAG_UNKNOWN) {
-        Taken::Stopped(u, r) => Step::Stopped(u, r),
-        Taken::Number(tag, u) => {
-            let child = child_at(grammar, node, tag as usize);
-            let read = read_value(grammar, child, bytes, rows, u);
-            close_row(rows, row, s.at, 8, tag, read)
-        }
-    }
+    let (tag, t) = s.take_below(bytes, limit, refusal::TAG_UNKNOWN)?;
+    let child = child_at(grammar, node, tag as usize);
+    let read = read_value(grammar, child, bytes, rows, t);
+    close_row(rows, row, s.at, Kind::Union, tag, read)
 }
 
 // The elements of an array, one behind the other. Here and of a tuple the grammar's words are read again at each value: what is kept
@@ -365,31 +344,25 @@ fn read_array_contents(
     rows: &mut [u64],
     count: u64,
     s: State,
-) -> Step
+) -> Result<State, Stopped>
     requires { Node grammar.now node × (0 < count_word grammar.now node) × Ready bytes.now rows.old s }
     ensures { Reads rows_of_all (elements count (read_val s.capacity bytes.now (tree_of grammar.now (child_word grammar.now (first_word grammar.now node + 0)))) (state_of s)) s.capacity s.begun s.at rows.old result rows.new }
 {
     let mut t = s;
-    let mut i: u64 = 0;
-    while i < count {
+    for _ in 0..count {
         let child = child_at(grammar, node, 0);
-        match read_value(grammar, child, bytes, rows, t) {
-            Step::Stopped(u, r) => return Step::Stopped(u, r),
-            // Field by field: a copy of the whole waits for what the call has just stored (docs/PERFORMANCE.md).
-            Step::Next(u) => {
-                t = State {
-                    at: u.at,
-                    begun: u.begun,
-                    capacity: u.capacity,
-                };
-            }
-        }
-        i += 1;
+        let u = read_value(grammar, child, bytes, rows, t)?;
+        // Field by field: a copy of the whole waits for what the call has just stored (docs/PERFORMANCE.md).
+        t = State {
+            at: u.at,
+            begun: u.begun,
+            capacity: u.capacity,
+        };
     }
-    Step::Next(t)
+    Ok(t)
 }
 
-// The fields of a tuple, one behind the other.
+// The fields of a tuple, one behind the other. Their count is read again at each field, as no `for` would.
 #[cycle(value_readers)]
 fn read_tuple_contents(
     grammar: &[u32],
@@ -397,7 +370,7 @@ fn read_tuple_contents(
     bytes: &[u8],
     rows: &mut [u64],
     s: State,
-) -> Step
+) -> Result<State, Stopped>
     requires { Node grammar.now node × Ready bytes.now rows.old s }
     ensures { Reads rows_of_all (read_fields s.capacity bytes.now (child_trees grammar.now (tree_of grammar.now) (first_word grammar.now node) (count_word grammar.now node)) (state_of s)) s.capacity s.begun s.at rows.old result rows.new }
 {
@@ -405,24 +378,26 @@ fn read_tuple_contents(
     let mut i: usize = 0;
     while i < word(grammar, 3 + 3 * node) {
         let child = child_at(grammar, node, i);
-        match read_value(grammar, child, bytes, rows, t) {
-            Step::Stopped(u, r) => return Step::Stopped(u, r),
-            // Field by field: a copy of the whole waits for what the call has just stored (docs/PERFORMANCE.md).
-            Step::Next(u) => {
-                t = State {
-                    at: u.at,
-                    begun: u.begun,
-                    capacity: u.capacity,
-                };
-            }
-        }
+        let u = read_value(grammar, child, bytes, rows, t)?;
+        // Field by field, as above.
+        t = State {
+            at: u.at,
+            begun: u.begun,
+            capacity: u.capacity,
+        };
         i += 1;
     }
-    Step::Next(t)
+    Ok(t)
 }
 
 // The root from the index on, over a table and a record that are admitted.
-fn read_root(grammar: &[u32], bytes: &[u8], rows: &mut [u64], index: usize, capacity: usize) -> Step
+fn read_root(
+    grammar: &[u32],
+    bytes: &[u8],
+    rows: &mut [u64],
+    index: usize,
+    capacity: usize,
+) -> Result<State, Stopped>
     requires { Admitted grammar.now bytes.now rows.old index capacity }
     ensures { Reads rows_of (read_val capacity bytes.now (tree_of grammar.now 0) (start index)) capacity 0 index rows.old result rows.new }
 {
@@ -435,31 +410,21 @@ fn read_root(grammar: &[u32], bytes: &[u8], rows: &mut [u64], index: usize, capa
 }
 
 // The root as a check: no rows are lent. A whole reading gives 11 where the value does not end with the record.
-fn check_root(grammar: &[u32], bytes: &[u8], index: usize, capacity: usize, whole: bool) -> Step
+fn check_root(
+    grammar: &[u32],
+    bytes: &[u8],
+    index: usize,
+    capacity: usize,
+    whole: bool,
+) -> Result<State, Stopped>
     requires { Admitted grammar.now bytes.now [] index capacity }
     ensures { (step_of result ≡ map (λ t. t.state) (ended whole bytes.now (read_val capacity bytes.now (tree_of grammar.now 0) (start index)))) × StepKeeps capacity result }
 {
-    let mut none = [0u64; 0];
-    match read_root(grammar, bytes, &mut none, index, capacity) {
-        Step::Stopped(u, r) => Step::Stopped(u, r),
-        Step::Next(u) => {
-            if whole {
-                if u.at != bytes.len() {
-                    return Step::Stopped(u, refusal::at_byte(refusal::BYTES_LEFT_OVER, u.at));
-                }
-            }
-            Step::Next(u)
-        }
+    let end = read_root(grammar, bytes, &mut [], index, capacity)?;
+    if whole && end.at != bytes.len() {
+        return Err(end.stop(refusal::at_byte(refusal::BYTES_LEFT_OVER, end.at)));
     }
-}
-
-fn least(a: usize, b: usize) -> usize
-    ensures { result ≡ min a b }
-{
-    if a < b {
-        return a;
-    }
-    b
+    Ok(end)
 }
 
 // The capacity named, at most 4,096 and, where rows are lent, at most theirs.
@@ -469,7 +434,7 @@ fn capacity_within(capacity: usize, words: usize) -> usize
     if words == 0 {
         return admission::in_force(capacity);
     }
-    least(capacity, admission::capacity_of(words))
+    capacity.min(admission::capacity_of(words))
 }
 
 // A value of the root from the index on, whole where the record is to end with it: 1 to 7, then the reading as a check,
@@ -482,52 +447,41 @@ pub fn read(
     capacity: usize,
     whole: bool,
     rows: &mut [u64],
-) -> Step
+) -> Result<State, Stopped>
     ensures { FillsRows (read_root grammar.now «record».now index (capacity_within capacity (length rows.old)) whole) (capacity_within capacity (length rows.old)) index result rows.old rows.new }
 {
     let most = capacity_within(capacity, rows.len());
-    match admission::admit(grammar, record, index) {
-        Answer::Refused(r) => Step::Stopped(
-            State {
-                at: index,
-                begun: 0,
-                capacity: most,
-            },
-            r,
-        ),
-        Answer::Accepted => match check_root(grammar, record, index, most, whole) {
-            Step::Stopped(u, r) => Step::Stopped(u, r),
-            Step::Next(u) => {
-                if rows.len() == 0 {
-                    return Step::Next(u);
-                }
-                read_root(grammar, record, rows, index, most)
-            }
-        },
+    let start = State {
+        at: index,
+        begun: 0,
+        capacity: most,
+    };
+    if let Err(r) = admission::admit(grammar, record, index) {
+        return Err(start.stop(r));
     }
+    let end = check_root(grammar, record, index, most, whole)?;
+    if rows.is_empty() {
+        return Ok(end);
+    }
+    read_root(grammar, record, rows, index, most)
 }
 
 // The first field of the root, as a check, over a table and a record that are admitted: it starts at byte 0, behind the root's row.
 // Where the root is no tuple or has no field, the state before the root.
-fn read_first_field(grammar: &[u32], bytes: &[u8], capacity: usize) -> Step
+fn read_first_field(grammar: &[u32], bytes: &[u8], capacity: usize) -> Result<State, Stopped>
     requires { Admitted grammar.now bytes.now [] 0 capacity × (0 < capacity) }
     ensures { ReadsFirstField grammar.now bytes.now capacity result }
 {
-    let kind = grammar[1];
-    let count = grammar[3];
-    if kind == 4 {
-        if count != 0 {
-            let child = child_at(grammar, 0, 0);
-            let s = State {
-                at: 0,
-                begun: 1,
-                capacity: capacity,
-            };
-            let mut none = [0u64; 0];
-            return read_value(grammar, child, bytes, &mut none, s);
-        }
+    if grammar[1] as u64 == Kind::Tuple.word() && grammar[3] != 0 {
+        let child = child_at(grammar, 0, 0);
+        let s = State {
+            at: 0,
+            begun: 1,
+            capacity: capacity,
+        };
+        return read_value(grammar, child, bytes, &mut [], s);
     }
-    Step::Next(State {
+    Ok(State {
         at: 0,
         begun: 0,
         capacity: capacity,
@@ -535,12 +489,9 @@ fn read_first_field(grammar: &[u32], bytes: &[u8], capacity: usize) -> Step
 }
 
 // The whole reading as a check at the capacity named and, where it is accepted, the state behind the root's first field.
-pub fn check_first_field(grammar: &[u32], record: &[u8], capacity: usize) -> Step
+pub fn check_first_field(grammar: &[u32], record: &[u8], capacity: usize) -> Result<State, Stopped>
     ensures { (step_of result ≡ first_field_of grammar.now «record».now (in_force capacity)) × StepKeeps (in_force capacity) result }
 {
-    let mut none = [0u64; 0];
-    match read(grammar, record, 0, capacity, true, &mut none) {
-        Step::Stopped(u, r) => Step::Stopped(u, r),
-        Step::Next(t) => read_first_field(grammar, record, t.capacity),
-    }
+    let end = read(grammar, record, 0, capacity, true, &mut [])?;
+    read_first_field(grammar, record, end.capacity)
 }

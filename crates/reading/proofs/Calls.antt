@@ -23,13 +23,11 @@ use Rattle.packed.proofs.Fitting.{put_within-fits}
 use Rattle.rows.specs.Layout.{rows_of}
 use Rattle.rows.proofs.LayoutLaws.{length_rows_of}
 use Rattle.admission.specs.Admission.{in_force, capacity_of, admit_of}
-use Rattle.readers.specs.declared.Step.{Step as CodeStep}
-use Rattle.readers.specs.declared.Step.TheVariants.{Next, Stopped}
-use Rattle.readers.specs.Meaning.{step_of}
+use Rattle.std.specs.Prelude.{Result, Ok, Err}
+use Rattle.readers.specs.Meaning.{CodeStep, stop_of, step_of}
 use Rattle.readers.specs.Root.{capacity_within, before_start, read_root, FillsRows}
 use Rattle.readers.proofs.Root.{within_none, root-few}
 use Rattle.reading.specs.declared.Parsed.{Parsed}
-use Rattle.reading.specs.declared.Parsed.TheVariants.{Refused}
 use Rattle.reading.specs.Meaning.{parsed_of}
 use Rattle.reading.specs.Calls.{without_state, parse_val_of, demarshall_of, counts_of, parsed_step, Parses, SameOr8}
 
@@ -130,13 +128,13 @@ module _ (g d : List ℕ) (c m : ℕ) (l : c ≤ m) where
 
 -- a step of the code, as an answer
 pub step_counts : (c : CodeStep) (x : Reading Val) → step_of c ≡ map (λ t. t.state) x → parsed_step c ≡ map counts_of (without_state x)
-step_counts (Next u) (accepted t) h = let q : record { at = u.at; begun = u.begun } ≡ t.state = cc in ap (λ (s : State). accepted (record { rows = s.begun; rest_index = s.at })) q
-step_counts (Next u) (refused e) h = let z : ◌≡◌ {A = ℕ} 0 1 = cc in absurd (omega arith)
-step_counts (Stopped u f) (accepted t) h = let z : ◌≡◌ {A = ℕ} 0 1 = cc in absurd (omega arith)
-step_counts (Stopped u f) (refused e) h = let q : record { why = reason_of f; state = record { at = u.at; begun = u.begun } } ≡ e = cc in ap (λ (s : Stop). refused s.why) q
+step_counts (Ok u) (accepted t) h = let q : record { at = u.at; begun = u.begun } ≡ t.state = cc in ap (λ (s : State). accepted (record { rows = s.begun; rest_index = s.at })) q
+step_counts (Ok u) (refused e) h = let z : ◌≡◌ {A = ℕ} 0 1 = cc in absurd (omega arith)
+step_counts (Err z) (accepted t) h = let z : ◌≡◌ {A = ℕ} 0 1 = cc in absurd (omega arith)
+step_counts (Err z) (refused e) h = let q : stop_of z ≡ e = cc in ap (λ (s : Stop). refused s.why) q
 
 -- a refused call: the rows stay
-pub parses-refused : (o : Outcome Reason (Step State Val)) (index : ℕ) {f : Refusal} (rows : List ℕ) → refused (reason_of f) ≡ map counts_of o → Parses o index (Refused f) rows rows
+pub parses-refused : (o : Outcome Reason (Step State Val)) (index : ℕ) {f : Refusal} (rows : List ℕ) → refused (reason_of f) ≡ map counts_of o → Parses o index (Err f) rows rows
 parses-refused (refused e) index rows h = record { answers = h; rows = refl }
 parses-refused (accepted t) index rows h = let z : ◌≡◌ {A = ℕ} 0 1 = cc in absurd (omega arith)
 
@@ -172,7 +170,7 @@ module _ (g d : List ℕ) (capacity : ℕ) (p : check_grammar g ≡ accepted tt)
   pub checked : demarshall_of g d capacity ≡ without_state (read_whole capacity d (tree_of g 0))
   checked = sym (root-whole g d capacity) ∙ ap without_state try_whole
 
-module _ (g d : List ℕ) (index : ℕ) (whole : Bool) (o : ℕ → Outcome Reason (Step State Val)) (e : (capacity : ℕ) → without_state (read_root g d index capacity whole) ≡ o capacity) {c : CodeStep} (p : Parsed) (a : parsed_of p ≡ parsed_step c) {entry exit : List ℕ} where
+module _ (g d : List ℕ) (index : ℕ) (whole : Bool) (o : ℕ → Outcome Reason (Step State Val)) (e : (capacity : ℕ) → without_state (read_root g d index capacity whole) ≡ o capacity) {c : CodeStep} (p : Result Parsed Refusal) (a : parsed_of p ≡ parsed_step c) {entry exit : List ℕ} where
   counts : (capacity : ℕ) → FillsRows (read_root g d index capacity whole) capacity index c entry exit → parsed_of p ≡ map counts_of (o capacity)
   counts capacity f = a ∙ step_counts c (read_root g d index capacity whole) f.answers ∙ ap (map counts_of) (e capacity)
 

@@ -1,7 +1,6 @@
 -- What the public calls answer: GM's `ParseVal` and `Demarshall` over a grammar table, a record and a capacity.
-use Rattle.std.specs.Prelude.{◌≡◌, ◌⊎◌, List, ℕ, length, leb}
+use Rattle.std.specs.Prelude.{Result, Ok, Err, ◌≡◌, ◌⊎◌, List, ℕ, length, leb}
 use Rattle.refusal.specs.Outcome.{Outcome, accepted, refused, bind, test, map, contents, Reason, reason, byte}
-use Rattle.refusal.specs.Meaning.{reason_of}
 use Rattle.packed.specs.Packed.{put}
 use Rattle.value.specs.Tree.{Val}
 use Rattle.value.specs.Step.{Step}
@@ -11,8 +10,9 @@ use Rattle.grammar.specs.Tree.{tree_of}
 use Rattle.rows.specs.Layout.{rows_of}
 use Rattle.reading.specs.Meaning.{Counts, parsed_of}
 use Rattle.reading.specs.declared.Parsed.{Parsed}
-use Rattle.readers.specs.declared.Step.{Step as CodeStep}
-use Rattle.readers.specs.declared.Step.TheVariants as S
+use Rattle.refusal.specs.declared.Refusal.{Refusal}
+use Rattle.refusal.specs.Meaning.{reason_of}
+use Rattle.readers.specs.Meaning.{CodeStep}
 
 -- a reading, whose refusal is without its state
 abbrev pub without_state : {A : Type 0} → Reading A → Outcome Reason (Step State A)
@@ -36,7 +36,7 @@ abbrev pub counts_of : Step State Val → Counts
 counts_of t = record { rows = t.state.begun; rest_index = t.state.at }
 
 -- a call with rows lent: its answer, and rows 0 to n − 1 at exit are the layout of the value, whose bytes start at the index
-pub record Parses (o : Outcome Reason (Step State Val)) (index : ℕ) (r : Parsed) (entry exit : List ℕ) : Type 0 where
+pub record Parses (o : Outcome Reason (Step State Val)) (index : ℕ) (r : Result Parsed Refusal) (entry exit : List ℕ) : Type 0 where
   pub answers : parsed_of r ≡ map counts_of o
   pub rows : exit ≡ contents (map (λ t. put entry 0 (rows_of t.value index)) o) entry
 
@@ -46,5 +46,5 @@ SameOr8 o more = (o ≡ more) ⊎ ((place : ℕ) × (o ≡ refused (reason 8 (by
 
 -- a step of the readers as an answer
 abbrev pub parsed_step : CodeStep → Outcome Reason Counts
-parsed_step (S.Next s) = accepted (record { rows = s.begun; rest_index = s.at })
-parsed_step (S.Stopped s r) = refused (reason_of r)
+parsed_step (Ok s) = accepted (record { rows = s.begun; rest_index = s.at })
+parsed_step (Err e) = refused (reason_of e.refusal)

@@ -10,77 +10,74 @@ ghost use Rattle.reading.specs.Meaning.{parsed_of};
 ghost use Rattle.reading.specs.Calls.{parse_val_of, demarshall_of, counts_of, Parses, parsed_step};
 
 use admission::CHECK_ROWS;
-use readers::Step;
+use readers::{State, Stopped};
 use refusal::Refusal;
 
-// The answer of a reading: the row count and the position behind the value.
-#[derive(Clone, Copy)]
-pub enum Parsed {
-    Value { rows: usize, rest_index: usize },
-    Refused(Refusal),
+// The answer of an accepted reading: the row count and the position behind the value.
+#[derive(Clone, Copy, Debug, PartialEq, Eq)]
+pub struct Parsed {
+    pub rows: usize,
+    pub rest_index: usize,
 }
 
-fn answer(step: Step) -> Parsed
-    ensures { parsed_of result ≡ parsed_step step }
+// What the readers answered, without the state of a refusal.
+fn parsed(read: Result<State, Stopped>) -> Result<Parsed, Refusal>
+    ensures { parsed_of result ≡ parsed_step read }
 {
-    match step {
-        Step::Stopped(_, r) => Parsed::Refused(r),
-        Step::Next(t) => Parsed::Value {
-            rows: t.begun,
-            rest_index: t.at,
-        },
-    }
+    let end = read?;
+    Ok(Parsed {
+        rows: end.begun,
+        rest_index: end.at,
+    })
 }
 
 // GM's `ParseVal` as a check, which answers as `parse_val` does with as many rows as the capacity says; one above 4,096 counts as 4,096.
-pub fn check_val_with(grammar: &[u32], record: &[u8], index: usize, capacity: usize) -> Parsed
+pub fn check_val_with(grammar: &[u32], record: &[u8], index: usize, capacity: usize) -> Result<Parsed, Refusal>
     ensures { parsed_of result ≡ map counts_of (parse_val_of grammar.now «record».now index (in_force capacity)) }
 {
-    let mut none = [0u64; 0];
-    answer(readers::read(grammar, record, index, capacity, false, &mut none))
+    parsed(readers::read(grammar, record, index, capacity, false, &mut []))
 }
 
 // A try: GM's `Demarshall` as a check, with the values begun where it ends, also where it is refused. A capacity above 4,096 counts as 4,096.
-pub fn try_whole(grammar: &[u32], record: &[u8], capacity: usize) -> Step
+pub fn try_whole(grammar: &[u32], record: &[u8], capacity: usize) -> Result<State, Stopped>
     ensures { (step_of result ≡ map (λ t. t.state) (read_root grammar.now «record».now 0 (in_force capacity) true)) × StepKeeps (in_force capacity) result }
 {
-    let mut none = [0u64; 0];
-    readers::read(grammar, record, 0, capacity, true, &mut none)
+    readers::read(grammar, record, 0, capacity, true, &mut [])
 }
 
 // GM's `Demarshall` as a check, which answers as `demarshall` does with as many rows as the capacity says; one above 4,096 counts as 4,096.
-pub fn check_whole_with(grammar: &[u32], record: &[u8], capacity: usize) -> Parsed
+pub fn check_whole_with(grammar: &[u32], record: &[u8], capacity: usize) -> Result<Parsed, Refusal>
     ensures { parsed_of result ≡ map counts_of (demarshall_of grammar.now «record».now (in_force capacity)) }
 {
-    answer(try_whole(grammar, record, capacity))
+    parsed(try_whole(grammar, record, capacity))
 }
 
 // GM's `ParseVal` as a check for which no capacity is named: it has 1,024 rows.
-pub fn check_val(grammar: &[u32], record: &[u8], index: usize) -> Parsed
+pub fn check_val(grammar: &[u32], record: &[u8], index: usize) -> Result<Parsed, Refusal>
     ensures { parsed_of result ≡ map counts_of (parse_val_of grammar.now «record».now index check_rows) }
 {
     check_val_with(grammar, record, index, CHECK_ROWS)
 }
 
 // GM's `Demarshall` as a check for which no capacity is named: it has 1,024 rows.
-pub fn check_whole(grammar: &[u32], record: &[u8]) -> Parsed
+pub fn check_whole(grammar: &[u32], record: &[u8]) -> Result<Parsed, Refusal>
     ensures { parsed_of result ≡ map counts_of (demarshall_of grammar.now «record».now check_rows) }
 {
     check_whole_with(grammar, record, CHECK_ROWS)
 }
 
 // GM's `ParseVal`.
-pub fn parse_val(grammar: &[u32], record: &[u8], index: usize, rows: &mut [u64]) -> Parsed
+pub fn parse_val(grammar: &[u32], record: &[u8], index: usize, rows: &mut [u64]) -> Result<Parsed, Refusal>
     ensures { Parses (parse_val_of grammar.now «record».now index (capacity_of (length rows.old))) index result rows.old rows.new }
 {
     let capacity = admission::capacity_of(rows.len());
-    answer(readers::read(grammar, record, index, capacity, false, rows))
+    parsed(readers::read(grammar, record, index, capacity, false, rows))
 }
 
 // GM's `Demarshall`: the whole reading.
-pub fn demarshall(grammar: &[u32], record: &[u8], rows: &mut [u64]) -> Parsed
+pub fn demarshall(grammar: &[u32], record: &[u8], rows: &mut [u64]) -> Result<Parsed, Refusal>
     ensures { Parses (demarshall_of grammar.now «record».now (capacity_of (length rows.old))) 0 result rows.old rows.new }
 {
     let capacity = admission::capacity_of(rows.len());
-    answer(readers::read(grammar, record, 0, capacity, true, rows))
+    parsed(readers::read(grammar, record, 0, capacity, true, rows))
 }

@@ -27,11 +27,10 @@ decreases-read_tuple_contents l = 3 * (l.s.capacity - l.s.begun) + 1
 abbrev pub decreases-read_value : goal.decreases-read_value
 decreases-read_value l = 3 * (l.s.capacity - l.s.begun)
 
-abbrev pub invariant-read_array_contents-loop-i : goal.invariant-read_array_contents-loop-i
-invariant-read_array_contents-loop-i l = (l.i ≤ l.count) × Remaining l.bytes l.initial.rows l.initial.t (elements l.count (read_val l.initial.t.capacity l.bytes (tree_of l.grammar (child_word l.grammar (first_word l.grammar l.node + 0)))) (state_of l.initial.t)) l.rows l.t (elements (l.count - l.i) (read_val l.initial.t.capacity l.bytes (tree_of l.grammar (child_word l.grammar (first_word l.grammar l.node + 0)))) (state_of l.t))
-
-abbrev pub decreases-read_array_contents-loop-i : goal.decreases-read_array_contents-loop-i
-decreases-read_array_contents-loop-i l = l.count - l.i
+abbrev pub invariant-read_array_contents-loop : goal.invariant-read_array_contents-loop
+invariant-read_array_contents-loop l =
+    let element = read_val l.initial.t.capacity l.bytes (tree_of l.grammar (child_word l.grammar (first_word l.grammar l.node + 0))) in
+    Remaining l.bytes l.initial.rows l.initial.t (elements l.count element (state_of l.initial.t)) l.rows l.t (elements (l.count - l.counter) element (state_of l.t))
 
 abbrev pub invariant-read_tuple_contents-loop-i : goal.invariant-read_tuple_contents-loop-i
 invariant-read_tuple_contents-loop-i l = (l.i ≤ count_word l.grammar l.node) × Remaining l.bytes l.initial.rows l.initial.t (read_fields l.initial.t.capacity l.bytes (child_trees l.grammar (tree_of l.grammar) (first_word l.grammar l.node) (count_word l.grammar l.node)) (state_of l.initial.t)) l.rows l.t (read_fields l.initial.t.capacity l.bytes (child_trees l.grammar (tree_of l.grammar) (first_word l.grammar l.node + l.i) (count_word l.grammar l.node - l.i)) (state_of l.t))

@@ -1,6 +1,4 @@
-use mathlib.Core.Path.{ap, ◌∙◌}
-use Prim.Native.Nat.{ℕ, min}
-use native.Mathlib.Omega.{arith}
+use Rattle.std.proofs.Common.{ℕ, min, arith, ap, ◌∙◌}
 use Rattle.readers.proofs.Root.{within_none, within-lent}
 use Rattle.readers.proofs.capacity_within.Goals as goal
 
@@ -13,4 +11,4 @@ pub returns : goal.returns
 returns c =
     let a = c.args in
     let k = c.capacity_of.ensures in
-    (c.least.ensures ∙ ap (λ (m : ℕ). min a.capacity m) k.0 ∙ within-lent a.capacity a.words c.if-words-eq0.false, omega (arith, c.least.ensures, k.1), λ h. omega (arith, c.least.ensures, k.2))
+    (c.min.ensures ∙ ap (λ (m : ℕ). min a.capacity m) k.0 ∙ within-lent a.capacity a.words c.if-words-eq0.false, omega (arith, k.1), λ h. omega (arith, k.2))

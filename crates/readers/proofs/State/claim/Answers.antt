@@ -1,6 +1,4 @@
-use mathlib.Core.Path.{refl, ap, ◌∙◌}
-use Prim.Native.Nat.{◌+◌}
-use Rattle.refusal.specs.Outcome.{Reason, refused}
+use Rattle.std.proofs.Common.{refl}
 use Rattle.readers.proofs.Laws.{claim-next, claim-stop}
 use Rattle.readers.proofs.State.claim.Goals as goal
 
@@ -12,4 +10,4 @@ returns-then-self c =
 pub returns-else-self : goal.returns-else-self
 returns-else-self c =
     let s = c.args.self in
-    (ap (λ (w : Reason). refused (record { why = w; state = record { at = s.at; begun = s.begun + 1 } })) c.at_byte.ensures ∙ claim-stop s.at s.begun s.capacity c.if-self.false, refl)
+    rw (c.stop.ensures, c.at_byte.ensures) (claim-stop s.at s.begun s.capacity c.if-self.false, refl)
