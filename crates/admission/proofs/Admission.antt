@@ -1,12 +1,6 @@
 -- Refusals 1 to 7, step by step as the code decides them.
-use mathlib.Core.Path.{◌≡◌, refl, ap, sym, ◌∙◌}
-use mathlib.Core.Bool.{true}
-use mathlib.Core.List.{List}
-use Prim.Native.Nat.{ℕ, ◌≤◌, ◌<◌}
-use native.Mathlib.Omega.{arith}
-use lib.ListN.{length}
-use lib.Dec.{leb}
-use borrow.Author.Tests.{le-leb, lt-leb, leb-true}
+use Rattle.std.proofs.Common.{◌≡◌, refl, ap, sym, ◌∙◌, true, List, ℕ, ◌≤◌, ◌<◌, arith, length, leb, le-leb, leb-true}
+use borrow.Author.Tests.{lt-leb}
 use Rattle.refusal.specs.Outcome.{Outcome, accepted, refused, bind, test, Reason, reason, byte}
 use Rattle.refusal.proofs.Tests.{reflects_leb}
 use Rattle.refusal.proofs.Outcome.{Post, holds, post_reflects, bind-test, test-true, test-false, test_passed}

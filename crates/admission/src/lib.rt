@@ -6,7 +6,7 @@ ghost use Rattle.refusal.specs.Meaning.{outcome_of};
 ghost use Rattle.tables.specs.Row.{row_width};
 ghost use Rattle.admission.specs.Admission.{in_force, capacity_of, check_length, admit_of};
 
-use refusal::Answer;
+use refusal::Refusal;
 use tables::{MOST_BYTES, MOST_ROWS, ROW_WIDTH};
 
 // The capacity of a check for which none is named.
@@ -16,10 +16,7 @@ pub const CHECK_ROWS: usize = 1024;
 pub fn in_force(named: usize) -> usize
     ensures { (result ≡ in_force named) × (result ≤ 4096) }
 {
-    if named < MOST_ROWS {
-        return named;
-    }
-    MOST_ROWS
+    named.min(MOST_ROWS)
 }
 
 // The capacity of a slice of this many words: the rows that it has, at most 4,096.
@@ -30,7 +27,7 @@ pub fn capacity_of(words: usize) -> usize
 }
 
 // 6 of the record.
-pub fn check_length(bytes: &[u8]) -> Answer
+pub fn check_length(bytes: &[u8]) -> Result<(), Refusal>
     ensures { outcome_of result ≡ check_length bytes.now }
 {
     refusal::accept_if(
@@ -40,17 +37,14 @@ pub fn check_length(bytes: &[u8]) -> Answer
 }
 
 // 1 to 5 of the grammar, 6 of the record, 7 of the index.
-pub fn admit(grammar: &[u32], bytes: &[u8], index: usize) -> Answer
+#[tactic(auto, unfolding(crate::specs::Admission::admit_of))]
+pub fn admit(grammar: &[u32], bytes: &[u8], index: usize) -> Result<(), Refusal>
     ensures { outcome_of result ≡ admit_of grammar.now bytes.now index }
 {
-    match grammar::check_grammar(grammar) {
-        Answer::Refused(r) => Answer::Refused(r),
-        Answer::Accepted => match check_length(bytes) {
-            Answer::Refused(r) => Answer::Refused(r),
-            Answer::Accepted => refusal::accept_if(
-                index <= bytes.len(),
-                refusal::at_byte(refusal::INDEX_PAST_END, index),
-            ),
-        },
-    }
+    grammar::check_grammar(grammar)?;
+    check_length(bytes)?;
+    refusal::accept_if(
+        index <= bytes.len(),
+        refusal::at_byte(refusal::INDEX_PAST_END, index),
+    )
 }

@@ -1,16 +1,7 @@
 -- The grammar check's definition, as its loops take it, and what an accepted step says.
-use mathlib.Core.Path.{◌≡◌, refl, ap, sym, ◌∙◌}
-use mathlib.Core.Bool.{Bool, true, false, ◌&&◌}
-use mathlib.Core.Logic.{◌↔◌}
-use mathlib.Core.List.{List, [], ◌∷◌}
-use Prim.Native.Nat.{ℕ, zero, suc, ◌+◌, ◌-◌, ◌*◌, ◌≤◌, ◌<◌}
-use native.Mathlib.Nat.{add-zero, sub-zero}
-use native.Mathlib.Numerals.{add-one}
-use native.Mathlib.Decide.{dec_le}
-use native.Mathlib.Omega.{arith}
-use lib.ListN.{length, get_or}
-use lib.Dec.{leb, ltb}
-use Rattle.refusal.specs.Outcome.{Outcome, accepted, refused, bind, test, Reason, reason, word}
+use Rattle.std.proofs.Common.{◌≡◌, refl, ap, sym, ◌∙◌, Bool, true, false, ◌&&◌, ◌↔◌, List, [], ◌∷◌, ℕ, zero, suc, ◌+◌, ◌-◌, ◌*◌, ◌≤◌, ◌<◌, add-one, arith, length, get_or}
+use Rattle.std.proofs.Math.Decide.{dec_le}
+use Rattle.refusal.specs.Outcome.{Outcome, accepted, refused, bind, Reason, reason, word}
 use Rattle.refusal.proofs.Outcome.{test-true, test-false, test_passed}
 use Rattle.refusal.proofs.Tests.{and-true, reflects_leb, reflects_ltb, reflects_eqb, reflects_and}
 use Rattle.value.specs.Kinds.{Kind, kinds, last_kind, kind_of, constant, number, array, tuple, elements, union, other}
@@ -70,12 +61,6 @@ laid_out t h =
     let l : length_holds t ≡ true = test_passed (length_holds t) (reason 2 (word (1 + 3 * node_count t))) accepted tt (sym (test-true _ _ s) ∙ sym h) in
     record { start = (reflects_start t).1 s; size = (reflects_length t).1 l }
 
-pub node-within : (t : List ℕ) (k : ℕ) → accepted tt ≡ check_node t k → first_word t k + count_word t k ≤ child_count t
-unfolding check_node
-node-within t k h =
-    let a : is_named (kind_of (kind_word t k)) ≡ true = test_passed (is_named (kind_of (kind_word t k))) _ _ tt (sym h) in
-    ((reflects_children t k).1 (test_passed (children_hold t k) (reason 4 (word (2 + 3 * k))) accepted tt (sym (test-true _ _ a) ∙ sym h))).1
-
 -- ---- the loop over nodes: what is left from node k on
 
 module _ (t : List ℕ) (n k : ℕ) (h : k < n) where
@@ -89,10 +74,8 @@ module _ (t : List ℕ) (n k : ℕ) (h : k < n) where
   pub node-refused : {r : Reason} → refused r ≡ check_node t k → refused r ≡ check_nodes t k (n - k)
   node-refused {r} e = ap (λ (x : Outcome Reason (Unit {0})). bind x (λ _. bind (check_children t k (first_word t k) (count_word t k)) (λ _. check_nodes t (k + 1) (n - (k + 1))))) e ∙ sym next-node
 
-  pub node-accepted : accepted tt ≡ check_node t k → bind (check_children t k (first_word t k + 0) (count_word t k - 0)) (λ _. check_nodes t (k + 1) (n - (k + 1))) ≡ check_nodes t k (n - k)
-  node-accepted e =
-      rw (add-zero (first_word t k), sub-zero (count_word t k))
-      (ap (λ (x : Outcome Reason (Unit {0})). bind x (λ _. bind (check_children t k (first_word t k) (count_word t k)) (λ _. check_nodes t (k + 1) (n - (k + 1))))) e ∙ sym next-node)
+  pub node-accepted : {i m : ℕ} → i ≡ first_word t k → m ≡ count_word t k → accepted tt ≡ check_node t k → bind (check_children t k i m) (λ _. check_nodes t (k + 1) (n - (k + 1))) ≡ check_nodes t k (n - k)
+  node-accepted {i} {m} f c e = rw (f, c) (ap (λ (x : Outcome Reason (Unit {0})). bind x (λ _. bind (check_children t k (first_word t k) (count_word t k)) (λ _. check_nodes t (k + 1) (n - (k + 1))))) e ∙ sym next-node)
 
 pub nodes_none : (t : List ℕ) (n k : ℕ) → k ≡ n → accepted tt ≡ check_nodes t k (n - k)
 unfolding check_nodes
@@ -118,20 +101,5 @@ pub children-none : (t : List ℕ) (k i count j : ℕ) (f : Unit {0} → Outcome
 unfolding check_children
 children-none t k i count j f h = let z : count - j ≡ 0 = omega arith in rw z
 
--- ---- a node by the value of its kind word, in an arm of the match
-
-module _ (t : List ℕ) (k : ℕ) where
-  pub node-named : (kind : ℕ) {kept : Bool} {first count children : ℕ} → kind_word t k ≡ kind → is_named (kind_of kind) ≡ true → kept ≡ keeps_rule (kind_of kind) first count → first ≡ first_word t k → count ≡ count_word t k → children ≡ child_count t → test (kept && leb (first + count) children) (reason 4 (word (2 + 3 * k))) accepted ≡ check_node t k
-  unfolding check_node
-  node-named kind {kept} {first} {count} {children} e n r f c m =
-      let h : is_named (kind_of (kind_word t k)) ≡ true = rw e n in
-      let q : (kept && leb (first + count) children) ≡ children_hold t k = rw (r, f, c, m, e) in
-      ap (λ (b : Bool). test b (reason 4 (word (2 + 3 * k))) accepted) q ∙ sym (test-true _ _ h)
-
-  pub node-other : length kinds ≤ kind_word t k → refused (reason 3 (word (1 + 3 * k))) ≡ check_node t k
-  unfolding check_node
-  node-other h = sym (test-false _ _ (ap is_named (kind-other (kind_word t k) h)))
-
--- a child as the code reads it
-pub child_read : (t : List ℕ) (k i : ℕ) {child nodes : ℕ} → nodes ≡ node_count t → child ≡ get_or t (2 + 3 * nodes + i) 0 → (ltb k child && ltb child nodes) ≡ child_holds t k i
-child_read t k i n c = rw (c, n)
+-- what the loops take
+pub ruleset check_steps = (node-refused, node-accepted, nodes_none, child_accepted, child_refused, children-none)

@@ -8,33 +8,26 @@ ghost use Rattle.tables.specs.Grammar.{node_count, child_count};
 ghost use Rattle.grammar.specs.Check.{start_holds, length_holds, check_layout, check_node, check_nodes, check_grammar};
 ghost use Rattle.grammar.specs.Rule.{LaidOut};
 
-use refusal::Answer;
+use refusal::Refusal;
 
 const MOST_NODES: usize = 256;
 
 const MOST_CHILD_WORDS: usize = 1024;
 
 // No table is assumed sound.
-pub fn check_grammar(words: &[u32]) -> Answer
+#[tactic(auto, using(crate::proofs::Laws::laid_out), unfolding(crate::specs::Check::check_grammar))]
+pub fn check_grammar(words: &[u32]) -> Result<(), Refusal>
     ensures { outcome_of result ≡ check_grammar words.now }
 {
-    match check_layout(words) {
-        Answer::Refused(r) => Answer::Refused(r),
-        Answer::Accepted => check_nodes(words),
-    }
+    check_layout(words)?;
+    check_nodes(words)
 }
 
 fn start_holds(words: &[u32]) -> bool
     ensures { result ≡ start_holds words.now }
 {
-    if words.len() == 0 {
-        return false;
-    }
     let nodes = tables::word(words, 0);
-    if nodes == 0 {
-        return false;
-    }
-    nodes <= MOST_NODES
+    !words.is_empty() && 0 < nodes && nodes <= MOST_NODES
 }
 
 fn length_holds(words: &[u32]) -> bool
@@ -43,53 +36,45 @@ fn length_holds(words: &[u32]) -> bool
 {
     let nodes = tables::word(words, 0);
     let at = 1 + 3 * nodes;
-    if words.len() <= at {
-        return false;
-    }
     let children = tables::word(words, at);
-    if MOST_CHILD_WORDS < children {
-        return false;
-    }
-    words.len() == 2 + 3 * nodes + children
+    at < words.len() && children <= MOST_CHILD_WORDS && words.len() == at + 1 + children
 }
 
 // Refusal 1, then 2.
-fn check_layout(words: &[u32]) -> Answer
+#[tactic(auto, unfolding(crate::specs::Check::check_layout))]
+fn check_layout(words: &[u32]) -> Result<(), Refusal>
     ensures { outcome_of result ≡ check_layout words.now }
 {
-    if start_holds(words) {
-        let at = 1 + 3 * tables::word(words, 0);
-        refusal::accept_if(
-            length_holds(words),
-            refusal::at_word(refusal::GRAMMAR_LENGTH, at),
-        )
-    } else {
-        Answer::Refused(refusal::at_word(refusal::NODE_COUNT, 0))
-    }
+    refusal::accept_if(start_holds(words), refusal::at_word(refusal::NODE_COUNT, 0))?;
+    let at = 1 + 3 * tables::word(words, 0);
+    refusal::accept_if(
+        length_holds(words),
+        refusal::at_word(refusal::GRAMMAR_LENGTH, at),
+    )
 }
 
 // The rule of the kinds without children.
 fn is_leaf(first: usize, count: usize) -> bool
     ensures { result ≡ (eqb first 0 && eqb count 0) }
 {
-    if first == 0 { count == 0 } else { false }
+    first == 0 && count == 0
 }
 
 // Whether the kind's rule is kept and the children lie within the child words. No sum wraps.
 fn children_hold(kept: bool, first: usize, count: usize, children: usize) -> bool
     ensures { result ≡ (kept && leb (first + count) children) }
 {
-    if !kept {
-        return false;
-    }
-    if children < count {
-        return false;
-    }
-    first <= children - count
+    kept && count <= children && first <= children - count
 }
 
 // Refusal 4, by whether the kind's rule is kept.
-fn check_rule(kept: bool, at: usize, first: usize, count: usize, children: usize) -> Answer
+fn check_rule(
+    kept: bool,
+    at: usize,
+    first: usize,
+    count: usize,
+    children: usize,
+) -> Result<(), Refusal>
     ensures { outcome_of result ≡ test (kept && leb (first + count) children) (reason 4 (word_at at)) accepted }
 {
     refusal::accept_if(
@@ -98,8 +83,10 @@ fn check_rule(kept: bool, at: usize, first: usize, count: usize, children: usize
     )
 }
 
-// Node k by itself: refusal 3, then 4.
-fn check_node(words: &[u32], k: usize, children: usize) -> Answer
+// Node k by itself: refusal 3, then 4. Document 01 names this form, a match on the copied kind word with an arm for each kind and a range arm
+// for refusal 3; so the kinds are not `Kind` here.
+#[tactic(auto, unfolding(crate::specs::Check::check_node, value::specs::Kinds::kind_of, value::specs::Kinds::kinds))]
+fn check_node(words: &[u32], k: usize, children: usize) -> Result<(), Refusal>
     requires { (k < 256) × (children ≡ child_count words.now) }
     ensures { outcome_of result ≡ check_node words.now k }
 {
@@ -120,7 +107,7 @@ fn check_node(words: &[u32], k: usize, children: usize) -> Answer
         8 => check_rule(true, at, first, count, children),
         9 => check_rule(leaf, at, first, count, children),
         10 => check_rule(leaf, at, first, count, children),
-        11.. => Answer::Refused(refusal::at_word(refusal::NODE_KIND, 1 + 3 * k)),
+        11.. => Err(refusal::at_word(refusal::NODE_KIND, 1 + 3 * k)),
     }
 }
 
@@ -128,35 +115,29 @@ fn check_node(words: &[u32], k: usize, children: usize) -> Answer
 fn child_holds(k: usize, child: usize, nodes: usize) -> bool
     ensures { result ≡ (ltb k child && ltb child nodes) }
 {
-    if k < child { child < nodes } else { false }
+    k < child && child < nodes
 }
 
 // Each node by refusal 3, then 4, then its children from the first, before the next node.
-fn check_nodes(words: &[u32]) -> Answer
+#[tactic(auto, using(crate::proofs::Laws::check_steps))]
+fn check_nodes(words: &[u32]) -> Result<(), Refusal>
     requires { LaidOut words.now }
     ensures { outcome_of result ≡ check_nodes words.now 0 (node_count words.now) }
 {
     let nodes = tables::word(words, 0);
     let children = tables::word(words, 1 + 3 * nodes);
-    let mut k: usize = 0;
-    'nodes: loop {
-        if k == nodes {
-            break 'nodes Answer::Accepted;
-        }
-        if let Answer::Refused(r) = check_node(words, k, children) {
-            break 'nodes Answer::Refused(r);
-        }
-        let first = tables::word(words, 2 + 3 * k);
-        let count = tables::word(words, 3 + 3 * k);
-        let mut j: usize = 0;
-        while j < count {
-            let at = 2 + 3 * nodes + (first + j);
-            let child = tables::word(words, at);
-            if !child_holds(k, child, nodes) {
-                break 'nodes Answer::Refused(refusal::at_word(refusal::CHILD_NUMBER, at));
+    'nodes: {
+        for k in 0..nodes {
+            check_node(words, k, children)?;
+            let first = tables::word(words, 2 + 3 * k);
+            for j in 0..tables::word(words, 3 + 3 * k) {
+                let at = 2 + 3 * nodes + (first + j);
+                let child = tables::word(words, at);
+                if !child_holds(k, child, nodes) {
+                    break 'nodes Err(refusal::at_word(refusal::CHILD_NUMBER, at));
+                }
             }
-            j += 1;
         }
-        k += 1;
+        Ok(())
     }
 }

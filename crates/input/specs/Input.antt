@@ -1,10 +1,8 @@
 -- The layout of the input: the word count, the words, the record length, the record.
 use Rattle.std.specs.Prelude.{◌≡◌, List, ℕ, ◌+◌, ◌*◌, ◌≤◌, min, length, take, drop, leb, eqb}
-use Rattle.refusal.specs.Outcome.{Outcome, accepted, refused, bind, test, Reason, reason, byte}
-use Rattle.refusal.specs.Meaning.{reason_of}
+use Rattle.refusal.specs.Outcome.{Outcome, accepted, bind, test, Reason, reason, byte}
 use Rattle.packed.specs.Packed.{unpack_little_endian, unpack_little_endian_seq}
 use Rattle.input.specs.declared.Layout.{Layout}
-use Rattle.input.specs.declared.Layout.TheVariants as L
 
 -- the bytes of the longest input
 abbrev pub most_input : ℕ
@@ -13,12 +11,6 @@ most_input = 65536
 -- the most grammar words
 abbrev pub most_words : ℕ
 most_words = 1794
-
--- how many words there are, from byte 4 on, where the record starts, and its length
-pub record Parts : Type 0 where
-  pub words : ℕ
-  pub start : ℕ
-  pub size : ℕ
 
 -- 19, at the input length; for a longer input at 65,536
 abbrev pub not_laid_out : List ℕ → Reason
@@ -29,14 +21,14 @@ unfoldable pub count_at : List ℕ → ℕ → Outcome Reason ℕ
 count_at input index = test (leb (index + 4) (length input)) (not_laid_out input) (λ _. accepted (unpack_little_endian 4 (take 4 (drop index input))))
 
 -- behind so many words: the record length and the record, with which the input ends
-unfoldable pub record_after : List ℕ → ℕ → Outcome Reason Parts
+unfoldable pub record_after : List ℕ → ℕ → Outcome Reason Layout
 record_after input words =
     bind (count_at input (4 + 4 * words)) (λ size.
     test (eqb (8 + 4 * words + size) (length input)) (not_laid_out input) (λ _.
     accepted (record { words = words; start = 8 + 4 * words; size = size })))
 
--- the parts of an input, or 19
-unfoldable pub layout_of : List ℕ → Outcome Reason Parts
+-- the layout of an input, or 19
+unfoldable pub layout_of : List ℕ → Outcome Reason Layout
 layout_of input =
     test (leb (length input) most_input) (not_laid_out input) (λ _.
     bind (count_at input 0) (λ words.
@@ -47,19 +39,14 @@ abbrev pub words_at : List ℕ → ℕ → List ℕ
 words_at input words = unpack_little_endian_seq 4 (take (4 * words) (drop 4 input)) words
 
 -- the grammar words and the record of an input
-abbrev pub grammar_of : List ℕ → Parts → List ℕ
+abbrev pub grammar_of : List ℕ → Layout → List ℕ
 grammar_of input p = words_at input p.words
 
-abbrev pub record_of : List ℕ → Parts → List ℕ
+abbrev pub record_of : List ℕ → Layout → List ℕ
 record_of input p = take p.size (drop p.start input)
 
--- what the code's answer means
-abbrev pub parts_of : Layout → Outcome Reason Parts
-parts_of (L.Parts words start size) = accepted (record { words = words; start = start; size = size })
-parts_of (L.Refused r) = refused (reason_of r)
-
 -- when an input is laid out: the four parts one behind the other, and nothing left over (`layout_exactly` of proofs/)
-pub record LaidOut (input : List ℕ) (p : Parts) : Type 0 where
+pub record LaidOut (input : List ℕ) (p : Layout) : Type 0 where
   pub short : length input ≤ most_input
   pub counted : unpack_little_endian 4 (take 4 (drop 0 input)) ≡ p.words
   pub few : p.words ≤ most_words

@@ -1,9 +1,13 @@
 // A refusal, as document 01 has it: its number in the papers' tables and its place. It is the error of every call of the library.
 #![tactic(auto)]
 
-ghost use Rattle.std.specs.Prelude.{◌≡◌};
+ghost use Rattle.std.specs.Prelude.{◌≡◌, Some};
 ghost use Rattle.refusal.specs.Meaning.{reason_of, outcome_of};
 ghost use Rattle.refusal.specs.Outcome.{accepted, test, reason, word, byte, row};
+ghost use Rattle.refusal.specs.Printed.{place_text, refusal_text};
+
+use std::error::Error;
+use std::fmt;
 
 // The numbers of document 01, in the order of its table, then those of document 02.
 pub const NODE_COUNT: u64 = 1;
@@ -65,6 +69,30 @@ pub struct Refusal {
     pub place: Place,
     pub number: u64,
 }
+
+impl fmt::Display for Place {
+    ghost output = { λ p. Some (place_text p) };
+
+    fn fmt<W: fmt::Write>(&self, f: &mut fmt::Formatter<W>) -> fmt::Result {
+        match self {
+            Place::Word(at) => write!(f, "word {at}"),
+            Place::Byte(at) => write!(f, "byte {at}"),
+            Place::Row(at) => write!(f, "row {at}"),
+        }
+    }
+}
+
+impl fmt::Display for Refusal {
+    ghost output = { λ r. Some (refusal_text r) };
+
+    fn fmt<W: fmt::Write>(&self, f: &mut fmt::Formatter<W>) -> fmt::Result {
+        let place = self.place;
+        let number = self.number;
+        write!(f, "refused {number} {place}")
+    }
+}
+
+impl Error for Refusal {}
 
 pub fn at_word(number: u64, at: usize) -> Refusal
     ensures { reason_of result ≡ reason number (word at) }

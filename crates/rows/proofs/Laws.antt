@@ -1,6 +1,6 @@
 -- The walk's definition as the code takes it: it does not depend on the depth, and what is left of the children decides the whole.
 use mathlib.Core.Path.{◌≡◌, refl, ap, sym, ◌∙◌}
-use mathlib.Core.Bool.{Bool, true, false, ◌&&◌, ◌||◌}
+use mathlib.Core.Bool.{Bool, true, false, ◌&&◌}
 use mathlib.Core.Logic.{◌↔◌}
 use mathlib.Core.List.{List}
 use Prim.Native.Nat.{ℕ, zero, suc, ◌+◌, ◌-◌, ◌*◌, ◌^◌, ◌≤◌, ◌<◌}
@@ -8,7 +8,7 @@ use native.Mathlib.Numerals.{add-one}
 use native.Mathlib.Omega.{arith}
 use lib.ListN.{length}
 use lib.Dec.{leb, ltb, eqb}
-use borrow.Author.Tests.{lt-ltb, le-ltb, ltb-true, ltb-false, le-leb, lt-leb, eq-eqb, ne_eqb}
+use borrow.Author.Tests.{lt-ltb, le-ltb, ltb-true, le-leb, lt-leb, eq-eqb, ne_eqb}
 use Rattle.refusal.specs.Outcome.{Outcome, accepted, refused, bind, test, map, Reason, reason, byte, row}
 use Rattle.refusal.proofs.Outcome.{Post, holds, fails, post_bind, post_reflects, post_accepted, map-map, test-true, test-false}
 use Rattle.refusal.proofs.Tests.{and-true, NoneBelow, reflects_leb, reflects_ltb, reflects_eqb, reflects_and}
@@ -221,16 +221,11 @@ first-walked t s parent end left i {vs} h e = go (ltb i end) (walk_row t s end i
     go true (refused f) y l r w q = let z : ◌≡◌ {A = ℕ} 0 1 = cc in absurd (omega arith)
     go false x y l r w q = let z : ◌≡◌ {A = ℕ} 0 1 = cc in absurd (omega arith)
 
-or_false : (a b : Bool) → (a || b) ≡ false → (a ≡ false) × (b ≡ false)
-or_false true b h = let z : ◌≡◌ {A = ℕ} 0 1 = cc in absurd (omega arith)
-or_false false b h = (refl, h)
-
 -- a row that wants no children and has no rows behind its own
-pub childless : (t s : List ℕ) (i count next : ℕ) → i < next → (ltb 0 count || ltb (i + 1) next) ≡ false → accepted tt ≡ ends (children_of t s i next count (i + 1))
-childless t s i count next l h =
-    let q = or_false (ltb 0 count) (ltb (i + 1) next) h in
-    let e : count ≡ 0 = omega (arith, ltb-false 0 count q.0) in
-    rw e (sym (ap ends (children-none t s i next (i + 1) (omega (arith, ltb-false (i + 1) next q.1)))))
+pub childless : (t s : List ℕ) (i count next : ℕ) → i < next → count ≤ 0 → next ≤ i + 1 → accepted tt ≡ ends (children_of t s i next count (i + 1))
+childless t s i count next l none alone =
+    let e : count ≡ 0 = omega arith in
+    rw e (sym (ap ends (children-none t s i next (i + 1) (omega arith))))
 
 -- one child that fills all rows comes to what it comes to as a row
 pub only_child_lem : (t s : List ℕ) (parent end : ℕ) → 0 < end → (row_at t 0).span ≡ end → ends (children_of t s parent end 1 0) ≡ ends (walk_row t s end 0)

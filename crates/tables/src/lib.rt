@@ -32,10 +32,7 @@ fn cut_word(rows: &[u64], row: usize, i: usize) -> u64
     if rows.len() / ROW_WIDTH < row {
         return 0;
     }
-    if rows.len() - ROW_WIDTH * row <= i {
-        return 0;
-    }
-    rows[ROW_WIDTH * row + i]
+    rows.get(ROW_WIDTH * row + i).copied().unwrap_or(0)
 }
 
 // Word i of a row. Rows are compared by division, so that no product wraps, and the words of one row by the same test.
@@ -44,9 +41,10 @@ fn row_word(rows: &[u64], row: usize, i: usize) -> u64
     ensures { result ≡ get_or rows.now (row_width * row + i) 0 }
 {
     if row < rows.len() / ROW_WIDTH {
-        return rows[ROW_WIDTH * row + i];
+        rows[ROW_WIDTH * row + i]
+    } else {
+        cut_word(rows, row, i)
     }
-    cut_word(rows, row, i)
 }
 
 pub fn kind_at(rows: &[u64], row: usize) -> u64
@@ -98,10 +96,7 @@ pub fn put_row(rows: &mut [u64], at: usize, row: Row)
 pub fn word(words: &[u32], at: usize) -> usize
     ensures { (result ≡ get_or words.now at 0) × (result < 4294967296) }
 {
-    if at < words.len() {
-        return words[at] as usize;
-    }
-    0
+    words.get(at).map_or(0, |w| *w as usize)
 }
 
 // Which child word is a node's first.
@@ -109,9 +104,10 @@ fn first_word(words: &[u32], node: usize) -> usize
     ensures { (result ≡ first_word words.now node) × (result < 4294967296) }
 {
     if node < words.len() {
-        return word(words, 2 + 3 * node);
+        word(words, 2 + 3 * node)
+    } else {
+        0
     }
-    0
 }
 
 // Child i of a node: a node number.
@@ -121,7 +117,8 @@ pub fn child_at(words: &[u32], node: usize, i: usize) -> usize
     let nodes = word(words, 0);
     let first = first_word(words, node);
     if i < words.len() {
-        return word(words, 2 + 3 * nodes + (first + i));
+        word(words, 2 + 3 * nodes + (first + i))
+    } else {
+        0
     }
-    0
 }

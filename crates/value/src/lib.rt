@@ -1,7 +1,7 @@
 // The theory of values: definitions in specs/, laws in proofs/. As code only the kinds.
 #![tactic(auto)]
 
-ghost use Rattle.std.specs.Prelude.{◌≡◌};
+ghost use Rattle.std.specs.Prelude.{◌≡◌, ◌^◌, ltb};
 ghost use Rattle.value.specs.Kinds.{width, element_width, kind_of};
 ghost use Rattle.value.specs.Meaning.{number_named, elements_named, kind_named, kind_word};
 
@@ -39,10 +39,18 @@ impl Number {
         ensures { result ≡ width (number_named self) }
     {
         match self {
-            Number::Uint32 => 4,
-            Number::Uint64 => 8,
-            Number::Int32 => 4,
-            Number::Int64 => 8,
+            Number::Uint32 | Number::Int32 => 4,
+            Number::Uint64 | Number::Int64 => 8,
+        }
+    }
+
+    // Whether a word has no more than the number's bytes.
+    pub fn holds(self, word: u64) -> bool
+        ensures { result ≡ ltb word (256 ^ width (number_named self)) }
+    {
+        match self {
+            Number::Uint32 | Number::Int32 => word < 0x1_0000_0000,
+            Number::Uint64 | Number::Int64 => true,
         }
     }
 }

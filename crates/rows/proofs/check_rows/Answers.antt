@@ -1,9 +1,5 @@
 -- Each way out decides one of the tests; the root, as the only child, decides the rest.
-use mathlib.Core.Path.{◌≡◌, ap, sym, ◌∙◌}
-use mathlib.Core.Bool.{true}
-use Prim.Native.Nat.{◌*◌, ◌≤◌, ◌<◌}
-use native.Mathlib.Omega.{arith}
-use lib.ListN.{length}
+use Rattle.std.proofs.Common.{◌≡◌, ◌*◌, ◌<◌, ◌≤◌, length, true, ap, sym, ◌∙◌, arith}
 use Rattle.refusal.specs.Outcome.{refused}
 use Rattle.tables.specs.Row.{row_width, row_at}
 use Rattle.rows.specs.Walk.{count_holds}

@@ -1,24 +1,8 @@
-use mathlib.Core.Path.{sym, ◌∙◌}
-use mathlib.Core.List.{[], ◌∷◌}
-use Prim.Native.Nat.{◌*◌}
-use native.Mathlib.Omega.{arith}
-use lib.ListN.{length-set}
+use Rattle.std.proofs.Common.{[], ◌∷◌, ◌*◌, sym, ◌∙◌, arith}
 use Rattle.tables.specs.Row.{row_width}
 use Rattle.packed.proofs.Fitting.{put_within-fits, put_within-short}
 use Rattle.tables.proofs.Laws.{put_five}
 use Rattle.tables.proofs.put_row.Goals as goal
-
-pub bounds-rows-first-then-at-rows : goal.bounds-rows-first-then-at-rows
-bounds-rows-first-then-at-rows c = simp length-set (omega arith)
-
-pub bounds-rows-first-then-at-rows-2 : goal.bounds-rows-first-then-at-rows-2
-bounds-rows-first-then-at-rows-2 c = simp length-set (omega arith)
-
-pub bounds-rows-first-then-at-rows-3 : goal.bounds-rows-first-then-at-rows-3
-bounds-rows-first-then-at-rows-3 c = simp length-set (omega arith)
-
-pub bounds-rows-first-then-at-rows-4 : goal.bounds-rows-first-then-at-rows-4
-bounds-rows-first-then-at-rows-4 c = simp length-set (omega arith)
 
 pub returns-then-at-rows : goal.returns-then-at-rows
 returns-then-at-rows c =
