@@ -1,10 +1,10 @@
 -- The check is accepted exactly where the table passes, and refused exactly by its first refusal.
-use Rattle.std.proofs.Common.{◌≡◌, refl, ap, sym, subst, ◌∙◌, ◌↔◌, List, ℕ, zero, suc, ◌+◌, ◌-◌, ◌*◌, ◌≤◌, ◌<◌, add-zero, zero-add, arith, length}
+use Rattle.std.proofs.Common.{◌≡◌, true, refl, ap, sym, subst, ◌∙◌, ◌↔◌, List, ℕ, zero, suc, ◌+◌, ◌-◌, ◌*◌, ◌≤◌, ◌<◌, add-zero, zero-add, arith, length}
 use Rattle.std.proofs.Math.Decide.{ℕ_discrete}
 use Rattle.refusal.specs.Outcome.{Outcome, accepted, refused, bind, Reason, reason, word}
 use Rattle.refusal.proofs.Tests.{refuted}
 use Rattle.refusal.proofs.Outcome.{Post, holds, fails, post_bind, post_reflects, post_accepted, post_refused, test-true, test-false}
-use Rattle.value.specs.Kinds.{last_kind, kind_of}
+use Rattle.value.specs.Kinds.{Kind, last_kind, kind_of, other}
 use Rattle.tables.specs.Grammar.{node_count, kind_word, first_word, count_word}
 use Rattle.grammar.specs.Check.{is_named, start_holds, length_holds, children_hold, child_holds, check_layout, check_node, check_children, check_nodes, check_grammar}
 use Rattle.grammar.specs.Rule.{ChildrenRule, ChildRule, ChildOf, NodeRule, LaidOut, Passes, Reached, FirstRefusal, first1, first2, first3, first4, first5}
@@ -151,6 +151,13 @@ module _ (t : List ℕ) (p : Passes t) (k : ℕ) (b : k < node_count t) where
       let l = p.layout in
       let r = p.node k b in
       (omega (arith, l.size.1.1), omega (arith, l.start.1.1), r.kind, r.rule)
+
+  -- its kind word names a kind
+  pub node-named : kind_of (kind_word t k) ≡ other → ⊥
+  node-named e =
+      let h : is_named other ≡ true = subst (λ (x : Kind). is_named x ≡ true) e ((reflects_kind (kind_word t k)).0 node-inside.2) in
+      let z : ◌≡◌ {A = ℕ} 0 1 = cc in
+      omega arith
 
   pub child_inside : (i : ℕ) → i < count_word t k → (3 + 3 * k < length t) × (2 + 3 * node_count t + (first_word t k + i) < length t) × (node_count t ≤ 256) × (first_word t k ≤ 1024) × ChildRule t k (first_word t k + i)
   child_inside i h =

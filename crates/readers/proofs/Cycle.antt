@@ -24,8 +24,7 @@ use Rattle.rows.specs.Layout.{rows_of, rows_of_all}
 use Rattle.rows.proofs.LayoutLaws.{length_rows_of, length-rows_of_all}
 use Rattle.readers.specs.declared.State.{State as CodeState}
 use Rattle.std.specs.Prelude.{Ok, Err}
-use Rattle.readers.specs.declared.Stopped.{Stopped}
-use Rattle.readers.specs.Meaning.{CodeStep, stop_of, state_of, step_of}
+use Rattle.readers.specs.Meaning.{CodeStep, state_of, step_of}
 use Rattle.readers.specs.Reads.{Room, Reads, closed, take_below}
 use Rattle.readers.proofs.Laws.{reads_next}
 

@@ -9,7 +9,6 @@ use native.Mathlib.Omega.{arith}
 use lib.ListN.{length}
 use lib.Dec.{ltb}
 use borrow.Author.Tests.{ltb-true}
-use Rattle.refusal.specs.declared.Refusal.{Refusal}
 use Rattle.refusal.specs.Outcome.{Outcome, accepted, refused, bind, map}
 use Rattle.refusal.proofs.Meaning.{matched}
 use Rattle.refusal.proofs.Outcome.{bind_inverse, map-accepted, test-true, test_passed}
@@ -29,7 +28,7 @@ use Rattle.admission.specs.Admission.{in_force}
 use Rattle.readers.specs.declared.State.{State as CodeState}
 use Rattle.std.specs.Prelude.{Ok, Err}
 use Rattle.readers.specs.declared.Stopped.{Stopped}
-use Rattle.readers.specs.Meaning.{CodeStep, stop_of, step_of, StepKeeps}
+use Rattle.readers.specs.Meaning.{CodeStep, step_of, StepKeeps}
 use Rattle.readers.specs.Root.{capacity_within, read_root, FillsRows, Admitted, behind_first_field, first_field_of, ReadsFirstField}
 use Rattle.readers.proofs.Cycle.{give-accepted}
 use Rattle.readers.proofs.Root.{within_none, root_admitted, root-accepted}

@@ -11,8 +11,6 @@ use lib.Dec.{leb}
 use borrow.Author.Tests.{lt-ltb, le-ltb, le-leb, leb-true}
 use Rattle.refusal.specs.Outcome.{Outcome, accepted, refused, test, map, Reason, reason, byte}
 use Rattle.refusal.proofs.Outcome.{map-accepted, test-true, test-false}
-use Rattle.refusal.specs.Meaning.{reason_of}
-use Rattle.refusal.specs.declared.Refusal.{Refusal}
 use Rattle.packed.specs.Packed.{present, unpack_at, unpack_little_endian, unpack_little_endian_seq}
 use Rattle.packed.proofs.Calls.{present-fits}
 use Rattle.value.specs.Step.{Step, yield, next}

@@ -6,8 +6,6 @@ use Prim.Native.Nat.{ℕ, suc, ◌+◌, ◌-◌, ◌*◌, ◌≤◌, ◌<◌}
 use native.Mathlib.Omega.{arith}
 use lib.ListN.{length}
 use Rattle.refusal.specs.Outcome.{accepted, refused, map}
-use Rattle.refusal.specs.Meaning.{reason_of}
-use Rattle.refusal.specs.declared.Refusal.{Refusal}
 use Rattle.value.specs.Tree.{G, Gs, Val, Vals, vnil, ValidGrammar, row_counts}
 use Rattle.value.specs.Step.{Step, yield, both, elements}
 use Rattle.value.specs.Reading.{State, Reading, read_val, read_body, read_fields}

@@ -1,6 +1,5 @@
 -- An answer is determined by what it means, so a contract through the meaning fixes the answer.
 use Rattle.std.proofs.Common.{◌≡◌, ℕ, Ok, Err, arith, ap, sym, ◌∙◌}
-use Rattle.refusal.specs.Meaning.{reason_of}
 use Rattle.refusal.proofs.Meaning.{reason_injective}
 use Rattle.value.specs.Reading.{State, Stop}
 use Rattle.readers.specs.declared.State.{State as CodeState}

@@ -1,12 +1,12 @@
-use Rattle.std.proofs.Common.{◌≡◌, ℕ, ◌+◌, ◌-◌, ◌*◌, ◌/◌, ◌≤◌, ◌<◌, length, take, drop, arith, refl, ap, sym, ◌∙◌}
+use Rattle.std.proofs.Common.{◌≡◌, ℕ, ◌+◌, ◌-◌, ◌*◌, ◌/◌, ◌≤◌, length, take, drop, arith, refl, ap, sym, ◌∙◌}
 use Rattle.std.proofs.lemmas.Result.{err_from_is_err_and}
 use Rattle.packed.specs.Packed.{unpack_little_endian_seq}
 use Rattle.packed.proofs.Laws.{length_unpack_seq}
-use Rattle.value.specs.Kinds.{Elements, element_width}
+use Rattle.value.specs.Kinds.{element_width}
 use Rattle.value.specs.Meaning.{elements_named}
 use Rattle.value.specs.Tree.{VNumberArray}
 use Rattle.value.specs.Step.{yield, give}
-use Rattle.value.specs.Reading.{State, move, take_numbers}
+use Rattle.value.specs.Reading.{move, take_numbers}
 use Rattle.value.proofs.KindLaws.{element_width_positive}
 use Rattle.value.proofs.Laws.{count_fits}
 use Rattle.tables.specs.Row.{laid}

@@ -18,8 +18,9 @@ returns c =
     let a = c.args in
     record {
       answers = λ t h. ap accepted (first-none a.grammar.now a.bytes.now a.capacity c.requires.0 t h (λ k.
-        elim c.else-grammar-word.branch [
-          else-grammar-word-via-then-grammar-word+else-grammar-ne0 w ↦ w.if-grammar-ne0.false
-        | else-grammar-word-via-else-grammar-word w ↦ absurd (w.if-grammar-word.false (k ∙ sym c.word.ensures)) ]));
+          elim c.else-grammar-word.branch [
+            | else-grammar-word-via-then-grammar-word+else-grammar-ne0 w ↦ w.if-grammar-ne0.false
+            | else-grammar-word-via-else-grammar-word w ↦ absurd (w.if-grammar-word.false (k ∙ sym c.word.ensures))
+          ]));
       keeps = refl;
     }

@@ -1,4 +1,4 @@
-use Rattle.std.proofs.Common.{ap, sym, ◌∙◌}
+use Rattle.std.proofs.Common.{ap, ◌∙◌}
 use Rattle.value.specs.Meaning.{number_named}
 use Rattle.value.specs.Tree.{VNumber, SizeOfV, row_count}
 use Rattle.value.specs.Step.{give}
