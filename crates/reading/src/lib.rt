@@ -21,7 +21,7 @@ pub struct Parsed {
 }
 
 // What the readers answered, without the state of a refusal.
-fn parsed(read: Result<State, Stopped>) -> Result<Parsed, Refusal>
+fn answer(read: Result<State, Stopped>) -> Result<Parsed, Refusal>
     ensures { parsed_of result ≡ parsed_step read }
 {
     let end = read?;
@@ -32,10 +32,15 @@ fn parsed(read: Result<State, Stopped>) -> Result<Parsed, Refusal>
 }
 
 // GM's `ParseVal` as a check, which answers as `parse_val` does with as many rows as the capacity says; one above 4,096 counts as 4,096.
-pub fn check_val_with(grammar: &[u32], record: &[u8], index: usize, capacity: usize) -> Result<Parsed, Refusal>
+pub fn check_val_with(
+    grammar: &[u32],
+    record: &[u8],
+    index: usize,
+    capacity: usize,
+) -> Result<Parsed, Refusal>
     ensures { parsed_of result ≡ map counts_of (parse_val_of grammar.now «record».now index (in_force capacity)) }
 {
-    parsed(readers::read(grammar, record, index, capacity, false, &mut []))
+    answer(readers::read(grammar, record, index, capacity, false, &mut []))
 }
 
 // A try: GM's `Demarshall` as a check, with the values begun where it ends, also where it is refused. A capacity above 4,096 counts as 4,096.
@@ -49,7 +54,7 @@ pub fn try_whole(grammar: &[u32], record: &[u8], capacity: usize) -> Result<Stat
 pub fn check_whole_with(grammar: &[u32], record: &[u8], capacity: usize) -> Result<Parsed, Refusal>
     ensures { parsed_of result ≡ map counts_of (demarshall_of grammar.now «record».now (in_force capacity)) }
 {
-    parsed(try_whole(grammar, record, capacity))
+    answer(try_whole(grammar, record, capacity))
 }
 
 // GM's `ParseVal` as a check for which no capacity is named: it has 1,024 rows.
@@ -67,11 +72,16 @@ pub fn check_whole(grammar: &[u32], record: &[u8]) -> Result<Parsed, Refusal>
 }
 
 // GM's `ParseVal`.
-pub fn parse_val(grammar: &[u32], record: &[u8], index: usize, rows: &mut [u64]) -> Result<Parsed, Refusal>
+pub fn parse_val(
+    grammar: &[u32],
+    record: &[u8],
+    index: usize,
+    rows: &mut [u64],
+) -> Result<Parsed, Refusal>
     ensures { Parses (parse_val_of grammar.now «record».now index (capacity_of (length rows.old))) index result rows.old rows.new }
 {
     let capacity = admission::capacity_of(rows.len());
-    parsed(readers::read(grammar, record, index, capacity, false, rows))
+    answer(readers::read(grammar, record, index, capacity, false, rows))
 }
 
 // GM's `Demarshall`: the whole reading.
@@ -79,5 +89,5 @@ pub fn demarshall(grammar: &[u32], record: &[u8], rows: &mut [u64]) -> Result<Pa
     ensures { Parses (demarshall_of grammar.now «record».now (capacity_of (length rows.old))) 0 result rows.old rows.new }
 {
     let capacity = admission::capacity_of(rows.len());
-    parsed(readers::read(grammar, record, 0, capacity, true, rows))
+    answer(readers::read(grammar, record, 0, capacity, true, rows))
 }

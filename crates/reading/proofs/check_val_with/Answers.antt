@@ -6,4 +6,4 @@ use Rattle.reading.proofs.check_val_with.Goals as goal
 pub returns : goal.returns
 returns c =
     let a = c.args in
-    counts-read a.grammar.now a.«record».now a.index false (parse_val_of a.grammar.now a.«record».now a.index) (root-parse a.grammar.now a.«record».now a.index) c.parsed.result c.parsed.ensures a.capacity c.read.ensures
+    counts-read a.grammar.now a.«record».now a.index false (parse_val_of a.grammar.now a.«record».now a.index) (root-parse a.grammar.now a.«record».now a.index) c.answer.result c.answer.ensures a.capacity c.read.ensures

@@ -13,4 +13,4 @@ returns c =
     let g = a.grammar.now in
     let d = a.«record».now in
     let n = in_force a.capacity in
-    c.parsed.ensures ∙ step_counts c.try_whole.result (read_root g d 0 n true) c.try_whole.ensures.0 ∙ ap (map counts_of) (root-whole g d n)
+    c.answer.ensures ∙ step_counts c.try_whole.result (read_root g d 0 n true) c.try_whole.ensures.0 ∙ ap (map counts_of) (root-whole g d n)
