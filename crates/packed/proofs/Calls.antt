@@ -1,28 +1,12 @@
 -- When bytes are present and when they have room, as the calls decide it.
-use mathlib.Core.Path.{◌≡◌, refl, sym, ap, ◌∙◌}
-use mathlib.Core.Bool.{true}
-use Prim.Native.Nat.{ℕ, ◌+◌, ◌-◌, ◌*◌, ◌/◌, ◌≤◌, ◌<◌}
-use native.Mathlib.Nat.{le-div_iff_mul-le, mul_comm, le_refl}
-use native.Mathlib.Omega.{arith}
-use lib.ListN.{length, take, drop}
-use lib.Seq.{take_all}
-use lib.Dec.{leb}
-use borrow.Author.Tests.{le-leb, lt-leb, leb-true}
-use mathlib.Core.List.{List, ◌++◌}
+use Rattle.std.proofs.Common.{◌≡◌, refl, sym, ap, ◌∙◌, true, ℕ, ◌+◌, ◌*◌, ◌≤◌, ◌<◌, le_refl, arith, length, take, drop, take_all, leb, le-leb, leb-true, List, ◌++◌}
+use borrow.Author.Tests.{lt-leb}
 use Rattle.refusal.specs.Outcome.{Outcome, accepted, refused, test, map, contents, Fills, Reason, reason, byte}
-use Rattle.refusal.proofs.Tests.{leb_iff}
 use Rattle.refusal.proofs.Outcome.{test-true, test-false, test_passed, fills_refused, fills_accepted}
-use Rattle.packed.specs.Packed.{present, room, unpack_little_endian, unpack_little_endian_seq, pack_little_endian_seq, unpack_at, unpack_seq_at, put, put_at}
+use Rattle.packed.specs.Packed.{present, room, unpack_little_endian_seq, pack_little_endian_seq, unpack_seq_at, put, put_at}
 use Rattle.packed.specs.Steps.{UnpackedTo, PackedTo}
 use Rattle.packed.proofs.Laws.{length_unpack_seq, unpack_seq_take, length_pack_seq}
 use Rattle.packed.proofs.Put.{length-put, put_whole, put_more}
-
--- a count compared with the numbers that have room says what the product would
-pub count_compared : (len index count width : ℕ) → 0 < width → index ≤ len → leb count ((len - index) / width) ≡ leb (index + width * count) len
-count_compared len index count width pos h =
-    leb_iff count ((len - index) / width) (index + width * count) len
-    (λ (l : count ≤ (len - index) / width). let p : count * width ≤ len - index = (le-div_iff_mul-le pos).0 l in omega (arith, mul_comm count width))
-    (λ (l : index + width * count ≤ len). (le-div_iff_mul-le pos).1 (omega (arith, mul_comm count width)))
 
 module _ (len index size : ℕ) where
   pub present-index : len < index → present len index size ≡ refused (reason 7 (byte index))
@@ -55,31 +39,17 @@ module _ (len index size : ℕ) where
   unfolding room
   room_fits h = leb-true (index + size) len (test_passed (leb (index + size) len) _ _ tt (sym h))
 
--- unpacking what is present, or refused
-module _ (w : ℕ) (s : List ℕ) (index : ℕ) where
-  bytes : (size : ℕ) → Outcome Reason (Unit {0}) → Outcome Reason (List ℕ)
-  bytes size o = map (λ _. take size (drop index s)) o
+-- a loop has unpacked all i numbers, which are there
+module _ (w : ℕ) (s : List ℕ) (index : ℕ) (numbers : List ℕ) where
+  bytes : Outcome Reason (Unit {0}) → Outcome Reason (List ℕ)
+  bytes o = map (λ _. take (w * length numbers) (drop index s)) o
 
-  pub unpack_refused : {x : Reason} → refused x ≡ present (length s) index w → refused x ≡ unpack_at w s index
+  pub unpack_seq_accepted : {exit : List ℕ} (i : ℕ) → i ≡ length numbers → UnpackedTo w s index numbers i exit → accepted tt ≡ present (length s) index (w * length numbers) → Fills (unpack_seq_at w s index (length numbers)) (accepted tt) numbers exit
   unfolding bytes
-  unpack_refused h = ap (λ (o : Outcome Reason (Unit {0})). map (unpack_little_endian w) (bytes w o)) h
-
-  module _ (numbers : List ℕ) where
-    pub unpack_seq_refused : {x : Reason} → refused x ≡ present (length s) index (w * length numbers) → Fills (unpack_seq_at w s index (length numbers)) (refused x) numbers numbers
-    unfolding bytes
-    unpack_seq_refused h = fills_refused (λ bs. unpack_little_endian_seq w bs (length numbers)) numbers (ap (bytes (w * length numbers)) h)
-
-    -- a loop has unpacked all i numbers
-    pub unpack_seq_accepted : {exit : List ℕ} (i : ℕ) → i ≡ length numbers → UnpackedTo w s index numbers i exit → accepted tt ≡ present (length s) index (w * length numbers) → Fills (unpack_seq_at w s index (length numbers)) (accepted tt) numbers exit
-    unfolding bytes
-    unpack_seq_accepted i e f h =
-        let l : length (unpack_little_endian_seq w (drop index s) i) ≡ length numbers = length_unpack_seq w (drop index s) i ∙ e in
-        fills_accepted (λ bs. unpack_little_endian_seq w bs (length numbers)) numbers (ap (bytes (w * length numbers)) h)
-        (f ∙ put_whole numbers (unpack_little_endian_seq w (drop index s) i) l ∙ ap (unpack_little_endian_seq w (drop index s)) e ∙ sym (unpack_seq_take w (length numbers) (w * length numbers) (drop index s) (le_refl (w * length numbers))))
-
--- the loop that packs a sequence: there is room, and the first i numbers are put
-abbrev pub Packing : ℕ → List ℕ → List ℕ → ℕ → ℕ → List ℕ → Type 0
-Packing w numbers entry index i out = (i ≤ length numbers) × (length out ≡ length entry) × (index + w * length numbers ≤ length entry) × PackedTo w numbers entry index i out
+  unpack_seq_accepted i e f h =
+      let l : length (unpack_little_endian_seq w (drop index s) i) ≡ length numbers = length_unpack_seq w (drop index s) i ∙ e in
+      fills_accepted (λ bs. unpack_little_endian_seq w bs (length numbers)) numbers (ap bytes h)
+      (f ∙ put_whole numbers (unpack_little_endian_seq w (drop index s) i) l ∙ ap (unpack_little_endian_seq w (drop index s)) e ∙ sym (unpack_seq_take w (length numbers) (w * length numbers) (drop index s) (le_refl (w * length numbers))))
 
 -- putting bytes that have room, or refused
 module _ (out : List ℕ) (index : ℕ) (bs : List ℕ) (size : ℕ) (l : length bs ≡ size) where
@@ -94,11 +64,8 @@ module _ (out : List ℕ) (index : ℕ) (bs : List ℕ) (size : ℕ) (l : length
   fills_put h f =
       f.buffer ∙ ap (λ (x : Outcome Reason (Unit {0})). contents (map (λ _. put out index bs) x) out) (sym (room-all (length out) index (length bs) (omega arith)))
 
--- the same of a sequence, whose loop has packed all i numbers
+-- a loop has packed all i numbers, which have room
 module _ (w : ℕ) (numbers out : List ℕ) (index : ℕ) where
-  pub pack_seq_refused : {x : Reason} → refused x ≡ room (length out) index (w * length numbers) → Fills (put_at out index (pack_little_endian_seq w numbers)) (refused x) out out
-  pack_seq_refused h = put_refused out index (pack_little_endian_seq w numbers) (w * length numbers) (length_pack_seq w numbers) h
-
   pub pack_seq_accepted : {exit : List ℕ} (i : ℕ) → i ≡ length numbers → PackedTo w numbers out index i exit → accepted tt ≡ room (length out) index (w * length numbers) → Fills (put_at out index (pack_little_endian_seq w numbers)) (accepted tt) out exit
   pack_seq_accepted i e f h =
       put-accepted out index (pack_little_endian_seq w numbers) (w * length numbers) (length_pack_seq w numbers) h

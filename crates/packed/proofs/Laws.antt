@@ -1,14 +1,7 @@
 -- The laws of a number's bytes, once for every width.
-use mathlib.Core.Path.{◌≡◌, refl, ap, sym, ◌∙◌}
-use mathlib.Core.Logic.{◌↔◌}
-use mathlib.Core.List.{List, [], ◌∷◌, ◌++◌, append_assoc, append-nil}
-use Prim.Native.Nat.{ℕ, zero, suc, ◌+◌, ◌*◌, ◌/◌, ◌%◌, ◌^◌, ◌<◌, ◌≤◌, zero-le, suc-le-suc}
-use native.Mathlib.Nat.{pow-suc, pow-succ', pow-le-pow_right, mul-le-mul_right, mul_left_comm, div-div-eq-div-mul, div-one, lt_of_lt_of_le, lt_of_le_of_lt, le_of_suc-le-suc, mul-suc, mul-zero, add_comm, mod-eq_of_lt, le_refl}
-use native.Mathlib.Omega.{arith}
-use lib.ListN.{length, get_or, take, drop, length-append, length-drop}
-use lib.Dec.{lit<}
-use lib.Arith.{mod-mul}
-use lib.Seq.{get_or-drop, get_or-take, take_all, drop-drop, take-take, take-add, take_at, drop_at}
+use Rattle.std.proofs.Common.{◌≡◌, refl, ap, sym, ◌∙◌, ◌↔◌, List, [], ◌∷◌, ◌++◌, append_assoc, append-nil, ℕ, zero, suc, ◌+◌, ◌*◌, ◌/◌, ◌%◌, ◌^◌, ◌<◌, ◌≤◌, zero-le, suc-le-suc, pow-suc, mul-le-mul_right, mul_left_comm, div-one, lt_of_lt_of_le, lt_of_le_of_lt, le_of_suc-le-suc, mul-suc, mul-zero, add_comm, mod-eq_of_lt, le_refl, arith, length, get_or, take, drop, length-append, length-drop, lit<, get_or-drop, get_or-take, take_all, drop-drop, take-take, take-add, take_at, drop_at}
+use Rattle.std.proofs.Math.Arith.{mod-mul}
+use Rattle.std.proofs.Math.Nat.{pow-succ', pow-le-pow_right, div-div-eq-div-mul}
 use Rattle.packed.specs.Packed.{Bytes, Below, unpack_little_endian, unpack_little_endian_seq, pack_little_endian, pack_little_endian_seq}
 
 pub bytes_drop : (n : ℕ) (bs : List ℕ) → Bytes bs → Bytes (drop n bs)

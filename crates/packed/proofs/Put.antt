@@ -1,12 +1,6 @@
 -- Bytes put into an output at an index, as a loop puts them.
-use mathlib.Core.Path.{◌≡◌, sym, ap, ◌∙◌}
-use mathlib.Core.List.{List, [], ◌∷◌, ◌++◌, append_assoc, append-nil}
-use Prim.Native.Nat.{ℕ, suc, ◌+◌, ◌-◌, ◌*◌, ◌≤◌, ◌<◌}
-use native.Mathlib.Nat.{add-zero, add_assoc, mul-suc, mul-le-mul_left}
-use native.Mathlib.Numerals.{add-one}
-use native.Mathlib.Omega.{arith}
-use lib.ListN.{length, get_or, set, take, drop, length-append, length-drop, take-append-drop, drop_of_length-le}
-use lib.Seq.{set_split, take-suc, take_at, drop_at, length-take-le, drop-drop}
+use Rattle.std.proofs.Common.{◌≡◌, sym, ap, ◌∙◌, List, [], ◌∷◌, ◌++◌, append_assoc, append-nil, ℕ, suc, ◌+◌, ◌-◌, ◌*◌, ◌≤◌, ◌<◌, add-zero, add_assoc, mul-suc, mul-le-mul_left, add-one, arith, length, get_or, set, take, drop, length-append, length-drop, take-append-drop, drop_of_length-le, take-suc, take_at, drop_at, length-take-le, drop-drop}
+use Rattle.std.proofs.Math.Seq.{set_split}
 use Rattle.packed.specs.Packed.{put, pack_little_endian, pack_little_endian_seq, unpack_little_endian_seq}
 use Rattle.packed.specs.Steps.{Summed, PutSoFar, UnpackedTo, PackedTo}
 use Rattle.packed.proofs.Laws.{length_pack, length_pack_seq, pack_seq_append, pack_seq_one, length_unpack_seq, unpack_seq_snoc}

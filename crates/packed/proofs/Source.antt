@@ -1,10 +1,5 @@
 -- PackedInts' own text: its equations hold of the definitions, and its methods' clauses of what the calls do.
-use mathlib.Core.Path.{◌≡◌, refl, ap, sym, ◌∙◌}
-use mathlib.Core.List.{List, [], ◌∷◌, ◌++◌, append_assoc, append-nil}
-use Prim.Native.Nat.{ℕ, suc, ◌+◌, ◌-◌, ◌*◌, ◌^◌, ◌<◌, ◌≤◌}
-use native.Mathlib.Omega.{arith}
-use lib.ListN.{length, get_or, take, drop, length-append}
-use lib.Seq.{get_or-take, get_or-drop, take_at, drop_at, length-take-le}
+use Rattle.std.proofs.Common.{◌≡◌, refl, ap, sym, ◌∙◌, List, [], ◌∷◌, ◌++◌, append_assoc, append-nil, ℕ, suc, ◌+◌, ◌-◌, ◌*◌, ◌^◌, ◌<◌, ◌≤◌, arith, length, get_or, take, drop, length-append, get_or-take, get_or-drop, take_at, drop_at, length-take-le}
 use Rattle.packed.specs.Packed.{Below, unpack_little_endian, unpack_little_endian_seq, pack_little_endian, pack_little_endian_seq, put}
 use Rattle.packed.proofs.Laws.{length_pack, unpack_packed, length_pack_seq, length_unpack_seq, get_d_unpack_seq, unpack_seq_pack_seq}
 

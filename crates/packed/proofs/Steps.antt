@@ -1,13 +1,5 @@
 -- Request 05, proved: the steps of packing and unpacking, once for every width.
-use mathlib.Core.Path.{◌≡◌, refl, sym, ap, subst, ◌∙◌}
-use mathlib.Core.Logic.{◌↔◌}
-use mathlib.Core.List.{List}
-use Prim.Native.Nat.{ℕ, ◌+◌, ◌*◌, ◌/◌, ◌%◌, ◌^◌, ◌≤◌, ◌<◌}
-use native.Mathlib.Nat.{le_refl, mod-eq_of_lt}
-use native.Mathlib.Numerals.{add-one}
-use native.Mathlib.Omega.{arith}
-use lib.ListN.{length, get_or, set, take, drop}
-use lib.Seq.{get_or-drop}
+use Rattle.std.proofs.Common.{◌≡◌, refl, sym, ap, subst, ◌∙◌, ◌↔◌, List, ℕ, ◌+◌, ◌*◌, ◌/◌, ◌%◌, ◌^◌, ◌≤◌, ◌<◌, le_refl, mod-eq_of_lt, add-one, arith, length, get_or, set, take, drop, get_or-drop}
 use Rattle.refusal.specs.Outcome.{Outcome, accepted, map, contents, Fills, Reason}
 use Rattle.packed.specs.Packed.{Bytes, unpack_little_endian, pack_little_endian, present, room, unpack_at, put, put_at}
 use Rattle.packed.specs.Steps.{Summed, PutSoFar, InOrder, StepsOfE}

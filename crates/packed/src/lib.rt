@@ -72,15 +72,10 @@ impl PackedInt for u64 {
 pub fn within(len: usize, index: usize, count: usize, width: usize) -> bool
     ensures { result ≡ leb (index + width * count) len }
 {
-    if len < index {
-        return false;
-    }
-    if width == 0 {
-        return true;
-    }
-    count <= (len - index) / width
+    index <= len && (width == 0 || count <= (len - index) / width)
 }
 
+#[tactic(auto, unfolding(crate::specs::Packed::present))]
 fn present(len: usize, index: usize, count: usize, width: usize) -> Result<(), Refusal>
     ensures { outcome_of result ≡ present_of len index (width * count) }
 {
@@ -94,6 +89,7 @@ fn present(len: usize, index: usize, count: usize, width: usize) -> Result<(), R
 }
 
 // Whether count numbers of width bytes have room from the index on. Every writer takes refusal 17 from here.
+#[tactic(auto, unfolding(crate::specs::Packed::room))]
 pub fn room(len: usize, index: usize, count: usize, width: usize) -> Result<(), Refusal>
     ensures { outcome_of result ≡ room_of len index (width * count) }
 {
@@ -108,7 +104,7 @@ fn add_byte(sum: u64, packed: &[u8], index: usize, i: usize, weight: u64) -> u64
     requires { (i < 8) × (index + i < length packed.now) × (weight ≡ 256 ^ i) × Summed packed.now index i sum }
     ensures { Summed packed.now index (i + 1) result }
 {
-    sum + packed[index + i] as u64 * weight
+    sum + u64::from(packed[index + i]) * weight
 }
 
 // The number in the width bytes from the index on, in the order of PackedInts' sum: byte 0, then byte 1 times 0x1_00, and so on.
@@ -119,7 +115,7 @@ fn unpack(packed: &[u8], index: usize, width: usize) -> u64
     let mut weight: u64 = 1;
     let mut sum = add_byte(0, packed, index, 0, weight);
     for i in 1..width {
-        weight = weight * 0x1_00;
+        weight *= 0x1_00;
         sum = add_byte(sum, packed, index, i, weight);
     }
     sum

@@ -1,8 +1,5 @@
 -- A `Refusal` and a `Result` are determined by what they mean, so a contract through the meaning fixes the answer.
-use mathlib.Core.Path.{◌≡◌, refl, ap, sym, ◌∙◌}
-use Prim.Native.Nat.{ℕ}
-use Rattle.std.specs.Prelude.{Result, Ok, Err}
-use native.Mathlib.Omega.{arith}
+use Rattle.std.proofs.Common.{◌≡◌, refl, ap, sym, ◌∙◌, ℕ, Result, Ok, Err, arith}
 use Rattle.refusal.specs.declared.Place.{Place}
 use Rattle.refusal.specs.declared.Place.TheVariants.{Word, Byte, Row}
 use Rattle.refusal.specs.declared.Refusal.{Refusal}

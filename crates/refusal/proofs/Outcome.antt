@@ -1,11 +1,5 @@
 -- The laws of outcomes: of `bind`, of `test`, of `map`, and of a postcondition along them.
-use mathlib.Core.Path.{◌≡◌, refl, ap, sym, ◌∙◌}
-use mathlib.Core.List.{List}
-use mathlib.Core.Logic.{◌↔◌}
-use mathlib.Core.Bool.{Bool, true, false, not}
-use Prim.Native.Nat.{ℕ}
-use native.Mathlib.Omega.{arith}
-use lib.Dec.{T}
+use Rattle.std.proofs.Common.{◌≡◌, refl, ap, sym, ◌∙◌, List, ◌↔◌, Bool, true, false, not, ℕ, arith, T}
 use Rattle.refusal.proofs.Tests.{refutes}
 use Rattle.refusal.specs.Outcome.{Outcome, accepted, refused, bind, test, map, contents, Fills, Reason}
 

@@ -1,6 +1,5 @@
-use Rattle.std.proofs.Common.{◌+◌, ◌*◌, length, arith, sym, map as map_list}
+use Rattle.std.proofs.Common.{◌+◌, ◌*◌, length, arith, sym, map as map_list, length-set}
 use Rattle.std.proofs.lemmas.List.{length-map, map-set}
-use Rattle.std.proofs.Math.ListN.{length-set}
 use Rattle.packed.specs.Packed.{unpack_little_endian_seq}
 use Rattle.packed.specs.Steps.{Summed}
 use Rattle.packed.proofs.Steps.{summed-fits}

@@ -1,4 +1,4 @@
-use mathlib.Core.Path.{sym}
+use Rattle.std.proofs.Common.{sym}
 use Rattle.refusal.specs.Outcome.{accepted}
 use Rattle.refusal.specs.Meaning.{reason_of}
 use Rattle.refusal.proofs.Outcome.{test-true, test-false}
