@@ -1,10 +1,10 @@
-use native.Mathlib.Omega.{arith}
+use Rattle.std.proofs.Common.{arith}
 use Rattle.packed.proofs.Laws.{pow_256}
 use Rattle.packed.proofs.Steps.{in_order}
 use Rattle.packing.proofs.put_byte.Goals as goal
 
 pub nonzero_div-out : goal.nonzero_div-out
-nonzero_div-out c = rw c.requires.1 (omega (arith, pow_256 c.args.i))
+nonzero_div-out c = omega (arith, pow_256 c.args.i)
 
 pub returns : goal.returns
 returns c =
