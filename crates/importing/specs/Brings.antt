@@ -1,9 +1,9 @@
 -- The contracts of the inner readers: an import of the definition done by the code, the rows it lays, the bytes it puts into the store, and
 -- the bytes that a record of it has.
-use Rattle.std.specs.Prelude.{◌≡◌, List, [], ◌∷◌, ℕ, zero, suc, ◌+◌, ◌-◌, ◌*◌, ◌^◌, ◌≤◌, ◌<◌, length, get_or, ltb}
+use Rattle.std.specs.Prelude.{◌≡◌, Ok, Err, List, [], ◌∷◌, ℕ, zero, suc, ◌+◌, ◌-◌, ◌*◌, ◌^◌, ◌≤◌, ◌<◌, length, get_or, ltb}
 use Rattle.refusal.specs.Outcome.{accepted, map, test}
 use Rattle.packed.specs.Packed.{Bytes, Below, put_within, Lent}
-use Rattle.value.specs.Kinds.{last_kind}
+use Rattle.value.specs.Kinds.{Kind, kind_of}
 use Rattle.value.specs.Tree.{Gs, gnil, gcons}
 use Rattle.value.specs.Step.{Step, yield, next}
 use Rattle.tables.specs.Grammar.{node_count, kind_word, first_word}
@@ -13,9 +13,7 @@ use Rattle.grammar.specs.Tree.{tree_of}
 use Rattle.xdr.specs.Import.{Filling, Importing, refusal, take_number}
 use Rattle.importing.specs.declared.Filling.{Filling as CodeFilling}
 use Rattle.importing.specs.declared.Lent.{Lent as CodeLent}
-use Rattle.importing.specs.declared.Step.{Step as CodeStep}
-use Rattle.importing.specs.declared.Step.TheVariants as S
-use Rattle.importing.specs.Meaning.{step_of, StepSize}
+use Rattle.importing.specs.Meaning.{CodeStep, step_of, StepSize}
 
 -- the largest size of what is imported: a record's counts and tags have 4 bytes more than XDR's, at most one in each of 4,096 rows
 abbrev pub most_size : ℕ
@@ -49,13 +47,13 @@ take_below d limit number s = next (take_number d 4 s) (λ n t. test (ltb n limi
 
 -- what a parent's row holds once its children are imported: kind, span, word 2, word 3, and the size from its start on
 abbrev pub closed : ℕ → ℕ → ℕ → ℕ → CodeStep → List ℕ → List ℕ
-closed row kind word2 start (S.Next u) rows = laid rows row (kind ∷ (u.begun - row) ∷ word2 ∷ 0 ∷ (u.size - start) ∷ [])
-closed row kind word2 start (S.Refused r) rows = rows
+closed row kind word2 start (Ok u) rows = laid rows row (kind ∷ (u.begun - row) ∷ word2 ∷ 0 ∷ (u.size - start) ∷ [])
+closed row kind word2 start (Err r) rows = rows
 
 -- the rows asked for so far are at least this one, and the size is at least that at its start
 abbrev pub Counted : ℕ → ℕ → CodeStep → Type 0
-Counted row start (S.Next u) = (row < u.begun) × (start ≤ u.size)
-Counted row start (S.Refused r) = Unit {0}
+Counted row start (Ok u) = (row < u.begun) × (start ≤ u.size)
+Counted row start (Err r) = Unit {0}
 
 -- the word of a grammar table where the child words of a node start
 abbrev pub child_place : List ℕ → ℕ → ℕ
@@ -87,20 +85,13 @@ pub record Node (t : List ℕ) (k : ℕ) : Type 0 where
   pub table : Table t
   pub below : k < node_count t
 
--- node k is of kind w, its value has claimed row `row`, and s is the state behind, its size still bounded by the rows before
-pub record RowClaimed (g d rows store : List ℕ) (k w row : ℕ) (lent : CodeLent) (s : CodeFilling) : Type 0 where
+-- node k is of a kind, its value has claimed row `row`, and s is the state behind, its size still bounded by the rows before
+pub record RowClaimed (g d rows store : List ℕ) (k : ℕ) (named : Kind) (row : ℕ) (lent : CodeLent) (s : CodeFilling) : Type 0 where
   pub node : Node g k
-  pub kind : kind_word g k ≡ w
+  pub kind : kind_of (kind_word g k) ≡ named
   pub ready : Ready d rows store lent s
   pub claimed : s.begun ≡ row + 1
   pub sized : s.size ≤ s.at + 4 * row
-
--- a kind word of the papers that is neither an array's, a tuple's nor a case's
-pub record Leaf (w : ℕ) : Type 0 where
-  pub no_array : w ≡ 3 → ⊥
-  pub no_tuple : w ≡ 4 → ⊥
-  pub no_case : w ≡ 8 → ⊥
-  pub known : w ≤ last_kind
 
 -- what the import of the root asks: 1 to 6 not given, rows lent for the capacity or none, and a store of all its room or none
 pub record Admitted (g d rows store : List ℕ) (lent : CodeLent) : Type 0 where

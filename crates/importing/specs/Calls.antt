@@ -1,5 +1,5 @@
 -- What the public call answers, over a grammar table, the bytes of a record in XDR, a capacity and the length of a lent store.
-use Rattle.std.specs.Prelude.{◌≡◌, List, ℕ, length, leb}
+use Rattle.std.specs.Prelude.{◌≡◌, Result, List, ℕ, length, leb}
 use Rattle.refusal.specs.Outcome.{Outcome, accepted, bind, test, map, contents, Reason, reason, byte}
 use Rattle.packed.specs.Packed.{put}
 use Rattle.value.specs.Tree.{Val}
@@ -8,6 +8,7 @@ use Rattle.grammar.specs.Check.{check_grammar}
 use Rattle.grammar.specs.Tree.{tree_of}
 use Rattle.xdr.specs.Xdr.{store_of, rows_in}
 use Rattle.xdr.specs.Import.{Filling, import_whole}
+use Rattle.refusal.specs.declared.Refusal.{Refusal}
 use Rattle.importing.specs.declared.Imported.{Imported}
 use Rattle.importing.specs.Meaning.{Counts, imported_of}
 
@@ -28,7 +29,7 @@ counts_of t = record { rows = t.state.begun; used = t.state.used }
 
 -- the call's answer; rows and store at exit are those at entry with the rows of the value from row 0 on and the bytes of its arrays from
 -- byte 0 on, and after a refusal those at entry
-pub record Imports (o : Outcome Reason (Step Filling Val)) (r : Imported) (rows₀ store₀ rows₁ store₁ : List ℕ) : Type 0 where
+pub record Imports (o : Outcome Reason (Step Filling Val)) (r : Result Imported Refusal) (rows₀ store₀ rows₁ store₁ : List ℕ) : Type 0 where
   pub answers : imported_of r ≡ map counts_of o
   pub rows : rows₁ ≡ contents (map (λ t. put rows₀ 0 (rows_in t.value 0)) o) rows₀
   pub store : store₁ ≡ contents (map (λ t. put store₀ 0 (store_of t.value)) o) store₀
