@@ -20,7 +20,6 @@ use Rattle.packed.proofs.Fitting.{put_within-nothing, put_within-behind, put_wit
 use Rattle.value.specs.Kinds.{Kind, kind_of, last_kind, array, tuple, union}
 use Rattle.value.specs.Tree.{G, Gs, GArray, GTuple, GTaggedUnion, gnil, gcons, Val, Vals, VArray, VTuple, VCase, vnil, vcons, seq_g, seq_v, case_at, ValidGrammar, ValidGrammars, SizeOfV, SeqSum, row_count, row_counts}
 use Rattle.value.specs.Step.{Step, yield, next, give, both, elements}
-use Rattle.value.proofs.KindLaws.{other-kinds, is_parent, not-parent}
 use Rattle.tables.specs.Grammar.{node_count, kind_word, first_word, count_word, child_word}
 use Rattle.tables.specs.Row.{row_width, laid}
 use Rattle.grammar.specs.Rule.{CountRule}
@@ -35,10 +34,9 @@ use Rattle.xdr.proofs.Rows.{length-rows_in, length-rows_in_all}
 use Rattle.xdr.proofs.Import.{import_takes, fields_takes}
 use Rattle.importing.specs.declared.Filling.{Filling as CodeFilling}
 use Rattle.importing.specs.declared.Lent.{Lent as CodeLent}
-use Rattle.importing.specs.declared.Step.{Step as CodeStep}
-use Rattle.importing.specs.declared.Step.TheVariants as S
-use Rattle.importing.specs.Meaning.{filling_of, step_of, StepSize}
-use Rattle.importing.specs.Brings.{Ready, Brings, take_below, closed, Counted, child_place, node_at, trees_at, Table, Children, Node, RowClaimed, Leaf}
+use Rattle.std.specs.Prelude.{Ok, Err}
+use Rattle.importing.specs.Meaning.{CodeStep, filling_of, step_of, StepSize}
+use Rattle.importing.specs.Brings.{Ready, Brings, take_below, closed, Counted, child_place, node_at, trees_at, Table, Children, Node, RowClaimed}
 use Rattle.importing.proofs.Laws.{brings_refused, brings_next, take_moves, node-named}
 
 -- ---- buffers
@@ -57,13 +55,13 @@ lent-kept n l m e r = ⊎_elim (λ (q : l ≡ []). inl (none m (e ∙ ap length 
 -- ---- what a matched answer says
 
 module _ {A : Type 0} {rows_at : A → ℕ → List ℕ} {storeAt : A → List ℕ} {size_at : A → ℕ} {x : Importing A} {row used size : ℕ} {rows₀ store₀ rows₁ store₁ : List ℕ} {r : CodeStep} where
-  pub went_on : (u : CodeFilling) → r ≡ S.Next u → Brings rows_at storeAt size_at x row used size rows₀ store₀ r rows₁ store₁ → (a : A) × (x ≡ yield a (filling_of u)) × (rows₁ ≡ laid rows₀ row (rows_at a used)) × (store₁ ≡ put_within store₀ used (storeAt a)) × (u.size ≡ size + size_at a)
+  pub went_on : (u : CodeFilling) → r ≡ Ok u → Brings rows_at storeAt size_at x row used size rows₀ store₀ r rows₁ store₁ → (a : A) × (x ≡ yield a (filling_of u)) × (rows₁ ≡ laid rows₀ row (rows_at a used)) × (store₁ ≡ put_within store₀ used (storeAt a)) × (u.size ≡ size + size_at a)
   went_on u e b =
       let q : accepted (filling_of u) ≡ map (λ t. t.state) x = ap step_of (sym e) ∙ b.answers in
       let m = map-accepted (λ (t : Step Filling A). t.state) x (sym q) in
       (m.0.value, m.1 ∙ ap (λ (s : Filling). yield m.0.value s) (sym m.2), b.rows m.0 m.1, b.store m.0 m.1, subst (StepSize (size + size_at m.0.value)) e (b.size m.0 m.1))
 
-  pub stopped : (f : Refusal) → r ≡ S.Refused f → Brings rows_at storeAt size_at x row used size rows₀ store₀ r rows₁ store₁ → refused (reason_of f) ≡ x
+  pub stopped : (f : Refusal) → r ≡ Err f → Brings rows_at storeAt size_at x row used size rows₀ store₀ r rows₁ store₁ → refused (reason_of f) ≡ x
   stopped f e b = sym (go x (ap step_of (sym e) ∙ b.answers))
     where
       go : (y : Importing A) → refused (reason_of f) ≡ map (λ t. t.state) y → y ≡ refused (reason_of f)
@@ -93,7 +91,7 @@ map-give f (refused e) = refl
 
 -- ---- values one behind the other
 
-pub brings_none : (rows store : List ℕ) (u : CodeFilling) → Brings rows_in_all store_of_all SeqSum (yield vnil (filling_of u)) u.begun u.used u.size rows store (S.Next u) rows store
+pub brings_none : (rows store : List ℕ) (u : CodeFilling) → Brings rows_in_all store_of_all SeqSum (yield vnil (filling_of u)) u.begun u.used u.size rows store (Ok u) rows store
 unfolding rows_in store_of SizeOfV
 brings_none rows store u = brings_next u vnil refl (sym (put_within-nothing rows (row_width * u.begun))) (sym (put_within-nothing store u.used)) (sym (add-zero u.size))
 
@@ -130,7 +128,7 @@ module _ {x : Importing Val} {capacity len row used size : ℕ} {rows₀ store�
 
 module _ {A : Type 0} {rows_at : A → ℕ → List ℕ} {storeAt : A → List ℕ} {size_at : A → ℕ} {x : Importing A} {capacity row used size : ℕ} {rows₀ store₀ rows₁ store₁ : List ℕ} (f : A → Val) (kind word2 start : ℕ) (lr : Lent (row_width * capacity) rows₀) where
   pub brings_close : (c : CodeStep) → ((t : Step Filling A) → x ≡ accepted t → (rows_in (f t.value) used ≡ (kind ∷ (t.state.begun - row) ∷ word2 ∷ 0 ∷ SizeOfV (f t.value) ∷ []) ++ rows_at t.value used) × (store_of (f t.value) ≡ storeAt t.value) × (row + row_count (f t.value) ≤ capacity) × (start + SizeOfV (f t.value) ≡ size + size_at t.value)) → Brings rows_at storeAt size_at x (suc row) used size rows₀ store₀ c rows₁ store₁ → Brings rows_in store_of SizeOfV (give f x) row used start rows₀ store₀ c (closed row kind word2 start c rows₁) store₁
-  brings_close (S.Next u) own b =
+  brings_close (Ok u) own b =
       let w = went_on u refl b in
       let o = own (record { value = w.0; state = filling_of u }) w.1 in
       let ws = kind ∷ (u.begun - row) ∷ word2 ∷ 0 ∷ SizeOfV (f w.0) ∷ [] in
@@ -141,7 +139,7 @@ module _ {A : Type 0} {rows_at : A → ℕ → List ℕ} {storeAt : A → List �
       (ap (λ (i : ℕ). laid rows₁ row (kind ∷ (u.begun - row) ∷ word2 ∷ 0 ∷ i ∷ [])) z ∙ ap (λ (l : List ℕ). laid l row ws) w.2 ∙ put_within-before rows₀ (row_width * row) (row_width * suc row) ws (rows_at w.0 used) (omega arith) (lent_fewer (row_width * capacity) _ rows₀ (omega (arith, o.2)) lr) ∙ ap (laid rows₀ row) (sym o.0))
       (w.3 ∙ ap (put_within store₀ used) (sym o.1))
       (w.4 ∙ sym o.3)
-  brings_close (S.Refused g) own b = brings_refused g (ap (give f) (stopped g refl b))
+  brings_close (Err g) own b = brings_refused g (ap (give f) (stopped g refl b))
 
 -- ---- heads: a count or a tag below its limit, and what is imported behind it
 
@@ -268,12 +266,12 @@ module _ (t : List ℕ) where
 -- ---- nodes and their children
 
 module _ (t : List ℕ) (node : ℕ) (n : Node t node) where
-  node_tree_lem : (w : ℕ) (k : Kind) → kind_word t node ≡ w → kind_of w ≡ k → tree_of t node ≡ node_tree k (child_trees t (tree_of t) (first_word t node) (count_word t node))
-  node_tree_lem w k e f = tree_node t n.table.passes node n.below ∙ ap (λ (x : Kind). node_tree x (child_trees t (tree_of t) (first_word t node) (count_word t node))) (ap kind_of e ∙ f)
+  node_tree_lem : (k : Kind) → kind_of (kind_word t node) ≡ k → tree_of t node ≡ node_tree k (child_trees t (tree_of t) (first_word t node) (count_word t node))
+  node_tree_lem k e = tree_node t n.table.passes node n.below ∙ ap (λ (x : Kind). node_tree x (child_trees t (tree_of t) (first_word t node) (count_word t node))) e
 
-  -- the tree by the kind word
+  -- the tree by the kind
   pub kind_tree : tree_of t node ≡ node_tree (kind_of (kind_word t node)) (child_trees t (tree_of t) (first_word t node) (count_word t node))
-  kind_tree = node_tree_lem (kind_word t node) (kind_of (kind_word t node)) refl refl
+  kind_tree = node_tree_lem (kind_of (kind_word t node)) refl
 
   pub node-few : (node < 256) × (kind_word t node ≤ last_kind)
   node-few = let x = node-inside t n.table.passes node n.below in (x.1, x.2)
@@ -293,8 +291,8 @@ module _ (t : List ℕ) (node : ℕ) (n : Node t node) where
   child_below : (i : ℕ) → i < count_word t node → node_at t (child_place t node + i) < node_count t
   child_below i h = rw (child_named i) (child_inside t n.table.passes node n.below i h).4.1
 
-  array_count : kind_word t node ≡ 3 → count_word t node ≡ 1
-  array_count e = subst (λ (x : Kind). CountRule x (first_word t node) (count_word t node)) (ap kind_of e ∙ other-kinds.1) (node-inside t n.table.passes node n.below).3.0
+  array_count : kind_of (kind_word t node) ≡ array → count_word t node ≡ 1
+  array_count e = subst (λ (x : Kind). CountRule x (first_word t node) (count_word t node)) e (node-inside t n.table.passes node n.below).3.0
 
   -- one child, again and again or once
   children-of : (i count : ℕ) → i < count_word t node → Children t (child_place t node + i) 0 count
@@ -304,7 +302,7 @@ module _ (t : List ℕ) (node : ℕ) (n : Node t node) where
     short = let e : child_place t node + i + 0 * count ≡ child_place t node + i = omega arith in omega (arith, place_few);
   }
 
-  pub children-array : kind_word t node ≡ 3 → (count : ℕ) → Children t (child_place t node) 0 count
+  pub children-array : kind_of (kind_word t node) ≡ array → (count : ℕ) → Children t (child_place t node) 0 count
   children-array e count = rw add-zero at (children-of 0 count (omega (arith, array_count e)))
 
   pub children-tuple : (count : ℕ) → count ≡ count_word t node → Children t (child_place t node) 1 count
@@ -317,21 +315,21 @@ module _ (t : List ℕ) (node : ℕ) (n : Node t node) where
   pub children-case : (tag : ℕ) → tag < count_word t node → Children t (child_place t node + tag) 0 1
   children-case tag h = children-of tag 1 h
 
-  array_tree : kind_word t node ≡ 3 → tree_of t node ≡ GArray (tree_of t (node_at t (child_place t node)))
+  array_tree : kind_of (kind_word t node) ≡ array → tree_of t node ≡ GArray (tree_of t (node_at t (child_place t node)))
   unfolding node_tree child_trees
   array_tree e =
       let c : node_at t (child_place t node) ≡ child_word t (first_word t node) = rw (add-zero (child_place t node), add-zero (first_word t node)) at (child_named 0) in
-      node_tree_lem 3 array e other-kinds.1 ∙ rw (array_count e, c)
+      node_tree_lem array e ∙ rw (array_count e, c)
 
-  tuple_tree : kind_word t node ≡ 4 → tree_of t node ≡ GTuple (trees_at t (child_place t node) 1 (count_word t node))
+  tuple_tree : kind_of (kind_word t node) ≡ tuple → tree_of t node ≡ GTuple (trees_at t (child_place t node) 1 (count_word t node))
   unfolding node_tree
-  tuple_tree e = node_tree_lem 4 tuple e other-kinds.2 ∙ ap GTuple (sym (trees_fields t (count_word t node) (first_word t node)))
+  tuple_tree e = node_tree_lem tuple e ∙ ap GTuple (sym (trees_fields t (count_word t node) (first_word t node)))
 
-  case_tree : kind_word t node ≡ 8 → (gs : Gs) × (tree_of t node ≡ GTaggedUnion gs) × (length (seq_g gs) ≡ count_word t node) × ((c : ℕ) → c < count_word t node → case_at gs c ≡ tree_of t (node_at t (child_place t node + c)))
+  case_tree : kind_of (kind_word t node) ≡ union → (gs : Gs) × (tree_of t node ≡ GTaggedUnion gs) × (length (seq_g gs) ≡ count_word t node) × ((c : ℕ) → c < count_word t node → case_at gs c ≡ tree_of t (node_at t (child_place t node + c)))
   unfolding node_tree
   case_tree e = (
     child_trees t (tree_of t) (first_word t node) (count_word t node),
-    node_tree_lem 8 union e other-kinds.3,
+    node_tree_lem union e,
     trees_length t (tree_of t) (count_word t node) (first_word t node),
     λ c h. trees_at_lem t (tree_of t) (count_word t node) (first_word t node) c h ∙ ap (tree_of t) (sym (child_named c)),
   )
@@ -354,10 +352,9 @@ pub record Claimed (capacity : ℕ) (s t : CodeFilling) : Type 0 where
   pub free : s.begun < capacity
   pub claimed : claim capacity (filling_of s) ≡ accepted (filling_of t)
 
-pub claimed-next : (capacity : ℕ) (s t : CodeFilling) {r : CodeStep} → r ≡ S.Next t → step_of r ≡ claim capacity (filling_of s) → StepSize s.size r → Claimed capacity s t
+pub claimed-next : (capacity : ℕ) (s t : CodeFilling) → accepted (filling_of t) ≡ claim capacity (filling_of s) → t.size ≡ s.size → Claimed capacity s t
 unfolding claim
-claimed-next capacity s t e h z =
-    let q : accepted (filling_of t) ≡ claim capacity (filling_of s) = ap step_of (sym e) ∙ h in
+claimed-next capacity s t q z =
     let b = test_passed (ltb s.begun capacity) (refusal 8 (filling_of s)) (λ _. accepted (begin (filling_of s))) (filling_of t) (sym q) in
     let f : accepted (filling_of t) ≡ accepted (begin (filling_of s)) = q ∙ test-true _ _ b in
     let g : filling_of t ≡ begin (filling_of s) = cc in
@@ -365,14 +362,14 @@ claimed-next capacity s t e h z =
       at = ap (λ (u : Filling). u.at) g;
       begun = ap (λ (u : Filling). u.begun) g ∙ sym (add-one s.begun);
       used = ap (λ (u : Filling). u.used) g;
-      size = subst (StepSize s.size) e z;
+      size = z;
       free = ltb-true s.begun capacity b;
       claimed = sym q;
     }
 
 module _ (capacity len : ℕ) (d : List ℕ) (g : G) (s : CodeFilling) where
-  pub arm_refused : {rows₀ store₀ rows₁ store₁ : List ℕ} {r : CodeStep} (f : Refusal) → r ≡ S.Refused f → step_of r ≡ claim capacity (filling_of s) → Brings rows_in store_of SizeOfV (import_val capacity len d g (filling_of s)) s.begun s.used s.size rows₀ store₀ (S.Refused f) rows₁ store₁
-  arm_refused f e h = brings_refused f (ap (λ (x : Outcome Reason Filling). bind x (import_body capacity len d g)) (ap step_of (sym e) ∙ h))
+  pub arm_refused : {rows₀ store₀ rows₁ store₁ : List ℕ} (f : Refusal) → refused (reason_of f) ≡ claim capacity (filling_of s) → Brings rows_in store_of SizeOfV (import_val capacity len d g (filling_of s)) s.begun s.used s.size rows₀ store₀ (Err f) rows₁ store₁
+  arm_refused f h = brings_refused f (ap (λ (x : Outcome Reason Filling). bind x (import_body capacity len d g)) h)
 
   -- what imported the body has imported the value
   pub arm_body : {rows₀ store₀ rows₁ store₁ : List ℕ} {r : CodeStep} (t : CodeFilling) → Claimed capacity s t → Brings rows_in store_of SizeOfV (import_body capacity len d g (filling_of t)) s.begun t.used t.size rows₀ store₀ r rows₁ store₁ → Brings rows_in store_of SizeOfV (import_val capacity len d g (filling_of s)) s.begun s.used s.size rows₀ store₀ r rows₁ store₁
@@ -394,13 +391,10 @@ ready-claimed s t p c = record {
   byte_values = p.byte_values;
 }
 
-pub leaf : {w k : ℕ} → w ≡ k → is_parent k ≡ false → k ≤ last_kind → Leaf w
-leaf e n l = record { no_array = not-parent e n refl; no_tuple = not-parent e n refl; no_case = not-parent e n refl; known = omega arith }
-
 -- ---- the readers of parents
 
 -- a state behind the count or tag of the value begun at s
-pub ready-below : {t d rows store : List ℕ} {node kind row : ℕ} {lent : CodeLent} (limit number : ℕ) (s : CodeFilling) (n : ℕ) (u : CodeFilling) → RowClaimed t d rows store node kind row lent s → yield n (filling_of u) ≡ take_below d limit number (filling_of s) → u.size ≡ s.size + 8 → Ready d rows store lent u
+pub ready-below : {t d rows store : List ℕ} {node row : ℕ} {kind : Kind} {lent : CodeLent} (limit number : ℕ) (s : CodeFilling) (n : ℕ) (u : CodeFilling) → RowClaimed t d rows store node kind row lent s → yield n (filling_of u) ≡ take_below d limit number (filling_of s) → u.size ≡ s.size + 8 → Ready d rows store lent u
 ready-below {d = d} limit number s n u c h z =
     let p = c.ready in
     let x = below_taken d limit number (filling_of s) n u h in
@@ -419,8 +413,8 @@ ready-below {d = d} limit number s n u c h z =
 
 -- children that were imported are counted behind the row of their parent
 pub counted-children : (t d : List ℕ) {rows₀ store₀ rows₁ store₁ : List ℕ} {row start : ℕ} (lent : CodeLent) (u : CodeFilling) (place step n : ℕ) (read : CodeStep) → Table t → Ready d rows₀ store₀ lent u → row < u.begun → start ≤ u.size → Brings rows_in_all store_of_all SeqSum (import_fields lent.capacity lent.room d (trees_at t place step n) (filling_of u)) u.begun u.used u.size rows₀ store₀ read rows₁ store₁ → Counted row start read
-counted-children t d lent u place step n (S.Refused f) b p l m h = tt
-counted-children t d lent u place step n (S.Next v) b p l m h =
+counted-children t d lent u place step n (Err f) b p l m h = tt
+counted-children t d lent u place step n (Ok v) b p l m h =
     let w = went_on v refl h in
     let x = all-accepted t b.words lent.capacity lent.room d p.byte_values (filling_of u) p.inside p.within p.few place step n (record { value = w.0; state = filling_of v }) w.1 in
     (omega (arith, x.0), omega (arith, w.4))
@@ -506,13 +500,13 @@ module _ (t d : List ℕ) {rows₀ store₀ : List ℕ} {row : ℕ} {lent : Code
         z)
 
 -- the readers of arrays, tuples and cases, of a node whose value has claimed its row
-module _ {t d rows₀ store₀ : List ℕ} {node kind row : ℕ} {lent : CodeLent} {s : CodeFilling} (p : RowClaimed t d rows₀ store₀ node kind row lent s) where
-  pub arm_array-refused : kind ≡ 3 → {rows₁ store₁ : List ℕ} (f : Refusal) → refused (reason_of f) ≡ take_below d (lent.capacity - s.begun + 1) 8 (filling_of s) → Brings rows_in store_of SizeOfV (import_body lent.capacity lent.room d (tree_of t node) (filling_of s)) row s.used s.size rows₀ store₀ (S.Refused f) rows₁ store₁
+module _ {t d rows₀ store₀ : List ℕ} {node row : ℕ} {kind : Kind} {lent : CodeLent} {s : CodeFilling} (p : RowClaimed t d rows₀ store₀ node kind row lent s) where
+  pub arm_array-refused : kind ≡ array → {rows₁ store₁ : List ℕ} (f : Refusal) → refused (reason_of f) ≡ take_below d (lent.capacity - s.begun + 1) 8 (filling_of s) → Brings rows_in store_of SizeOfV (import_body lent.capacity lent.room d (tree_of t node) (filling_of s)) row s.used s.size rows₀ store₀ (Err f) rows₁ store₁
   arm_array-refused k f h =
       let g = tree_of t (node_at t (child_place t node)) in
       brings_refused f (ap (λ (x : Importing ℕ). next x (λ n u. give VArray (elements n (import_val lent.capacity lent.room d g) u))) h ∙ array_body lent.capacity lent.room d (filling_of s) g ∙ ap (λ (x : G). import_body lent.capacity lent.room d x (filling_of s)) (sym (array_tree t node p.node (p.kind ∙ k))))
 
-  pub arm_array : kind ≡ 3 → (count : ℕ) (u : CodeFilling) {read r : CodeStep} {rows₁ store₁ exit : List ℕ} → yield count (filling_of u) ≡ take_below d (lent.capacity - s.begun + 1) 8 (filling_of s) → u.size ≡ s.size + 8 → Brings rows_in_all store_of_all SeqSum (import_fields lent.capacity lent.room d (trees_at t (child_place t node) 0 count) (filling_of u)) u.begun u.used u.size rows₀ store₀ read rows₁ store₁ → r ≡ read → exit ≡ closed row 3 count s.size read rows₁ → Brings rows_in store_of SizeOfV (import_body lent.capacity lent.room d (tree_of t node) (filling_of s)) row s.used s.size rows₀ store₀ r exit store₁
+  pub arm_array : kind ≡ array → (count : ℕ) (u : CodeFilling) {read r : CodeStep} {rows₁ store₁ exit : List ℕ} → yield count (filling_of u) ≡ take_below d (lent.capacity - s.begun + 1) 8 (filling_of s) → u.size ≡ s.size + 8 → Brings rows_in_all store_of_all SeqSum (import_fields lent.capacity lent.room d (trees_at t (child_place t node) 0 count) (filling_of u)) u.begun u.used u.size rows₀ store₀ read rows₁ store₁ → r ≡ read → exit ≡ closed row 3 count s.size read rows₁ → Brings rows_in store_of SizeOfV (import_body lent.capacity lent.room d (tree_of t node) (filling_of s)) row s.used s.size rows₀ store₀ r exit store₁
   arm_array k count u h z b i o =
       let g = tree_of t (node_at t (child_place t node)) in
       let x = below_taken d (lent.capacity - s.begun + 1) 8 (filling_of s) count u h in
@@ -520,20 +514,20 @@ module _ {t d rows₀ store₀ : List ℕ} {node kind row : ℕ} {lent : CodeLen
       ap (give VArray) (trees_elements t lent.capacity lent.room d (child_place t node) count (filling_of u)) ∙ ap (λ (x : Importing ℕ). next x (λ n u. give VArray (elements n (import_val lent.capacity lent.room d g) u))) h ∙ array_body lent.capacity lent.room d (filling_of s) g ∙ ap (λ (x : G). import_body lent.capacity lent.room d x (filling_of s)) (sym (array_tree t node p.node (p.kind ∙ k))) in
       rw (← e) (close_all t d p.ready p.node.table p.claimed u (ready-below (lent.capacity - s.begun + 1) 8 s count u p h z) x.1 x.2 VArray 3 (child_place t node) 0 count (λ span vs. own_array span count s.used vs) (λ vs. (parent-store vs 0 (VArray vs)).0) (λ vs. (parent-rows vs 0 (VArray vs)).0) (λ vs. omega (arith, z, (parent-size vs 0 (VArray vs)).0)) b i o)
 
-  pub arm_tuple : kind ≡ 4 → (count : ℕ) {read r : CodeStep} {rows₁ store₁ exit : List ℕ} → count ≡ count_word t node → Brings rows_in_all store_of_all SeqSum (import_fields lent.capacity lent.room d (trees_at t (child_place t node) 1 count) (filling_of s)) s.begun s.used s.size rows₀ store₀ read rows₁ store₁ → r ≡ read → exit ≡ closed row 4 count s.size read rows₁ → Brings rows_in store_of SizeOfV (import_body lent.capacity lent.room d (tree_of t node) (filling_of s)) row s.used s.size rows₀ store₀ r exit store₁
+  pub arm_tuple : kind ≡ tuple → (count : ℕ) {read r : CodeStep} {rows₁ store₁ exit : List ℕ} → count ≡ count_word t node → Brings rows_in_all store_of_all SeqSum (import_fields lent.capacity lent.room d (trees_at t (child_place t node) 1 count) (filling_of s)) s.begun s.used s.size rows₀ store₀ read rows₁ store₁ → r ≡ read → exit ≡ closed row 4 count s.size read rows₁ → Brings rows_in store_of SizeOfV (import_body lent.capacity lent.room d (tree_of t node) (filling_of s)) row s.used s.size rows₀ store₀ r exit store₁
   unfolding import_body
   arm_tuple k count c b i o =
       let e : give VTuple (import_fields lent.capacity lent.room d (trees_at t (child_place t node) 1 count) (filling_of s)) ≡ import_body lent.capacity lent.room d (tree_of t node) (filling_of s) =
       ap (λ (n : ℕ). import_body lent.capacity lent.room d (GTuple (trees_at t (child_place t node) 1 n)) (filling_of s)) c ∙ ap (λ (x : G). import_body lent.capacity lent.room d x (filling_of s)) (sym (tuple_tree t node p.node (p.kind ∙ k))) in
       rw (← e) (close_all t d p.ready p.node.table p.claimed s p.ready refl refl VTuple 4 (child_place t node) 1 count (λ span vs. own_tuple span count s.used vs) (λ vs. (parent-store vs 0 (VArray vs)).1) (λ vs. (parent-rows vs 0 (VArray vs)).1) (λ vs. ap (λ (n : ℕ). s.size + n) (parent-size vs 0 (VArray vs)).1) b i o)
 
-  pub arm_case-refused : kind ≡ 8 → (limit : ℕ) → limit ≡ count_word t node → {rows₁ store₁ : List ℕ} (f : Refusal) → refused (reason_of f) ≡ take_below d limit 10 (filling_of s) → Brings rows_in store_of SizeOfV (import_body lent.capacity lent.room d (tree_of t node) (filling_of s)) row s.used s.size rows₀ store₀ (S.Refused f) rows₁ store₁
+  pub arm_case-refused : kind ≡ union → (limit : ℕ) → limit ≡ count_word t node → {rows₁ store₁ : List ℕ} (f : Refusal) → refused (reason_of f) ≡ take_below d limit 10 (filling_of s) → Brings rows_in store_of SizeOfV (import_body lent.capacity lent.room d (tree_of t node) (filling_of s)) row s.used s.size rows₀ store₀ (Err f) rows₁ store₁
   arm_case-refused k limit c f h =
       let g = case_tree t node p.node (p.kind ∙ k) in
       let e : limit ≡ length (seq_g g.0) = c ∙ sym g.2 in
       brings_refused f (ap (λ (x : Importing ℕ). next x (λ n u. give (VCase n) (import_val lent.capacity lent.room d (case_at g.0 n) u))) (h ∙ ap (λ (l : ℕ). take_below d l 10 (filling_of s)) e) ∙ case_body lent.capacity lent.room d (filling_of s) g.0 ∙ ap (λ (x : G). import_body lent.capacity lent.room d x (filling_of s)) (sym g.1))
 
-  pub arm_case : kind ≡ 8 → (limit : ℕ) → limit ≡ count_word t node → (tag : ℕ) (u : CodeFilling) (place : ℕ) → place ≡ child_place t node + tag → {read r : CodeStep} {rows₁ store₁ exit : List ℕ} → yield tag (filling_of u) ≡ take_below d limit 10 (filling_of s) → u.size ≡ s.size + 8 → Brings rows_in_all store_of_all SeqSum (import_fields lent.capacity lent.room d (trees_at t place 0 1) (filling_of u)) u.begun u.used u.size rows₀ store₀ read rows₁ store₁ → r ≡ read → exit ≡ closed row 8 tag s.size read rows₁ → Brings rows_in store_of SizeOfV (import_body lent.capacity lent.room d (tree_of t node) (filling_of s)) row s.used s.size rows₀ store₀ r exit store₁
+  pub arm_case : kind ≡ union → (limit : ℕ) → limit ≡ count_word t node → (tag : ℕ) (u : CodeFilling) (place : ℕ) → place ≡ child_place t node + tag → {read r : CodeStep} {rows₁ store₁ exit : List ℕ} → yield tag (filling_of u) ≡ take_below d limit 10 (filling_of s) → u.size ≡ s.size + 8 → Brings rows_in_all store_of_all SeqSum (import_fields lent.capacity lent.room d (trees_at t place 0 1) (filling_of u)) u.begun u.used u.size rows₀ store₀ read rows₁ store₁ → r ≡ read → exit ≡ closed row 8 tag s.size read rows₁ → Brings rows_in store_of SizeOfV (import_body lent.capacity lent.room d (tree_of t node) (filling_of s)) row s.used s.size rows₀ store₀ r exit store₁
   arm_case k limit c tag u place m h z b i o =
       let g = case_tree t node p.node (p.kind ∙ k) in
       let l : limit ≡ length (seq_g g.0) = c ∙ sym g.2 in
@@ -556,14 +550,14 @@ pub record Remaining (d rows₀ store₀ : List ℕ) (lent : CodeLent) (s : Code
 pub remaining_start : {d rows₀ store₀ : List ℕ} {lent : CodeLent} {s : CodeFilling} (x y : Importing Vals) → x ≡ y → Ready d rows₀ store₀ lent s → Remaining d rows₀ store₀ lent s x rows₀ store₀ s y
 remaining_start x y e p = record { ready = p; grown = omega arith; rows_size = refl; store_size = refl; then = λ r a b h. rw e h }
 
-pub remaining_done : {d rows₀ store₀ rows store : List ℕ} {lent : CodeLent} {s u : CodeFilling} {whole rest : Importing Vals} → Remaining d rows₀ store₀ lent s whole rows store u rest → rest ≡ yield vnil (filling_of u) → Brings rows_in_all store_of_all SeqSum whole s.begun s.used s.size rows₀ store₀ (S.Next u) rows store
-remaining_done {rows = rows} {store} {u = u} i e = i.then (S.Next u) rows store (rw e (brings_none rows store u))
+pub remaining_done : {d rows₀ store₀ rows store : List ℕ} {lent : CodeLent} {s u : CodeFilling} {whole rest : Importing Vals} → Remaining d rows₀ store₀ lent s whole rows store u rest → rest ≡ yield vnil (filling_of u) → Brings rows_in_all store_of_all SeqSum whole s.begun s.used s.size rows₀ store₀ (Ok u) rows store
+remaining_done {rows = rows} {store} {u = u} i e = i.then (Ok u) rows store (rw e (brings_none rows store u))
 
 module _ (t : List ℕ) (b : Table t) {d rows₀ store₀ rows store rows₁ store₁ : List ℕ} {lent : CodeLent} {s u : CodeFilling} {whole rest : Importing Vals} (k place step n : ℕ) (e : rest ≡ both (import_val lent.capacity lent.room d (tree_of t k) (filling_of u)) (import_fields lent.capacity lent.room d (trees_at t place step n))) (i : Remaining d rows₀ store₀ lent s whole rows store u rest) {r : CodeStep} (h : Brings rows_in store_of SizeOfV (import_val lent.capacity lent.room d (tree_of t k) (filling_of u)) u.begun u.used u.size rows store r rows₁ store₁) where
-  pub remaining_refused : (f : Refusal) → r ≡ S.Refused f → Brings rows_in_all store_of_all SeqSum whole s.begun s.used s.size rows₀ store₀ (S.Refused f) rows₁ store₁
-  remaining_refused f q = i.then (S.Refused f) rows₁ store₁ (brings_refused f (ap (λ (y : Importing Val). both y (import_fields lent.capacity lent.room d (trees_at t place step n))) (stopped f q h) ∙ sym e))
+  pub remaining_refused : (f : Refusal) → r ≡ Err f → Brings rows_in_all store_of_all SeqSum whole s.begun s.used s.size rows₀ store₀ (Err f) rows₁ store₁
+  remaining_refused f q = i.then (Err f) rows₁ store₁ (brings_refused f (ap (λ (y : Importing Val). both y (import_fields lent.capacity lent.room d (trees_at t place step n))) (stopped f q h) ∙ sym e))
 
-  pub remaining_next : (v : CodeFilling) → r ≡ S.Next v → length rows₁ ≡ length rows → length store₁ ≡ length store → Remaining d rows₀ store₀ lent s whole rows₁ store₁ v (import_fields lent.capacity lent.room d (trees_at t place step n) (filling_of v))
+  pub remaining_next : (v : CodeFilling) → r ≡ Ok v → length rows₁ ≡ length rows → length store₁ ≡ length store → Remaining d rows₀ store₀ lent s whole rows₁ store₁ v (import_fields lent.capacity lent.room d (trees_at t place step n) (filling_of v))
   remaining_next v q l m =
       let p = i.ready in
       let w = went_on v q h in

@@ -2,7 +2,7 @@
 use mathlib.Core.Path.{◌≡◌, refl, ap, sym, subst, ◌∙◌}
 use mathlib.Core.Bool.{Bool, true, false}
 use mathlib.Core.List.{List, [], ◌∷◌}
-use Prim.Native.Nat.{ℕ, zero, suc, ◌+◌, ◌-◌, ◌*◌, ◌/◌, ◌≤◌, ◌<◌}
+use Prim.Native.Nat.{ℕ, zero, suc, ◌+◌, ◌-◌, ◌*◌, ◌/◌, ◌^◌, ◌≤◌, ◌<◌}
 use native.Mathlib.Nat.{add-zero, le_refl, mul-div_cancel_left}
 use native.Mathlib.Numerals.{add-one}
 use native.Mathlib.Omega.{arith}
@@ -15,15 +15,15 @@ use Rattle.refusal.specs.Meaning.{reason_of}
 use Rattle.refusal.specs.declared.Refusal.{Refusal}
 use Rattle.refusal.proofs.Outcome.{clash, map-accepted, test-true, test-false, post_accepted}
 use Rattle.packed.specs.Packed.{Bytes, present, put_at, put_within}
-use Rattle.packed.proofs.Laws.{bytes_drop}
+use Rattle.packed.proofs.Laws.{bytes_drop, bytes_take}
 use Rattle.packed.proofs.Fitting.{put_within-nothing}
 use Rattle.packed.proofs.Calls.{present-fits}
 use Rattle.big_endian.specs.BigEndian.{unpack_big_endian, unpack_big_endian_seq, unpack_big_endian_at, reverse_each}
-use Rattle.big_endian.proofs.Laws.{unpack_big_take, reverse_each-take, pack_seq_unpack_big_seq}
-use Rattle.value.specs.Kinds.{Number, number_kind, width, Elements, bytes, uint32s, uint64s, elements_kind, element_width, kind_of}
+use Rattle.big_endian.proofs.Laws.{unpack_big_below, unpack_big_take, reverse_each-take, pack_seq_unpack_big_seq}
+use Rattle.value.specs.Kinds.{Number, width, Elements, element_width, constant, number, elements}
 use Rattle.value.specs.Tree.{Gs, VConstant, VNumber, VNumberArray, SizeOfV, row_count}
 use Rattle.value.specs.Step.{Step, yield, next, give}
-use Rattle.value.proofs.KindLaws.{element_width_positive, number-kind, elements-kind, other-kinds}
+use Rattle.value.proofs.KindLaws.{element_width_positive}
 use Rattle.grammar.specs.Tree.{node_tree}
 use Rattle.rows.specs.Layout.{own_row}
 use Rattle.tables.specs.Row.{laid}
@@ -31,10 +31,8 @@ use Rattle.xdr.specs.Xdr.{padding, store_of, rows_in}
 use Rattle.xdr.specs.Import.{Filling, Importing, refusal, move, fill, zeros, claim, take_number, check_body, take_body, take_numbers, import_body}
 use Rattle.xdr.proofs.Import.{body_post}
 use Rattle.importing.specs.declared.Filling.{Filling as CodeFilling}
-use Rattle.importing.specs.declared.Step.{Step as CodeStep}
-use Rattle.importing.specs.declared.Step.TheVariants as S
-use Rattle.importing.specs.declared.Taken.{Taken}
-use Rattle.importing.specs.Meaning.{filling_of, taken_of, TakenSize}
+use Rattle.std.specs.Prelude.{Ok, Err}
+use Rattle.importing.specs.Meaning.{CodeStep, filling_of}
 use Rattle.importing.specs.Brings.{Brings, take_below, node_at}
 
 -- ---- a row, and a number
@@ -49,7 +47,7 @@ module _ (at begun used capacity : ℕ) where
   claim-refused h = sym (test-false _ _ (le-ltb begun capacity h))
 
 -- what an unpacked number comes to in an import from s
-abbrev unpacked : ℕ → Filling → Outcome Reason ℕ → Importing ℕ
+abbrev pub unpacked : ℕ → Filling → Outcome Reason ℕ → Importing ℕ
 unpacked w s (accepted n) = yield n (move w s)
 unpacked w s (refused r) = refused r
 
@@ -68,6 +66,13 @@ module _ (d : List ℕ) (w : ℕ) (s : Filling) where
       let x = map-accepted (unpack_big_endian w) (map (λ _. take w (drop s.at d)) (present (length d) s.at w)) (sym h) in
       let y = map-accepted (λ _. take w (drop s.at d)) (present (length d) s.at w) x.1 in
       present-fits (length d) s.at w (sym y.1)
+
+  -- and fits its bytes
+  pub unpacked-below : Bytes d → {n : ℕ} → accepted n ≡ unpack_big_endian_at w d s.at → n < 256 ^ w
+  unpacked-below b h =
+      let x = map-accepted (unpack_big_endian w) (map (λ _. take w (drop s.at d)) (present (length d) s.at w)) (sym h) in
+      let y = map-accepted (λ _. take w (drop s.at d)) (present (length d) s.at w) x.1 in
+      rw (x.2, y.2) (unpack_big_below w (take w (drop s.at d)) (bytes_take w (drop s.at d) (bytes_drop s.at d b)))
 
 module _ (d : List ℕ) (limit number : ℕ) (s : Filling) where
   pub below-refused : {e : Reason} → refused e ≡ take_number d 4 s → refused e ≡ take_below d limit number s
@@ -141,7 +146,7 @@ module _ (d : List ℕ) (len : ℕ) (k : Elements) (s : Filling) where
 -- ---- what the code did beside an import
 
 module _ {A : Type 0} {rows_at : A → ℕ → List ℕ} {storeAt : A → List ℕ} {size_at : A → ℕ} {x : Importing A} {row used size₀ : ℕ} {rows₀ store₀ rows₁ store₁ : List ℕ} where
-  pub brings_refused : (r : Refusal) → refused (reason_of r) ≡ x → Brings rows_at storeAt size_at x row used size₀ rows₀ store₀ (S.Refused r) rows₁ store₁
+  pub brings_refused : (r : Refusal) → refused (reason_of r) ≡ x → Brings rows_at storeAt size_at x row used size₀ rows₀ store₀ (Err r) rows₁ store₁
   brings_refused r e = record {
     answers = ap (λ (y : Importing A). map (λ t. t.state) y) e;
     rows = λ t f. clash (e ∙ f);
@@ -149,7 +154,7 @@ module _ {A : Type 0} {rows_at : A → ℕ → List ℕ} {storeAt : A → List �
     size = λ t f. clash (e ∙ f);
   }
 
-  pub brings_next : (u : CodeFilling) (a : A) → yield a (filling_of u) ≡ x → rows₁ ≡ laid rows₀ row (rows_at a used) → store₁ ≡ put_within store₀ used (storeAt a) → u.size ≡ size₀ + size_at a → Brings rows_at storeAt size_at x row used size₀ rows₀ store₀ (S.Next u) rows₁ store₁
+  pub brings_next : (u : CodeFilling) (a : A) → yield a (filling_of u) ≡ x → rows₁ ≡ laid rows₀ row (rows_at a used) → store₁ ≡ put_within store₀ used (storeAt a) → u.size ≡ size₀ + size_at a → Brings rows_at storeAt size_at x row used size₀ rows₀ store₀ (Ok u) rows₁ store₁
   brings_next u a e l p z = record {
     answers = ap (λ (y : Importing A). map (λ t. t.state) y) e;
     rows = λ t f. l ∙ ap (λ (y : Step Filling A). laid rows₀ row (rows_at y.value used)) (same t f);
@@ -177,47 +182,20 @@ elements_stored k d p n size b f h =
     let q : w * n / w ≡ n = mul-div_cancel_left n (element_width_positive k) in
     rw (e, m, q, reverse_each-take w n (w * n) (drop p d) (le_refl (w * n)), pack_seq_unpack_big_seq w n (drop p d) (bytes_drop p d b) (omega arith))
 
--- the kind of elements by its kind word
-module _ (k : Elements) (kind : ℕ) (e : kind ≡ elements_kind k) where
-  pub kind-bytes : kind ≡ 5 → bytes ≡ k
-  kind-bytes h = go k (sym e ∙ h)
-    where
-      go : (j : Elements) → elements_kind j ≡ 5 → bytes ≡ j
-      go bytes q = refl
-      go uint32s q = absurd (omega arith)
-      go uint64s q = absurd (omega arith)
+-- ---- values without children, by the kind of their node
 
-  pub kind-uint32s : kind ≡ 6 → uint32s ≡ k
-  kind-uint32s h = go k (sym e ∙ h)
-    where
-      go : (j : Elements) → elements_kind j ≡ 6 → uint32s ≡ j
-      go bytes q = absurd (omega arith)
-      go uint32s q = refl
-      go uint64s q = absurd (omega arith)
-
-  pub kind-uint64s : (kind ≡ 5 → ⊥) → (kind ≡ 6 → ⊥) → uint64s ≡ k
-  kind-uint64s n m = go k e
-    where
-      go : (j : Elements) → kind ≡ elements_kind j → uint64s ≡ j
-      go bytes q = absurd (n q)
-      go uint32s q = absurd (m q)
-      go uint64s q = refl
-
--- ---- values without children, by the kind word of their node
-
-module _ (capacity len : ℕ) (d : List ℕ) (s : Filling) (kind : ℕ) (gs : Gs) {row used size : ℕ} {rows₀ store₀ rows₁ : List ℕ} {r : CodeStep} where
-  pub arm_constant : {u : CodeFilling} → kind ≡ 0 → s ≡ filling_of u → r ≡ S.Next u → rows₁ ≡ laid rows₀ row (0 ∷ 1 ∷ 0 ∷ 0 ∷ 0 ∷ []) → u.size ≡ size → Brings rows_in store_of SizeOfV (import_body capacity len d (node_tree (kind_of kind) gs) s) row used size rows₀ store₀ r rows₁ store₀
+module _ (capacity len : ℕ) (d : List ℕ) (s : CodeFilling) (gs : Gs) {row : ℕ} {rows₀ store₀ rows₁ : List ℕ} where
+  pub arm_constant : {u : CodeFilling} → u ≡ s → rows₁ ≡ laid rows₀ row (0 ∷ 1 ∷ 0 ∷ 0 ∷ 0 ∷ []) → Brings rows_in store_of SizeOfV (import_body capacity len d (node_tree constant gs) (filling_of s)) row s.used s.size rows₀ store₀ (Ok u) rows₁ store₀
   unfolding import_body node_tree rows_in store_of own_row row_count SizeOfV
-  arm_constant {u} e f g h z = rw (e, other-kinds.0, g) (brings_next u VConstant (ap (λ (t : Filling). yield VConstant t) (sym f)) h (sym (put_within-nothing store₀ used)) (z ∙ sym (add-zero size)))
+  arm_constant e h = rw e (brings_next s VConstant refl h (sym (put_within-nothing store₀ s.used)) (sym (add-zero s.size)))
 
-  -- a number, taken from a state that has grown by its size
-  pub arm_number : (k : Number) (u : CodeFilling) (taken : Taken) → kind ≡ number_kind k → (filling_of u ≡ s) × (u.size ≡ size + width k) → taken_of taken ≡ take_number d (width k) (filling_of u) → TakenSize u.size taken → (TakenSize (size + width k) taken → Brings rows_in store_of SizeOfV (give (VNumber k) (taken_of taken)) row used size rows₀ store₀ r rows₁ store₀) → Brings rows_in store_of SizeOfV (import_body capacity len d (node_tree (kind_of kind) gs) s) row used size rows₀ store₀ r rows₁ store₀
+  pub arm_number : (k : Number) {r : CodeStep} {store₁ : List ℕ} → Brings rows_in store_of SizeOfV (give (VNumber k) (take_number d (width k) (filling_of s))) row s.used s.size rows₀ store₀ r rows₁ store₁ → Brings rows_in store_of SizeOfV (import_body capacity len d (node_tree (number k) gs) (filling_of s)) row s.used s.size rows₀ store₀ r rows₁ store₁
   unfolding import_body node_tree
-  arm_number k u taken e g f z b = rw (e, number-kind k, ← g.0, ← f) (b (subst (λ (n : ℕ). TakenSize n taken) g.1 z))
+  arm_number k b = b
 
-  pub arm_elements : (k : Elements) {store₁ : List ℕ} → kind ≡ elements_kind k → Brings rows_in store_of SizeOfV (give (VNumberArray k) (take_numbers d len k s)) row used size rows₀ store₀ r rows₁ store₁ → Brings rows_in store_of SizeOfV (import_body capacity len d (node_tree (kind_of kind) gs) s) row used size rows₀ store₀ r rows₁ store₁
+  pub arm_elements : (k : Elements) {r : CodeStep} {store₁ : List ℕ} → Brings rows_in store_of SizeOfV (give (VNumberArray k) (take_numbers d len k (filling_of s))) row s.used s.size rows₀ store₀ r rows₁ store₁ → Brings rows_in store_of SizeOfV (import_body capacity len d (node_tree (elements k) gs) (filling_of s)) row s.used s.size rows₀ store₀ r rows₁ store₁
   unfolding import_body node_tree
-  arm_elements k e b = rw (e, elements-kind k) b
+  arm_elements k b = b
 
 -- ---- the nodes that words name
 

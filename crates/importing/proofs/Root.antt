@@ -26,10 +26,8 @@ use Rattle.xdr.specs.Import.{Filling, Importing, start, at_end, import_fields, i
 use Rattle.xdr.proofs.Rows.{length-rows_in}
 use Rattle.importing.specs.declared.Filling.{Filling as CodeFilling}
 use Rattle.importing.specs.declared.Lent.{Lent as CodeLent}
-use Rattle.importing.specs.declared.Step.{Step as CodeStep}
-use Rattle.importing.specs.declared.Step.TheVariants as S
-use Rattle.importing.specs.declared.Imported.TheVariants as I
-use Rattle.importing.specs.Meaning.{filling_of, step_of}
+use Rattle.std.specs.Prelude.{Ok, Err}
+use Rattle.importing.specs.Meaning.{CodeStep, filling_of, step_of}
 use Rattle.importing.specs.Brings.{Ready, Brings, trees_at, Admitted}
 use Rattle.importing.specs.Calls.{admit_of, import_of, Imports}
 use Rattle.importing.proofs.Cycle.{went_on, stopped, brings_as, one-row, one_store, one_size, tree_one, val-accepted}
@@ -102,7 +100,7 @@ admitted g d len h =
 -- ---- the call
 
 module _ (g d rows store : List ℕ) (capacity : ℕ) where
-  pub import_refused : (f : Refusal) → refused (reason_of f) ≡ admit_of g d (length store) → Imports (import_of g d capacity (length store)) (I.Refused f) rows store rows store
+  pub import_refused : (f : Refusal) → refused (reason_of f) ≡ admit_of g d (length store) → Imports (import_of g d capacity (length store)) (Err f) rows store rows store
   unfolding import_of
   import_refused f h = rw (← h) (record { answers = refl; rows = refl; store = refl })
 
@@ -111,21 +109,21 @@ module _ (g d rows store : List ℕ) (capacity : ℕ) where
     unfolding import_of
     whole = rw (← a)
 
-    pub import_stopped : (f : Refusal) {r : CodeStep} → r ≡ S.Refused f → step_of r ≡ map (λ t. t.state) (import_whole capacity (length store) d (tree_of g 0)) → Imports (import_of g d capacity (length store)) (I.Refused f) rows store rows store
+    pub import_stopped : (f : Refusal) {r : CodeStep} → r ≡ Err f → step_of r ≡ map (λ t. t.state) (import_whole capacity (length store) d (tree_of g 0)) → Imports (import_of g d capacity (length store)) (Err f) rows store rows store
     import_stopped f e h = rw whole (go (import_whole capacity (length store) d (tree_of g 0)) (ap step_of (sym e) ∙ h))
       where
-        go : (x : Importing Val) → refused (reason_of f) ≡ map (λ t. t.state) x → Imports x (I.Refused f) rows store rows store
+        go : (x : Importing Val) → refused (reason_of f) ≡ map (λ t. t.state) x → Imports x (Err f) rows store rows store
         go (accepted t) q = clash q
         go (refused e) q = let z : reason_of f ≡ e = cc in rw (← z) (record { answers = refl; rows = refl; store = refl })
 
     -- the check went on, so the filling does, with the same state
     module _ {s : Filling} (h : accepted s ≡ map (λ t. t.state) (import_whole capacity (length store) d (tree_of g 0))) {r : CodeStep} {rows₁ store₁ : List ℕ} (b : Brings rows_in store_of SizeOfV (import_val capacity (length store) d (tree_of g 0) start) 0 0 0 rows store r rows₁ store₁) where
-      pub import_again : (f : Refusal) → r ≡ S.Refused f → ⊥
+      pub import_again : (f : Refusal) → r ≡ Err f → ⊥
       import_again f e =
           let x = map-accepted (λ (t : Step Filling Val). t.state) (import_whole capacity (length store) d (tree_of g 0)) (sym h) in
           clash (stopped f e b ∙ whole-root capacity (length store) d (tree_of g 0) x.0 x.1)
 
-      pub import_filled : (w : Below (2 ^ 32) g) (ok : Bytes d) → row_width * capacity ≤ length rows → (u : CodeFilling) → r ≡ S.Next u → Imports (import_of g d capacity (length store)) (I.Value u.begun u.used) rows store rows₁ store₁
+      pub import_filled : (w : Below (2 ^ 32) g) (ok : Bytes d) → row_width * capacity ≤ length rows → (u : CodeFilling) → r ≡ Ok u → Imports (import_of g d capacity (length store)) (Ok (record { rows = u.begun; used = u.used })) rows store rows₁ store₁
       import_filled w ok l u e =
           let x = map-accepted (λ (t : Step Filling Val). t.state) (import_whole capacity (length store) d (tree_of g 0)) (sym h) in
           let y = went_on u e b in

@@ -4,8 +4,6 @@
 ghost use Rattle.std.specs.Prelude.{◌≡◌, List, ◌∷◌, [], ℕ, ◌+◌, ◌*◌, ◌-◌, ◌/◌, ◌^◌, ◌≤◌, ◌<◌, length, take, drop};
 ghost use Rattle.refusal.specs.Outcome.{map, reason, word as word_at};
 ghost use Rattle.refusal.specs.Meaning.{reason_of, outcome_of};
-ghost use Rattle.packed.specs.Packed.{put_within};
-ghost use Rattle.big_endian.specs.BigEndian.{reverse_each};
 ghost use Rattle.value.specs.Kinds.{width as number_width, element_width, array, tuple, union};
 ghost use Rattle.value.specs.Meaning.{number_named, elements_named, kind_word as word_of};
 ghost use Rattle.value.specs.Tree.{VNumber, VNumberArray, SizeOfV, SeqSum};
@@ -223,17 +221,6 @@ fn import_array_body(
     )
 }
 
-// Puts the elements of an array as they lie in a store.
-fn copy_elements(elements: Elements, src: &[u8], store: &mut [u8], used: usize)
-    ensures { store.new ≡ put_within store.old used (reverse_each (element_width (elements_named elements)) src.now (length src.now / element_width (elements_named elements))) }
-{
-    match elements {
-        Elements::Bytes => packing::copy_seq_into_array(src, store, used),
-        Elements::Uint32s => big_endian::copy_reversed_seq::<u32>(src, store, used),
-        Elements::Uint64s => big_endian::copy_reversed_seq::<u64>(src, store, used),
-    };
-}
-
 // Kinds 5 to 7: the count, then the elements.
 fn import_elements(
     bytes: &[u8],
@@ -261,7 +248,8 @@ fn import_elements(
         size: whole,
     };
     tables::put_row(rows, row, taken);
-    copy_elements(elements, &bytes[place..end], store, s.used);
+    // A store that is not lent stays as it is.
+    let _ = xdr::copy_elements(elements, &bytes[place..end], store, s.used);
     let padding = xdr::padding(size as u64) as usize;
     Ok(next.move_on(size + padding).fill(size).grow(whole))
 }

@@ -29,10 +29,8 @@ decreases-import_tuple_contents l = 4 * (l.lent.capacity - l.s.begun) + 2
 abbrev pub decreases-import_value : goal.decreases-import_value
 decreases-import_value l = 4 * (l.lent.capacity - l.s.begun)
 
-abbrev pub invariant-import_children-loop-i : goal.invariant-import_children-loop-i
-invariant-import_children-loop-i l = (l.i ≤ l.count)
-    × (l.at ≡ l.place + l.step * l.i)
-    × Remaining l.bytes l.initial.rows l.initial.store l.lent l.initial.t (import_fields l.lent.capacity l.lent.room l.bytes (trees_at l.grammar l.place l.step l.count) (filling_of l.initial.t)) l.rows l.store l.t (import_fields l.lent.capacity l.lent.room l.bytes (trees_at l.grammar l.at l.step (l.count - l.i)) (filling_of l.t))
-
-abbrev pub decreases-import_children-loop-i : goal.decreases-import_children-loop-i
-decreases-import_children-loop-i l = l.count - l.i
+abbrev pub invariant-import_children-loop : goal.invariant-import_children-loop
+invariant-import_children-loop l =
+    let fields = λ (place n : ℕ). import_fields l.lent.capacity l.lent.room l.bytes (trees_at l.grammar place l.step n) in
+    (l.at ≡ l.place + l.step * l.counter)
+    × Remaining l.bytes l.initial.rows l.initial.store l.lent l.initial.t (fields l.place l.count (filling_of l.initial.t)) l.rows l.store l.t (fields l.at (l.count - l.counter) (filling_of l.t))

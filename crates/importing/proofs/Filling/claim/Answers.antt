@@ -1,14 +1,13 @@
-use mathlib.Core.Path.{refl, ap, ◌∙◌}
-use Rattle.refusal.specs.Outcome.{refused}
+use Rattle.std.proofs.Common.{refl}
 use Rattle.importing.proofs.Laws.{claim-next, claim-refused}
 use Rattle.importing.proofs.Filling.claim.Goals as goal
 
-pub returns-then-self-capacity : goal.returns-then-self-capacity
-returns-then-self-capacity c =
-    let a = c.args in
-    (claim-next a.self.at a.self.begun a.self.used a.capacity c.if-self-capacity.true, refl)
+pub returns-then-self : goal.returns-then-self
+returns-then-self c =
+    let s = c.args.self in
+    (claim-next s.at s.begun s.used c.args.capacity c.if-self.true, refl)
 
-pub returns : goal.returns
-returns c =
-    let a = c.args in
-    (ap refused c.at_byte.ensures ∙ claim-refused a.self.at a.self.begun a.self.used a.capacity c.if-self-capacity.false, tt)
+pub returns-else-self : goal.returns-else-self
+returns-else-self c =
+    let s = c.args.self in
+    rw c.at_byte.ensures (claim-refused s.at s.begun s.used c.args.capacity c.if-self.false, tt)
