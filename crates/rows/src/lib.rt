@@ -47,7 +47,7 @@ fn check_row(rows: &[u64], store: &[u8], row: usize, end: usize) -> Result<u64, 
     }
     match Kind::of_word(kind) {
         Some(Kind::Constant) => check_rule(leaf && word2 == 0 && unused, true, 0, row),
-        Some(Kind::Number(n)) => check_rule(leaf && n.holds(word2) && unused, true, 0, row),
+        Some(Kind::Number(n)) => check_rule(n.holds(word2) && leaf && unused, true, 0, row),
         Some(Kind::Array | Kind::Tuple) => check_rule(unused, true, word2, row),
         Some(Kind::Elements(e)) => {
             let width = e.width() as usize;
