@@ -7,6 +7,7 @@ use native.Mathlib.Nat.{add-zero, le_refl, mul-div_cancel_left}
 use native.Mathlib.Numerals.{add-one}
 use native.Mathlib.Omega.{arith}
 use lib.ListN.{length, get_or, take, drop, length-drop}
+use Rattle.std.proofs.lemmas.List.{drop_all}
 use lib.Seq.{drop-cons, take_all, length-take-le}
 use lib.Dec.{leb, ltb}
 use borrow.Author.Tests.{lt-ltb, le-ltb, le-leb, leb-true, ne_eqb}
@@ -90,22 +91,18 @@ module _ (d : List ℕ) (limit number : ℕ) (s : Filling) where
 
 -- ---- the padding
 
-module _ (part : List ℕ) (i n : ℕ) (h : i < length part) where
-  -- what is left to look at, by its first byte
-  first : take (suc n) (drop i part) ≡ get_or part i 0 ∷ take n (drop (suc i) part)
-  first = rw (drop-cons part i 0 h)
-
-  pub zeros-next : get_or part i 0 ≡ 0 → zeros (take (suc n) (drop i part)) ≡ zeros (take n (drop (suc i) part))
+module _ (bs : List ℕ) (i : ℕ) where
+  pub zeros-next : i < length bs → get_or bs i 0 ≡ 0 → zeros (drop i bs) ≡ zeros (drop (i + 1) bs)
   unfolding zeros
-  zeros-next e = rw (first, e)
+  zeros-next h e = rw (add-one, drop-cons bs i 0 h, e)
 
-  pub zeros-not : (get_or part i 0 ≡ 0 → ⊥) → zeros (take (suc n) (drop i part)) ≡ false
+  pub zeros-not : i < length bs → (get_or bs i 0 ≡ 0 → ⊥) → zeros (drop i bs) ≡ false
   unfolding zeros
-  zeros-not e = rw (first, ne_eqb (get_or part i 0) 0 e)
+  zeros-not h e = rw (drop-cons bs i 0 h, ne_eqb (get_or bs i 0) 0 e)
 
-pub zeros-none : (part : List ℕ) (i : ℕ) → zeros (take 0 (drop i part)) ≡ true
-unfolding zeros
-zeros-none part i = refl
+  pub zeros-none : length bs ≤ i → zeros (drop i bs) ≡ true
+  unfolding zeros
+  zeros-none h = rw (drop_all i bs h)
 
 -- ---- an array's body
 

@@ -4,7 +4,7 @@
 ghost use Rattle.std.specs.Prelude.{◌≡◌, List, ◌∷◌, [], ℕ, ◌+◌, ◌*◌, ◌-◌, ◌/◌, ◌^◌, ◌≤◌, ◌<◌, length, take, drop};
 ghost use Rattle.refusal.specs.Outcome.{map, reason, word as word_at};
 ghost use Rattle.refusal.specs.Meaning.{reason_of, outcome_of};
-ghost use Rattle.value.specs.Kinds.{width as number_width, element_width, array, tuple, union};
+ghost use Rattle.value.specs.Kinds.{width as number_width, element_width, kind_of, array, tuple, union};
 ghost use Rattle.value.specs.Meaning.{number_named, elements_named, kind_word as word_of};
 ghost use Rattle.value.specs.Tree.{VNumber, VNumberArray, SizeOfV, SeqSum};
 ghost use Rattle.value.specs.Step.{give};
@@ -196,7 +196,12 @@ fn import_number(
 fn zeros(bytes: &[u8]) -> bool
     ensures { result ≡ zeros_of bytes.now }
 {
-    bytes.iter().all(|b| *b == 0)
+    for b in bytes {
+        if *b != 0 {
+            return false;
+        }
+    }
+    true
 }
 
 // What follows the count of the value that starts at `start`, in the part handed on, which starts right behind it: 9, 17, then 23.
@@ -384,7 +389,7 @@ fn import_array_contents(
     lent: Lent,
     s: Filling,
 ) -> Result<Filling, Refusal>
-    requires { Node grammar.now node × (kind_word grammar.now node ≡ 3) × Ready bytes.now rows.old store.old lent s }
+    requires { Node grammar.now node × (kind_of (kind_word grammar.now node) ≡ array) × Ready bytes.now rows.old store.old lent s }
     ensures { Brings rows_in_all store_of_all SeqSum (import_fields lent.capacity lent.room bytes.now (trees_at grammar.now (child_place grammar.now node) 0 count) (filling_of s)) s.begun s.used s.size rows.old store.old result rows.new store.new }
 {
     let place = child_place(grammar, node);
@@ -476,6 +481,7 @@ fn check_root(grammar: &[u32], bytes: &[u8], lent: Lent) -> Result<Filling, Refu
 }
 
 // 1 to 5 of the grammar, 6 of the record and of the store.
+#[tactic(auto, unfolding(crate::specs::Calls::admit_of, admission::specs::Admission::check_length))]
 fn admit(grammar: &[u32], bytes: &[u8], store: &[u8]) -> Result<(), Refusal>
     ensures { outcome_of result ≡ admit_of grammar.now bytes.now (length store.now) }
 {

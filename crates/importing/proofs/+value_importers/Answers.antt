@@ -1,4 +1,5 @@
-use Rattle.std.proofs.Common.{◌≡◌, ℕ, List, ◌+◌, ◌-◌, ◌*◌, ◌≤◌, ◌<◌, length, refl, arith, ap, sym, ◌∙◌, mul-suc, add-one, mul-le-mul_left}
+use Rattle.std.proofs.Common.{◌≡◌, ℕ, suc, List, ◌+◌, ◌-◌, ◌*◌, ◌≤◌, ◌<◌, length, refl, arith, ap, sym, ◌∙◌, mul-suc, add-one, mul-le-mul_left}
+use Rattle.std.proofs.lemmas.Result.{err_from_is_err_and}
 use Rattle.value.specs.Kinds.{Kind, kind_of}
 use Rattle.value.specs.Meaning.{kind_named, number_named, elements_named}
 use Rattle.value.specs.Tree.{SizeOfV}
@@ -15,7 +16,9 @@ use Rattle.importing.proofs.+value_importers.Goals as goal
 use Rattle.importing.proofs.+value_importers.Goals.{import_value-After-of_word}
 
 pub import_array-returns-in_err-count : goal.import_array-returns-in_err-count
-import_array-returns-in_err-count t c = ?
+import_array-returns-in_err-count t c =
+    let p = err_from_is_err_and c.from_residual.result c.from_residual.ensures.1 in
+    rw (p.1, p.2) (arm_array-refused c.requires refl c.in_err-count.field-0.0 c.in_err-count.ensures.0)
 
 pub import_array-import_array_contents-read-requires : goal.import_array-import_array_contents-read-requires
 import_array-import_array_contents-read-requires t c =
@@ -51,7 +54,9 @@ import_array_contents-returns t c =
     rw c.child_place-place.ensures.0 at c.import_children.ensures
 
 pub import_case-returns-in_err-tag : goal.import_case-returns-in_err-tag
-import_case-returns-in_err-tag t c = ?
+import_case-returns-in_err-tag t c =
+    let p = err_from_is_err_and c.from_residual.result c.from_residual.ensures.1 in
+    rw (p.1, p.2) (arm_case-refused c.requires refl c.word-limit.result c.word-limit.ensures.0 c.in_err-tag.field-0.0 c.in_err-tag.ensures.0)
 
 pub import_case-overflow_add-place : goal.import_case-overflow_add-place
 import_case-overflow_add-place t c =
@@ -92,7 +97,8 @@ import_children-returns-in_err-u t c =
     let l = c.loop in
     let e = trees_next a.grammar.now a.lent.capacity a.lent.room a.bytes.now l.at a.step a.count l.counter (filling_of l.t) c.loop-test.true in
     let h = rw c.node_at.ensures at c.in_err-u.ensures in
-    ?
+    let p = err_from_is_err_and c.from_residual.result c.from_residual.ensures.1 in
+    rw (p.1, p.2) (remaining_refused a.grammar.now c.requires.0.table (node_at a.grammar.now l.at) (l.at + a.step) a.step (a.count - (l.counter + 1)) e l.invariant.1 h c.in_err-u.field-0.0 refl)
 
 pub import_children-overflow_add-at : goal.import_children-overflow_add-at
 import_children-overflow_add-at t c =
@@ -135,3 +141,89 @@ import_tuple_contents-import_children-requires t c =
 pub import_tuple_contents-returns : goal.import_tuple_contents-returns
 import_tuple_contents-returns t c =
     rw c.child_place-place.ensures.0 at c.import_children.ensures
+
+-- a row was claimed
+claimed : (t : ℕ) (c : import_value-After-of_word t) → Claimed c.args.lent.capacity c.args.s c.in_ok-t.t
+claimed t c = claimed-next c.args.lent.capacity c.args.s c.in_ok-t.t c.in_ok-t.ensures.0 c.in_ok-t.ensures.1
+
+-- behind it: what the reader of a value without children asks
+leaf_asked : (t : ℕ) (c : import_value-After-of_word t) → let a = c.args in (c.in_ok-t.t.at ≤ length a.bytes.now) × (length a.bytes.now ≤ 1048576) × (c.in_ok-t.t.size ≤ most_size)
+leaf_asked t c =
+    let r = ready-claimed c.args.s c.in_ok-t.t c.requires.1 (claimed t c) in
+    (r.inside, r.short, omega (arith, r.sized, r.inside, r.short, r.few, r.most))
+
+-- and of a parent, its row claimed
+parent_asked : (t : ℕ) (c : import_value-After-of_word t) {k : Kind} → let a = c.args in let u = c.in_ok-t.t in kind_of (kind_word a.grammar.now a.node) ≡ k → (4 * (a.lent.capacity - u.begun) + 3 < t) × RowClaimed a.grammar.now a.bytes.now a.rows.now a.store.now a.node k a.s.begun a.lent u
+parent_asked t c e =
+    let a = c.args in
+    let q = claimed t c in
+    (omega (arith, c.decreases, q.begun, q.free), record { node = c.requires.0; kind = e; ready = ready-claimed a.s c.in_ok-t.t c.requires.1 q; claimed = q.begun; sized = omega (arith, q.at, q.size, c.requires.1.sized) })
+
+-- what a reader brings, the value brings
+brought : (t : ℕ) (c : import_value-After-of_word t) {r : CodeStep} {rows₁ store₁ : List ℕ} → let a = c.args in let u = c.in_ok-t.t in let g = tree_of a.grammar.now a.node in Brings rows_in store_of SizeOfV (import_body a.lent.capacity a.lent.room a.bytes.now g (filling_of u)) a.s.begun u.used u.size a.rows.now a.store.now r rows₁ store₁ → Brings rows_in store_of SizeOfV (import_val a.lent.capacity a.lent.room a.bytes.now g (filling_of a.s)) a.s.begun a.s.used a.s.size a.rows.now a.store.now r rows₁ store₁
+brought t c h =
+    let a = c.args in
+    arm_body a.lent.capacity a.lent.room a.bytes.now (tree_of a.grammar.now a.node) a.s c.in_ok-t.t (claimed t c) h
+
+-- of a value without children, by its kind
+leaf_brought : (t : ℕ) (c : import_value-After-of_word t) {k : Kind} {r : CodeStep} {rows₁ store₁ : List ℕ} → let a = c.args in kind_of (kind_word a.grammar.now a.node) ≡ k → let u = c.in_ok-t.t in let gs = child_trees a.grammar.now (tree_of a.grammar.now) (first_word a.grammar.now a.node) (count_word a.grammar.now a.node) in Brings rows_in store_of SizeOfV (import_body a.lent.capacity a.lent.room a.bytes.now (node_tree k gs) (filling_of u)) a.s.begun u.used u.size a.rows.now a.store.now r rows₁ store₁ → Brings rows_in store_of SizeOfV (import_val a.lent.capacity a.lent.room a.bytes.now (tree_of a.grammar.now a.node) (filling_of a.s)) a.s.begun a.s.used a.s.size a.rows.now a.store.now r rows₁ store₁
+leaf_brought t c {k} e h = brought t c (rw (kind_tree c.args.grammar.now c.args.node c.requires.0, e) h)
+
+pub import_value-import_number-requires : goal.import_value-import_number-requires
+import_value-import_number-requires t c = leaf_asked t (goal.at.import_value-import_number-requires t c).After-of_word
+
+pub import_value-import_elements-requires : goal.import_value-import_elements-requires
+import_value-import_elements-requires t c = leaf_asked t (goal.at.import_value-import_elements-requires t c).After-of_word
+
+pub import_value-import_array-requires : goal.import_value-import_array-requires
+import_value-import_array-requires t c =
+    parent_asked t (goal.at.import_value-import_array-requires t c).After-of_word (sym (rw (c.in-Some-Array.field-0-is, c.word.ensures.0) at c.in-Some-Array.ensures))
+
+pub import_value-import_tuple-requires : goal.import_value-import_tuple-requires
+import_value-import_tuple-requires t c =
+    parent_asked t (goal.at.import_value-import_tuple-requires t c).After-of_word (sym (rw (c.in-Some-Tuple.field-0-is, c.word.ensures.0) at c.in-Some-Tuple.ensures))
+
+pub import_value-import_case-requires : goal.import_value-import_case-requires
+import_value-import_case-requires t c =
+    parent_asked t (goal.at.import_value-import_case-requires t c).After-of_word (sym (rw (c.in-Some-Union.field-0-is, c.word.ensures.0) at c.in-Some-Union.ensures))
+
+pub import_value-refuse_kind-requires : goal.import_value-refuse_kind-requires
+import_value-refuse_kind-requires t c = omega (arith, (node-few c.args.grammar.now c.args.node c.requires.0).0)
+
+pub import_value-returns-in_err-t : goal.import_value-returns-in_err-t
+import_value-returns-in_err-t t c =
+    let a = c.args in
+    let p = err_from_is_err_and c.from_residual.result c.from_residual.ensures.1 in
+    rw (p.1, p.2) (arm_refused a.lent.capacity a.lent.room a.bytes.now (tree_of a.grammar.now a.node) a.s c.in_err-t.field-0.0 c.in_err-t.ensures.0)
+
+pub import_value-returns-in-Some-Constant : goal.import_value-returns-in-Some-Constant
+import_value-returns-in-Some-Constant t c =
+    let a = c.args in
+    leaf_brought t (goal.at.import_value-returns-in-Some-Constant t c).After-of_word (sym (rw (c.in-Some-Constant.field-0-is, c.word.ensures.0) at c.in-Some-Constant.ensures))
+    (arm_constant a.lent.capacity a.lent.room a.bytes.now c.in_ok-t.t _ c.import_constant.ensures.0 c.import_constant.ensures.1)
+
+pub import_value-returns-in-Some-Number : goal.import_value-returns-in-Some-Number
+import_value-returns-in-Some-Number t c =
+    let a = c.args in
+    leaf_brought t (goal.at.import_value-returns-in-Some-Number t c).After-of_word (sym (rw (c.in-Some-Number.field-0-is, c.word.ensures.0) at c.in-Some-Number.ensures))
+    (arm_number a.lent.capacity a.lent.room a.bytes.now c.in_ok-t.t _ (number_named c.in-Some-Number.number) (c.import_number.ensures a.store.now))
+
+pub import_value-returns-in-Some-Elements : goal.import_value-returns-in-Some-Elements
+import_value-returns-in-Some-Elements t c =
+    let a = c.args in
+    leaf_brought t (goal.at.import_value-returns-in-Some-Elements t c).After-of_word (sym (rw (c.in-Some-Elements.field-0-is, c.word.ensures.0) at c.in-Some-Elements.ensures))
+    (arm_elements a.lent.capacity a.lent.room a.bytes.now c.in_ok-t.t _ (elements_named c.in-Some-Elements.elements) c.import_elements.ensures)
+
+pub import_value-returns-in-Some-Array : goal.import_value-returns-in-Some-Array
+import_value-returns-in-Some-Array t c = brought t (goal.at.import_value-returns-in-Some-Array t c).After-of_word c.import_array.ensures
+
+pub import_value-returns-in-Some-Tuple : goal.import_value-returns-in-Some-Tuple
+import_value-returns-in-Some-Tuple t c = brought t (goal.at.import_value-returns-in-Some-Tuple t c).After-of_word c.import_tuple.ensures
+
+pub import_value-returns-in-Some-Union : goal.import_value-returns-in-Some-Union
+import_value-returns-in-Some-Union t c = brought t (goal.at.import_value-returns-in-Some-Union t c).After-of_word c.import_case.ensures
+
+pub import_value-returns-in-None : goal.import_value-returns-in-None
+import_value-returns-in-None t c =
+    let n = c.requires.0 in
+    absurd (node-named c.args.grammar.now n.table.passes c.args.node n.below (sym (rw c.word.ensures.0 at c.in-None.ensures)))

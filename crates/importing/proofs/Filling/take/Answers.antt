@@ -1,4 +1,5 @@
 use Rattle.std.proofs.Common.{arith, refl}
+use Rattle.std.proofs.lemmas.Result.{err_from_is_err_and}
 use Rattle.importing.specs.Meaning.{filling_of}
 use Rattle.importing.proofs.Laws.{take-unpacked, unpacked-fits, unpacked-below}
 use Rattle.importing.proofs.Filling.take.Goals as goal
@@ -8,6 +9,12 @@ move_on-requires g c =
     let a = c.args in
     let h = unpacked-fits a.bytes.now g.T.PackedInt.WIDTH (filling_of a.self) c.in_ok-n.ensures in
     omega (arith, h, c.WIDTH.ensures, c.requires)
+
+pub returns-in_err-n : goal.returns-in_err-n
+returns-in_err-n g c =
+    let a = c.args in
+    let p = err_from_is_err_and c.from_residual.result c.from_residual.ensures.1 in
+    rw (p.1, p.2) (take-unpacked a.bytes.now g.T.PackedInt.WIDTH (filling_of a.self) c.requires.0 _ c.in_err-n.ensures, tt, tt)
 
 pub returns : goal.returns
 returns g c =

@@ -1,7 +1,14 @@
 use Rattle.std.proofs.Common.{arith, refl}
+use Rattle.std.proofs.lemmas.Result.{err_from_is_err_and}
 use Rattle.importing.specs.Meaning.{filling_of}
 use Rattle.importing.proofs.Laws.{below-refused, below-number, below_limit}
 use Rattle.importing.proofs.Filling.take_below.Goals as goal
+
+pub returns-in_err-n : goal.returns-in_err-n
+returns-in_err-n c =
+    let a = c.args in
+    let p = err_from_is_err_and c.from_residual.result c.from_residual.ensures.1 in
+    rw (p.1, p.2) (below-refused a.bytes.now a.limit a.number (filling_of a.self) c.in_err-n.ensures.0, tt)
 
 pub returns-then-n-limit : goal.returns-then-n-limit
 returns-then-n-limit c =
