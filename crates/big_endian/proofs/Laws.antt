@@ -1,12 +1,8 @@
 -- The laws of bytes most byte first, once for every width, from those of PackedInts.
-use mathlib.Core.Path.{◌≡◌, refl, ap, sym, ◌∙◌}
-use mathlib.Core.List.{List, [], ◌∷◌, ◌++◌, append_assoc, reverse, reverse_aux, reverse-reverse}
-use Prim.Native.Nat.{ℕ, zero, suc, ◌+◌, ◌-◌, ◌*◌, ◌/◌, ◌^◌, ◌<◌, ◌≤◌, suc-le-suc}
-use native.Mathlib.Nat.{mul-suc, mul-zero, add_comm, mod-eq_of_lt, le_refl, div-one}
-use native.Mathlib.Omega.{arith}
-use lib.ListN.{length, take, drop, length-append, length-drop, length-reverse}
-use lib.Dec.{lit<}
-use lib.Seq.{take_all, take-take, take-nil, take-add, take_at, drop_at, take-length, length-take-le}
+use Rattle.std.proofs.Common.{◌≡◌, refl, ap, sym, ◌∙◌, List, [], ◌∷◌, ◌++◌, append_assoc, reverse, ℕ, zero, suc, ◌+◌, ◌-◌, ◌*◌, ◌/◌, ◌^◌, ◌<◌, ◌≤◌, suc-le-suc, mul-suc, mul-zero, add_comm, mod-eq_of_lt, le_refl, div-one, arith, length, take, drop, length-append, length-drop, lit<, take_all, take-take, take-add, take_at, drop_at, length-take-le}
+use Rattle.std.proofs.Math.ListN.{length-reverse}
+use Rattle.std.proofs.Math.Seq.{take-nil, take-length}
+use mathlib.Core.List.{reverse_aux, reverse-reverse}
 use Rattle.packed.specs.Packed.{Bytes, Below, unpack_little_endian, pack_little_endian, pack_little_endian_seq}
 use Rattle.packed.proofs.Laws.{bytes_take, bytes_drop, unpack_below, length_pack, pack_bytes, unpack_packed, pack_unpack}
 use Rattle.big_endian.specs.BigEndian.{pack_big_endian, unpack_big_endian, pack_big_endian_seq, unpack_big_endian_seq, reverse_each}

@@ -64,6 +64,11 @@ module _ (out : List ℕ) (index : ℕ) (bs : List ℕ) (size : ℕ) (l : length
   fills_put h f =
       f.buffer ∙ ap (λ (x : Outcome Reason (Unit {0})). contents (map (λ _. put out index bs) x) out) (sym (room-all (length out) index (length bs) (omega arith)))
 
+  -- and the call answers that it is done
+  pub fills_answers : index + size ≤ length out → {o : Outcome Reason (Unit {0})} {exit : List ℕ} → Fills (put_at out index bs) o out exit → o ≡ accepted tt
+  fills_answers h f =
+      f.answers ∙ ap (λ (x : Outcome Reason (Unit {0})). map (λ _. tt) (map (λ _. put out index bs) x)) (sym (room-all (length out) index (length bs) (omega arith)))
+
 -- a loop has packed all i numbers, which have room
 module _ (w : ℕ) (numbers out : List ℕ) (index : ℕ) where
   pub pack_seq_accepted : {exit : List ℕ} (i : ℕ) → i ≡ length numbers → PackedTo w numbers out index i exit → accepted tt ≡ room (length out) index (w * length numbers) → Fills (put_at out index (pack_little_endian_seq w numbers)) (accepted tt) out exit

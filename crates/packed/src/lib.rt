@@ -2,10 +2,10 @@
 // its packers ask first: whether there is room.
 #![tactic(auto)]
 
-ghost use Rattle.std.specs.Prelude.{ℕ, ◌≡◌, ◌+◌, ◌*◌, ◌%◌, ◌^◌, ◌≤◌, ◌<◌, length, leb};
+ghost use Rattle.std.specs.Prelude.{ℕ, ◌≡◌, ◌+◌, ◌*◌, ◌%◌, ◌^◌, ◌≤◌, ◌<◌, length, reverse, leb};
 ghost use Rattle.refusal.specs.Outcome.{Fills, map};
 ghost use Rattle.refusal.specs.Meaning.{outcome_of};
-ghost use Rattle.packed.specs.Packed.{present as present_of, room as room_of, unpack_at, unpack_seq_at};
+ghost use Rattle.packed.specs.Packed.{present as present_of, room as room_of, unpack_little_endian, pack_little_endian, unpack_at, unpack_seq_at};
 ghost use Rattle.packed.specs.Steps.{Summed};
 ghost use Rattle.std.proofs.Common.{rules};
 ghost use Rattle.std.specs.Prelude.{map as map_list};
@@ -28,6 +28,10 @@ pub trait PackedInt: Copy {
     fn to_u64(self) -> u64
         ensures { result ≡ number self };
 
+    // The number with its bytes turned round.
+    fn swap_bytes(self) -> Self
+        ensures { number result ≡ unpack_little_endian WIDTH (reverse (pack_little_endian WIDTH (number self))) };
+
     ghost width_within: { (1 ≤ WIDTH) × (WIDTH ≤ 8) };
 }
 
@@ -46,6 +50,10 @@ impl PackedInt for u32 {
         u64::from(self)
     }
 
+    fn swap_bytes(self) -> u32 {
+        u32::swap_bytes(self)
+    }
+
     ghost width_within = { Prim.search rules };
 }
 
@@ -62,6 +70,10 @@ impl PackedInt for u64 {
 
     fn to_u64(self) -> u64 {
         self
+    }
+
+    fn swap_bytes(self) -> u64 {
+        u64::swap_bytes(self)
     }
 
     ghost width_within = { Prim.search rules };

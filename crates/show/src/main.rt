@@ -27,8 +27,7 @@ fn read_full(rt: &HostRuntime, buffer: &mut [u8]) -> usize
 
 fn main(rt: HostRuntime) -> io::Result<()> {
     let mut input = [0u8; input::MOST_INPUT + 1];
-    let mut out = [0u8; text::MOST_TEXT];
     let len = read_full(&rt, &mut input);
-    let size = text::show(&input[..len], &mut out);
-    rt.write_all(&out[..size])
+    let text = text::show(&input[..len]);
+    rt.write_all(text.as_bytes())
 }

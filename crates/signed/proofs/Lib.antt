@@ -1,3 +1,2 @@
 pub mod Laws
 pub mod Rule
-pub mod Meaning

@@ -12,25 +12,26 @@ use borrow.Author.Tests.{eq-eqb, ne_eqb, le-ltb}
 use Rattle.refusal.specs.Outcome.{Outcome, accepted, refused, bind, Reason, reason, row}
 use Rattle.refusal.specs.Meaning.{outcome_of}
 use Rattle.refusal.specs.declared.Refusal.{Refusal}
-use Rattle.refusal.specs.declared.Answer.{Answer}
-use Rattle.refusal.specs.declared.Answer.TheVariants.{Accepted, Refused}
+use Rattle.std.specs.Prelude.{Result, Ok, Err, Some}
+use Rattle.value.specs.declared.Kind.{Kind as CodeKind}
+use Rattle.value.specs.declared.Kind.TheVariants as Code
+use Rattle.value.specs.declared.Number.TheVariants as Numbers
+use Rattle.value.specs.declared.Elements.TheVariants as Widths
+use Rattle.value.specs.Meaning.{kind_named, kind_word as code_word}
 use Rattle.refusal.proofs.Outcome.{test-true}
-use Rattle.refusal.proofs.Tests.{NoneBelow, none_below, reflects_eqb, reflects_ltb, reflects_and}
-use Rattle.refusal.proofs.Meaning.{done, stopped}
-use Rattle.value.specs.Kinds.{number_kind, elements_kind, Number, uint32, uint64, int32, int64, Elements, bytes, uint32s, uint64s, Kind, constant, number, array, tuple, elements, union, other, kinds, last_kind, kind_of}
+use Rattle.refusal.proofs.Tests.{reflects_eqb, reflects_ltb, reflects_and}
+use Rattle.value.specs.Kinds.{number_kind, elements_kind, Number, uint32, uint64, int32, int64, Elements, bytes, uint32s, uint64s, Kind, constant, number, array, tuple, elements, union, other, kinds, kind_of}
 use Rattle.value.proofs.KindLaws.{is_parent}
 use Rattle.value.specs.Tree.{G, Gs, Val, Vals, VConstant, VNumber, VArray, VTuple, VNumberArray, VCase, vnil, vcons, seq_g, seq_v, case_at, row_count, row_counts}
 use Rattle.tables.specs.Grammar.{node_count, kind_word, first_word, count_word, child_word}
 use Rattle.grammar.specs.Rule.{Passes}
 use Rattle.grammar.specs.Tree.{node_tree, child_trees, tree_of}
-use Rattle.grammar.specs.Check.{is_named}
-use Rattle.grammar.proofs.Laws.{reflects_kind}
-use Rattle.grammar.proofs.Rule.{node-inside, child_inside}
+use Rattle.grammar.proofs.Rule.{node-inside, node-named, child_inside}
 use Rattle.grammar.proofs.Tree.{tree_node, trees_length, trees_at_lem}
 use Rattle.tables.specs.Row.{row_width, Row, row_at}
 use Rattle.rows.specs.Layout.{own_row}
 use Rattle.rows.specs.Rule.{StandFor, StandForAll}
-use Rattle.rows.proofs.Rule.{word_of, kind-word, own_row_lem, row-span}
+use Rattle.rows.proofs.Rule.{word_of, kind-word, class_word, own_row_lem, row-span}
 use Rattle.sizing.specs.InGrammar.{kind_number, element_grammar, part_grammars, at15, check_in_grammar, check_all_in_grammar, check_each_in_grammar}
 use Rattle.sizing.specs.Checks.{Standing, StandingAll, Checks, ChecksAll}
 
@@ -46,11 +47,39 @@ class_kind (elements k) gs h = refl
 class_kind union gs h = refl
 class_kind other gs h = absurd (h refl)
 
-node-kind : (w : ℕ) (gs : Gs) → w ≤ last_kind → kind_number (node_tree (kind_of w) gs) ≡ w
-node-kind w gs h = class_kind (kind_of w) gs named ∙ sym (kind-word w named)
+-- the kind word in an arm of a match on its kind
+pub arm-word : (w : ℕ) {k q : CodeKind} → kind_named (Some k) ≡ kind_of w → k ≡ q → w ≡ code_word q
+arm-word w {q = q} h e = go q (rw e at h)
   where
-    named : kind_of w ≡ other → ⊥
-    named e = let t : is_named other ≡ true = sym (ap is_named e) ∙ (reflects_kind w).0 h in let z : ◌≡◌ {A = ℕ} 0 1 = cc in omega arith
+    go : (q : CodeKind) → kind_named (Some q) ≡ kind_of w → w ≡ code_word q
+    go Code.Constant h = class_word w (λ o. cc) (sym h)
+    go (Code.Number n) h = class_word w (λ o. cc) (sym h)
+    go Code.Array h = class_word w (λ o. cc) (sym h)
+    go Code.Tuple h = class_word w (λ o. cc) (sym h)
+    go (Code.Elements e) h = class_word w (λ o. cc) (sym h)
+    go Code.Union h = class_word w (λ o. cc) (sym h)
+
+-- the kinds whose values have no children
+abbrev pub is_leaf : CodeKind → Bool
+is_leaf Code.Constant = true
+is_leaf (Code.Number n) = true
+is_leaf Code.Array = false
+is_leaf Code.Tuple = false
+is_leaf (Code.Elements e) = true
+is_leaf Code.Union = false
+
+leaf-word : (k : CodeKind) → is_leaf k ≡ true → is_parent (code_word k) ≡ false
+leaf-word Code.Constant h = refl
+leaf-word (Code.Number Numbers.Uint32) h = refl
+leaf-word (Code.Number Numbers.Uint64) h = refl
+leaf-word (Code.Number Numbers.Int32) h = refl
+leaf-word (Code.Number Numbers.Int64) h = refl
+leaf-word Code.Array h = cc
+leaf-word Code.Tuple h = cc
+leaf-word (Code.Elements Widths.Bytes) h = refl
+leaf-word (Code.Elements Widths.Uint32s) h = refl
+leaf-word (Code.Elements Widths.Uint64s) h = refl
+leaf-word Code.Union h = cc
 
 -- a kind word whose children are fields or cases
 abbrev pub Parted : ℕ → Type 0
@@ -70,7 +99,7 @@ module _ (g : List ℕ) (p : Passes g) (k : ℕ) (b : k < node_count g) where
 
   pub tree_kind : kind_number (tree_of g k) ≡ kind_word g k
   unfolding children
-  tree_kind = ap kind_number (tree_node g p k b) ∙ node-kind (kind_word g k) children (node-inside g p k b).2
+  tree_kind = ap kind_number (tree_node g p k b) ∙ class_kind (kind_of (kind_word g k)) children (node-named g p k b) ∙ sym (kind-word (kind_word g k) (node-named g p k b))
 
   by_word : (w : ℕ) → kind_word g k ≡ w → tree_of g k ≡ node_tree (kind_of w) children
   unfolding children
@@ -101,10 +130,6 @@ module _ (g : List ℕ) (p : Passes g) (k : ℕ) (b : k < node_count g) where
   -- a child's number is above its node's
   pub child_above : (i : ℕ) → i < count_word g k → {c : ℕ} → c ≡ child_word g (first_word g k + i) → (k < c) × (c < node_count g) × (c < 256)
   child_above i l e = let x = child_inside g p k b i l in (omega (arith, x.4.0), omega (arith, x.4.1), omega (arith, x.2, x.4.1))
-
--- the last arm of a match on the kinds is not reached
-pub not_named : (w : ℕ) → NoneBelow (suc last_kind) w → w ≤ last_kind → ⊥
-not_named w r h = omega (arith, none_below (suc last_kind) w r)
 
 -- ---- a value by its own row
 
@@ -170,9 +195,9 @@ module _ (t s : List ℕ) (i : ℕ) (g : G) (v : Val) (h : StandFor t s i v) whe
       go (VCase c u) n = rw (ne_eqb (kind_number g) 8 (λ e. n (sym e)))
 
   -- a kind without children
-  pub arm_leaf : (row_at t i).kind ≡ kind_number g → is_parent (row_at t i).kind ≡ false → accepted tt ≡ check_in_grammar v g i
+  pub arm_leaf : (k : CodeKind) → is_leaf k ≡ true → (row_at t i).kind ≡ code_word k → kind_number g ≡ code_word k → accepted tt ≡ check_in_grammar v g i
   unfolding own_row check_in_grammar
-  arm_leaf k n = go v (sym k ∙ own) (sym (ap is_parent own) ∙ n)
+  arm_leaf k n e q = go v (q ∙ sym e ∙ own) (sym (ap is_parent (sym e ∙ own)) ∙ leaf-word k n)
     where
       own : (row_at t i).kind ≡ (own_row v (row_at t i).word3).kind
       own = ap (λ (r : Row). r.kind) (own_row_lem t s v i h)
@@ -185,7 +210,7 @@ module _ (t s : List ℕ) (i : ℕ) (g : G) (v : Val) (h : StandFor t s i v) whe
       go (VNumberArray k ns) e n = rw (eq-eqb (kind_number g) (elements_kind k) e)
       go (VCase c u) e n = let z : ◌≡◌ {A = ℕ} 0 1 = cc in absurd (omega arith)
 
-  pub arm_array : {n : ℕ} {e : G} → (row_at t i).kind ≡ 3 → kind_number g ≡ 3 → (row_at t i).word2 ≡ n → element_grammar g ≡ e → (r : Answer) → ChecksAll t n (i + 1) (λ vs. check_all_in_grammar vs e (i + 1)) r → outcome_of r ≡ check_in_grammar v g i
+  pub arm_array : {n : ℕ} {e : G} → (row_at t i).kind ≡ 3 → kind_number g ≡ 3 → (row_at t i).word2 ≡ n → element_grammar g ≡ e → (r : Result (Unit {0}) Refusal) → ChecksAll t n (i + 1) (λ vs. check_all_in_grammar vs e (i + 1)) r → outcome_of r ≡ check_in_grammar v g i
   unfolding check_in_grammar
   arm_array {n} {e} k m w q r c =
       let x = is-array t s i v h k in
@@ -203,7 +228,7 @@ module _ (t s : List ℕ) (i : ℕ) (g : G) (v : Val) (h : StandFor t s i v) whe
       go true = refl
       go false = refl
 
-  pub arm_tuple : {n : ℕ} {gs : Gs} → (row_at t i).kind ≡ 4 → kind_number g ≡ 4 → (row_at t i).word2 ≡ n → length (seq_g (part_grammars g)) ≡ n → part_grammars g ≡ gs → (r : Answer) → ChecksAll t n (i + 1) (λ vs. check_each_in_grammar vs gs (i + 1)) r → outcome_of r ≡ check_in_grammar v g i
+  pub arm_tuple : {n : ℕ} {gs : Gs} → (row_at t i).kind ≡ 4 → kind_number g ≡ 4 → (row_at t i).word2 ≡ n → length (seq_g (part_grammars g)) ≡ n → part_grammars g ≡ gs → (r : Result (Unit {0}) Refusal) → ChecksAll t n (i + 1) (λ vs. check_each_in_grammar vs gs (i + 1)) r → outcome_of r ≡ check_in_grammar v g i
   unfolding check_in_grammar
   arm_tuple {n} {gs} k m w l q r c =
       let x = is-tuple t s i v h k in
@@ -217,7 +242,7 @@ module _ (t s : List ℕ) (i : ℕ) (g : G) (v : Val) (h : StandFor t s i v) whe
       let x = is-case t s i v h k in
       rw (x.1, eq-eqb (kind_number g) 8 e, le-ltb (row_at t i).word2 (length (seq_g (part_grammars g))) l)
 
-  pub arm_case : {e : G} → (row_at t i).kind ≡ 8 → kind_number g ≡ 8 → (row_at t i).word2 < length (seq_g (part_grammars g)) → case_at (part_grammars g) (row_at t i).word2 ≡ e → (r : Answer) → Checks t (i + 1) e r → outcome_of r ≡ check_in_grammar v g i
+  pub arm_case : {e : G} → (row_at t i).kind ≡ 8 → kind_number g ≡ 8 → (row_at t i).word2 < length (seq_g (part_grammars g)) → case_at (part_grammars g) (row_at t i).word2 ≡ e → (r : Result (Unit {0}) Refusal) → Checks t (i + 1) e r → outcome_of r ≡ check_in_grammar v g i
   unfolding check_in_grammar
   arm_case {e} k m l q r c =
       let x = is-case t s i v h k in
@@ -292,7 +317,7 @@ module _ (t : List ℕ) (count start : ℕ) (whole : Vals → Outcome Reason (Un
   left_all s vs h m = record { values = vs; rows = h; many = m; decides = refl }
 
   module _ (left i : ℕ) (check : Vals → Outcome Reason (Unit {0})) (l : Left t count start whole left i check) where
-    pub left_none : left ≡ 0 → check vnil ≡ accepted tt → ChecksAll t count start whole Accepted
+    pub left_none : left ≡ 0 → check vnil ≡ accepted tt → ChecksAll t count start whole (Ok tt)
     left_none z e s vs h m =
         let q = l s vs h m in
         sym (ap check (none_left q.values (q.many ∙ z)) ∙ e) ∙ q.decides
@@ -309,16 +334,16 @@ module _ (t : List ℕ) (count start : ℕ) (whole : Vals → Outcome Reason (Un
           let d = rw x.2 at q.decides in
           (x.0, x.1, r.0, r.1, n, sym (e x.0 x.1) ∙ d)
 
-      pub left_stopped : {r : Answer} {f : Refusal} → r ≡ Refused f → Checks t i g r → ChecksAll t count start whole (Refused f)
-      left_stopped {r} {f} z c s vs h m =
+      pub left_stopped : (f : Refusal) → Checks t i g (Err f) → ChecksAll t count start whole (Err f)
+      left_stopped f c s vs h m =
           let x = first s vs h m in
-          ap (λ (o : Outcome Reason (Unit {0})). bind o (λ _. next (i + row_count x.0) x.1)) (stopped z (c s x.0 x.2)) ∙ x.5
+          ap (λ (o : Outcome Reason (Unit {0})). bind o (λ _. next (i + row_count x.0) x.1)) (c s x.0 x.2) ∙ x.5
 
-      pub left_next : {r : Answer} → r ≡ Accepted → Checks t i g r → Left t count start whole (left - 1) (i + (row_at t i).span) (next (i + (row_at t i).span))
-      left_next {r} z c s vs h m =
+      pub left_next : Checks t i g (Ok tt) → Left t count start whole (left - 1) (i + (row_at t i).span) (next (i + (row_at t i).span))
+      left_next c s vs h m =
           let x = first s vs h m in
           let n : (row_at t i).span ≡ row_count x.0 = row-span t s x.0 i x.2 in
-          rw n (record { values = x.1; rows = x.3; many = omega (arith, x.4); decides = ap (λ (o : Outcome Reason (Unit {0})). bind o (λ _. next (i + row_count x.0) x.1)) (done z (c s x.0 x.2)) ∙ x.5 })
+          rw n (record { values = x.1; rows = x.3; many = omega (arith, x.4); decides = ap (λ (o : Outcome Reason (Unit {0})). bind o (λ _. next (i + row_count x.0) x.1)) (c s x.0 x.2) ∙ x.5 })
 
 -- what the loops step by
 pub all-step : (g : G) (i : ℕ) (v : Val) (vs : Vals) → check_all_in_grammar (vcons v vs) g i ≡ bind (check_in_grammar v g i) (λ _. check_all_in_grammar vs g (i + row_count v))

@@ -3,14 +3,11 @@ use mathlib.Core.Path.{◌≡◌, refl, ap, sym, ◌∙◌}
 use mathlib.Core.Bool.{Bool, true, false}
 use mathlib.Core.Logic.{◌↔◌}
 use mathlib.Core.List.{List}
-use Prim.Native.Nat.{ℕ, ◌+◌, ◌*◌, ◌^◌, ◌≤◌}
-use native.Mathlib.Nat.{one-mul}
+use Prim.Native.Nat.{ℕ, ◌+◌, ◌^◌, ◌≤◌}
 use native.Mathlib.Omega.{arith}
 use lib.Dec.{leb}
 use borrow.Author.Tests.{le-leb, leb-true}
 use Rattle.refusal.specs.Outcome.{Outcome, accepted, refused, bind, test, map, Reason, reason, row}
-use Rattle.refusal.specs.Meaning.{reason_of}
-use Rattle.refusal.specs.declared.Refusal.{Refusal}
 use Rattle.refusal.proofs.Outcome.{clash, bind_inverse, map-map, map-accepted, map-refused, test-true, test_passed}
 use Rattle.packed.specs.Packed.{Bytes, Below, room}
 use Rattle.packed.proofs.Calls.{room-all, room_fits}
@@ -20,20 +17,11 @@ use Rattle.grammar.specs.Rule.{Passes}
 use Rattle.grammar.specs.Tree.{tree_of}
 use Rattle.grammar.proofs.Rule.{accepted_exactly as grammar_exactly}
 use Rattle.rows.specs.Walk.{walk}
-use Rattle.rows.specs.Meaning.{size_of}
-use Rattle.rows.specs.declared.SizeOf.{SizeOf}
 use Rattle.rows.proofs.Calls.{Table, passed}
 use Rattle.sizing.specs.InGrammar.{check_in_grammar}
 use Rattle.sizing.specs.Checks.{Standing}
 use Rattle.sizing.specs.Writes.{value_in_grammar, check_size, value_to_write, marshall_val_of, Writes}
 use Rattle.sizing.proofs.InGrammar.{in_grammar_exactly}
-
--- what a matched answer says of the outcome that it means
-pub sized : {x : SizeOf} {n : ℕ} {o : Outcome Reason ℕ} → x ≡ SizeOf.Size n → size_of x ≡ o → accepted n ≡ o
-sized p h = ap size_of (sym p) ∙ h
-
-pub size-refused : {x : SizeOf} {r : Refusal} {o : Outcome Reason ℕ} → x ≡ SizeOf.Refused r → size_of x ≡ o → refused (reason_of r) ≡ o
-size-refused p h = ap size_of (sym p) ∙ h
 
 -- ---- the decision, as the code makes it
 
@@ -70,24 +58,19 @@ module _ (g t : List ℕ) (n : ℕ) (s : List ℕ) where
 
 -- what is decided of a value by its size, whichever rule of bytes that is
 module _ (sizeBy : Val → ℕ) where
-  -- no value, no size
-  pub size_stops : (f : Val → ℕ) (o : Outcome Reason Val) (k : Val → Outcome Reason Val) {e : Reason} → refused e ≡ map f o → refused e ≡ map sizeBy (bind o k)
-  size_stops f o k h = rw (map-refused f o (sym h))
-
-  -- 16
-  pub size-checked : (o : Outcome Reason Val) {size : ℕ} → accepted size ≡ map sizeBy o → check_size size size ≡ map sizeBy (bind o (λ v. check_size (sizeBy v) v))
-  size-checked (accepted v) {size} h = let z : size ≡ sizeBy v = cc in rw z (go (leb (sizeBy v) 1048576))
-    where
-      go : (b : Bool) → test b (reason 16 (row 0)) (λ _. accepted (sizeBy v)) ≡ map sizeBy (test b (reason 16 (row 0)) (λ _. accepted v))
-      go true = refl
-      go false = refl
-  size-checked (refused e) h = clash (sym h)
-
   module _ (len index : ℕ) where
-    -- 17, of bytes, whose width is 1
-    pub size_room : (o : Outcome Reason Val) {size : ℕ} → accepted size ≡ map sizeBy o → (x : Outcome Reason (Unit {0})) → x ≡ room len index (1 * size) → map (λ _. size) x ≡ map sizeBy (bind o (λ v. map (λ _. v) (room len index (sizeBy v))))
-    size_room (accepted v) {size} h x e = let z : size ≡ sizeBy v = cc in rw (e, one-mul, z) (sym (map-map sizeBy (λ _. v) (room len index (sizeBy v))))
-    size_room (refused r) h x e = clash (sym h)
+    -- 16, then 17
+    pub size-fits : (o : Outcome Reason Val) {size : ℕ} → accepted size ≡ map sizeBy o → bind (check_size size size) (λ n. map (λ _. n) (room len index n)) ≡ map sizeBy (bind (bind o (λ v. check_size (sizeBy v) v)) (λ v. map (λ _. v) (room len index (sizeBy v))))
+    size-fits (accepted v) {size} h = let z : size ≡ sizeBy v = cc in rw z (go (leb (sizeBy v) 1048576))
+      where
+        go : (b : Bool) → bind (test b (reason 16 (row 0)) (λ _. accepted (sizeBy v))) (λ n. map (λ _. n) (room len index n)) ≡ map sizeBy (bind (test b (reason 16 (row 0)) (λ _. accepted v)) (λ v. map (λ _. v) (room len index (sizeBy v))))
+        go true = sym (map-map sizeBy (λ _. v) (room len index (sizeBy v)))
+        go false = refl
+    size-fits (refused e) h = clash (sym h)
+
+    -- no value, no size
+    pub size_stops : (f : Val → ℕ) (o : Outcome Reason Val) {e : Reason} → refused e ≡ map f o → refused e ≡ map sizeBy (bind (bind o (λ v. check_size (sizeBy v) v)) (λ v. map (λ _. v) (room len index (sizeBy v))))
+    size_stops f o h = rw (map-refused f o (sym h))
 
     -- both are passed exactly by a value that is small and has room
     pub size-passes : (o : Outcome Reason Val) (v : Val) → o ≡ accepted v → sizeBy v ≤ 1048576 → index + sizeBy v ≤ len → bind (bind o (λ v. check_size (sizeBy v) v)) (λ v. map (λ _. v) (room len index (sizeBy v))) ≡ accepted v

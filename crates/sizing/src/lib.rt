@@ -2,67 +2,55 @@
 #![tactic(auto)]
 
 ghost use Rattle.std.specs.Prelude.{◌≡◌, ◌<◌};
-ghost use Rattle.refusal.specs.Outcome.{refused, map, reason, row as at_row};
+ghost use Rattle.refusal.specs.Outcome.{bind, map};
 ghost use Rattle.refusal.specs.Meaning.{outcome_of};
+ghost use Rattle.packed.specs.Packed.{room};
 ghost use Rattle.value.specs.Tree.{SizeOfV};
 ghost use Rattle.tables.specs.Grammar.{node_count, first_word, count_word};
 ghost use Rattle.grammar.specs.Rule.{Passes};
 ghost use Rattle.grammar.specs.Tree.{tree_of, child_trees};
 ghost use Rattle.rows.specs.Size.{AtMost};
-ghost use Rattle.rows.specs.Meaning.{size_of};
 ghost use Rattle.sizing.specs.InGrammar.{check_all_in_grammar, check_each_in_grammar};
 ghost use Rattle.sizing.specs.Checks.{Standing, StandingAll, Checks, ChecksAll};
-ghost use Rattle.sizing.specs.Writes.{value_in_grammar, check_size, value_to_write, marshall_val_of};
+ghost use Rattle.sizing.specs.Writes.{value_in_grammar, check_size, marshall_val_of};
 
-use refusal::Answer;
-use rows::SizeOf;
-
-fn not_in_grammar(row: usize) -> Answer
-    ensures { outcome_of result ≡ refused (reason 15 (at_row row)) }
-{
-    Answer::Refused(refusal::at_row(refusal::NOT_IN_GRAMMAR, row))
-}
+use refusal::Refusal;
+use value::Kind;
 
 // GM's `ValInGrammar`, of the value whose own row this is and the tree of a node: 15 at the first row of another kind, count or
 // tag. Its calls nest once for each level of the tree, of which 256 nodes have 256 at most.
 #[cycle(in_grammar_checks)]
-fn check_in_grammar(rows: &[u64], grammar: &[u32], row: usize, node: usize) -> Answer
+fn check_in_grammar(rows: &[u64], grammar: &[u32], row: usize, node: usize) -> Result<(), Refusal>
     requires { Passes grammar.now × (node < node_count grammar.now) × Standing rows.now row }
     ensures { Checks rows.now row (tree_of grammar.now node) result }
 {
     let kind = tables::kind_at(rows, row);
     let word2 = tables::word2_at(rows, row);
     let count = tables::word(grammar, 3 + 3 * node) as u64;
+    let other = refusal::at_row(refusal::NOT_IN_GRAMMAR, row);
     if kind != tables::word(grammar, 1 + 3 * node) as u64 {
-        return not_in_grammar(row);
+        return Err(other);
     }
-    match kind {
-        0 => Answer::Accepted,
-        1 => Answer::Accepted,
-        2 => Answer::Accepted,
-        3 => {
+    match Kind::of_word(kind) {
+        Some(Kind::Constant | Kind::Number(_) | Kind::Elements(_)) => Ok(()),
+        Some(Kind::Array) => {
             let element = tables::child_at(grammar, node, 0);
             check_all_in_grammar(rows, grammar, row + 1, word2, element)
         }
-        4 => {
+        Some(Kind::Tuple) => {
             if word2 != count {
-                return not_in_grammar(row);
+                return Err(other);
             }
             check_each_in_grammar(rows, grammar, row + 1, node)
         }
-        5 => Answer::Accepted,
-        6 => Answer::Accepted,
-        7 => Answer::Accepted,
-        8 => {
+        Some(Kind::Union) => {
             if count <= word2 {
-                return not_in_grammar(row);
+                return Err(other);
             }
             let case = tables::child_at(grammar, node, word2 as usize);
             check_in_grammar(rows, grammar, row + 1, case)
         }
-        9 => Answer::Accepted,
-        10 => Answer::Accepted,
-        11.. => not_in_grammar(row),
+        None => Err(other),
     }
 }
 
@@ -74,77 +62,71 @@ fn check_all_in_grammar(
     row: usize,
     count: u64,
     node: usize,
-) -> Answer
+) -> Result<(), Refusal>
     requires { Passes grammar.now × (node < node_count grammar.now) × StandingAll rows.now count row }
     ensures { ChecksAll rows.now count row (λ vs. check_all_in_grammar vs (tree_of grammar.now node) row) result }
 {
     let mut i = row;
-    let mut left = count;
-    while 0 < left {
-        if let Answer::Refused(r) = check_in_grammar(rows, grammar, i, node) {
-            return Answer::Refused(r);
-        }
+    for _ in 0..count {
+        check_in_grammar(rows, grammar, i, node)?;
         i += tables::span_at(rows, i) as usize;
-        left -= 1;
     }
-    Answer::Accepted
+    Ok(())
 }
 
 // The fields of a tuple, each against its own node.
 #[cycle(in_grammar_checks)]
-fn check_each_in_grammar(rows: &[u64], grammar: &[u32], row: usize, node: usize) -> Answer
+fn check_each_in_grammar(
+    rows: &[u64],
+    grammar: &[u32],
+    row: usize,
+    node: usize,
+) -> Result<(), Refusal>
     requires { Passes grammar.now × (node < node_count grammar.now) × StandingAll rows.now (count_word grammar.now node) row }
     ensures { ChecksAll rows.now (count_word grammar.now node) row (λ vs. check_each_in_grammar vs (child_trees grammar.now (tree_of grammar.now) (first_word grammar.now node) (count_word grammar.now node)) row) result }
 {
-    let count = tables::word(grammar, 3 + 3 * node);
     let mut i = row;
-    let mut k: usize = 0;
-    while k < count {
+    for k in 0..tables::word(grammar, 3 + 3 * node) {
         let child = tables::child_at(grammar, node, k);
-        if let Answer::Refused(r) = check_in_grammar(rows, grammar, i, child) {
-            return Answer::Refused(r);
-        }
+        check_in_grammar(rows, grammar, i, child)?;
         i += tables::span_at(rows, i) as usize;
-        k += 1;
     }
-    Answer::Accepted
+    Ok(())
 }
 
 // GM's `ComputeSizeOf` of a value of the grammar, whatever its size: 1 to 6, 12 to 14, then 15.
-pub fn size_in_grammar(grammar: &[u32], rows: &[u64], n: usize, store: &[u8]) -> SizeOf
-    ensures { (size_of result ≡ map SizeOfV (value_in_grammar grammar.now rows.now n store.now)) × AtMost 4293951488 (size_of result) }
+pub fn size_in_grammar(
+    grammar: &[u32],
+    rows: &[u64],
+    n: usize,
+    store: &[u8],
+) -> Result<u64, Refusal>
+    ensures { (outcome_of result ≡ map SizeOfV (value_in_grammar grammar.now rows.now n store.now)) × AtMost 4293951488 (outcome_of result) }
 {
-    match grammar::check_grammar(grammar) {
-        Answer::Refused(r) => SizeOf::Refused(r),
-        Answer::Accepted => match rows::compute_size_of(rows, n, store) {
-            SizeOf::Refused(r) => SizeOf::Refused(r),
-            SizeOf::Size(bytes) => match check_in_grammar(rows, grammar, 0, 0) {
-                Answer::Refused(r) => SizeOf::Refused(r),
-                Answer::Accepted => SizeOf::Size(bytes),
-            },
-        },
-    }
+    grammar::check_grammar(grammar)?;
+    let size = rows::compute_size_of(rows, n, store)?;
+    check_in_grammar(rows, grammar, 0, 0)?;
+    Ok(size)
 }
 
 // Refusal 16, of a size by any rule of bytes.
-pub fn check_size(size: u64) -> SizeOf
-    ensures { size_of result ≡ check_size size size }
+pub fn check_size(size: u64) -> Result<u64, Refusal>
+    ensures { outcome_of result ≡ check_size size size }
 {
-    if tables::MOST_BYTES < size as usize {
-        SizeOf::Refused(refusal::at_row(refusal::SIZE_TOO_LARGE, 0))
-    } else {
-        SizeOf::Size(size)
-    }
+    refusal::accept_if(
+        size <= tables::MOST_BYTES as u64,
+        refusal::at_row(refusal::SIZE_TOO_LARGE, 0),
+    )?;
+    Ok(size)
 }
 
-// GM's `ComputeSizeOf` of a value that may be written: 1 to 6, 12 to 14, 15, then 16.
-fn size_of_value(grammar: &[u32], rows: &[u64], n: usize, store: &[u8]) -> SizeOf
-    ensures { size_of result ≡ map SizeOfV (value_to_write grammar.now rows.now n store.now) }
+// Refusal 16, then 17 where an output of len bytes has no room for so many at the index.
+pub fn check_room(size: u64, len: usize, index: usize) -> Result<u64, Refusal>
+    ensures { outcome_of result ≡ bind (check_size size size) (λ n. map (λ _. n) (room len index n)) }
 {
-    match size_in_grammar(grammar, rows, n, store) {
-        SizeOf::Refused(r) => SizeOf::Refused(r),
-        SizeOf::Size(size) => check_size(size),
-    }
+    check_size(size)?;
+    packed::room(len, index, size as usize, 1)?;
+    Ok(size)
 }
 
 // What the writers answer, without writing: the size, or the first refusal, 17 last.
@@ -155,14 +137,9 @@ pub fn size_to_write(
     store: &[u8],
     len: usize,
     index: usize,
-) -> SizeOf
-    ensures { size_of result ≡ map SizeOfV (marshall_val_of grammar.now rows.now n store.now len index) }
+) -> Result<u64, Refusal>
+    ensures { outcome_of result ≡ map SizeOfV (marshall_val_of grammar.now rows.now n store.now len index) }
 {
-    match size_of_value(grammar, rows, n, store) {
-        SizeOf::Refused(r) => SizeOf::Refused(r),
-        SizeOf::Size(size) => match packed::room(len, index, size as usize, 1) {
-            Answer::Refused(r) => SizeOf::Refused(r),
-            Answer::Accepted => SizeOf::Size(size),
-        },
-    }
+    let size = size_in_grammar(grammar, rows, n, store)?;
+    check_room(size, len, index)
 }

@@ -1,8 +1,5 @@
 -- Texts by computation: case A of document 01 and without its last byte, and inputs that are not laid out.
-use mathlib.Core.Path.{◌≡◌, refl}
-use mathlib.Core.List.{List, [], ◌∷◌, ◌++◌, map}
-use Prim.Native.Nat.{ℕ}
-use lib.ListN.{take}
+use Rattle.std.proofs.Common.{◌≡◌, refl, List, [], ◌∷◌, ◌++◌, map, ℕ, take}
 use Rattle.packed.specs.Packed.{unpack_little_endian, unpack_little_endian_seq, pack_little_endian, pack_little_endian_seq}
 use Rattle.value.specs.Kinds.{kinds, kind_of}
 use Rattle.value.specs.Tree.{SizeOfV, row_count}
@@ -13,7 +10,7 @@ use Rattle.grammar.specs.Tree.{node_tree, child_trees, tree_to, tree_of}
 use Rattle.rows.specs.Layout.{own_row, rows_of}
 use Rattle.reading.specs.Calls.{demarshall_of}
 use Rattle.text.specs.Digits.{digits_within, digits}
-use Rattle.text.specs.Text.{numeral, line, lines_of, rows_text, place_text, refusal_text}
+use Rattle.text.specs.Text.{lines_of}
 use Rattle.input.specs.Input.{count_at, record_after, layout_of}
 use Rattle.text.specs.Show.{read_input, shown}
 
@@ -33,5 +30,5 @@ pub texts : map (λ input. shown (read_input input)) (input_a 13 14 ∷ input_a 
     ∷ (114 ∷ 101 ∷ 102 ∷ 117 ∷ 115 ∷ 101 ∷ 100 ∷ 32 ∷ 57 ∷ 32 ∷ 98 ∷ 121 ∷ 116 ∷ 101 ∷ 32 ∷ 52 ∷ 10 ∷ [])
     ∷ (114 ∷ 101 ∷ 102 ∷ 117 ∷ 115 ∷ 101 ∷ 100 ∷ 32 ∷ 49 ∷ 57 ∷ 32 ∷ 98 ∷ 121 ∷ 116 ∷ 101 ∷ 32 ∷ 55 ∷ 52 ∷ 10 ∷ [])
     ∷ []
-unfolding shown rows_text refusal_text place_text lines_of line numeral digits digits_within read_input layout_of count_at record_after unpack_little_endian unpack_little_endian_seq pack_little_endian pack_little_endian_seq demarshall_of check_grammar check_layout check_nodes check_node check_children kind_of kinds tree_of tree_to child_trees node_tree read_whole read_body claim take_number take_numbers elements rows_of own_row row_count SizeOfV
+unfolding shown lines_of digits digits_within read_input layout_of count_at record_after unpack_little_endian unpack_little_endian_seq pack_little_endian pack_little_endian_seq demarshall_of check_grammar check_layout check_nodes check_node check_children kind_of kinds tree_of tree_to child_trees node_tree read_whole read_body claim take_number take_numbers elements rows_of own_row row_count SizeOfV
 texts = refl

@@ -1,5 +1,4 @@
 pub mod Digits
-pub mod Puts
 pub mod Lines
 pub mod Read
 pub mod Made

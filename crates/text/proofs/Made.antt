@@ -1,15 +1,12 @@
 -- An input made of grammar words and a record.
-use mathlib.Core.Path.{◌≡◌, refl, ap, sym, ◌∙◌}
-use mathlib.Core.List.{List, [], ◌++◌, append_assoc, append-nil}
-use Prim.Native.Nat.{ℕ, ◌+◌, ◌*◌, ◌^◌, ◌≤◌}
-use native.Mathlib.Omega.{arith}
-use lib.ListN.{length, take, drop, length-append}
-use lib.Seq.{take_at, drop_at, drop-drop, take-length}
+use Rattle.std.proofs.Common.{◌≡◌, refl, ap, sym, ◌∙◌, List, [], ◌++◌, append_assoc, append-nil, ℕ, ◌+◌, ◌*◌, ◌^◌, ◌≤◌, arith, length, take, drop, length-append, take_at, drop_at, drop-drop}
+use Rattle.std.proofs.Math.Seq.{take-length}
 use Rattle.refusal.specs.Outcome.{Outcome, accepted, bind, Reason}
 use Rattle.packed.specs.Packed.{Below, unpack_little_endian, unpack_little_endian_seq, pack_little_endian, pack_little_endian_seq}
 use Rattle.packed.proofs.Laws.{length_pack, unpack_packed, length_pack_seq, unpack_seq_pack_seq}
 use Rattle.reading.specs.Calls.{demarshall_of}
-use Rattle.input.specs.Input.{Parts, most_input, most_words, layout_of, grammar_of, record_of}
+use Rattle.input.specs.declared.Layout.{Layout}
+use Rattle.input.specs.Input.{most_input, most_words, layout_of, grammar_of, record_of}
 use Rattle.text.specs.Show.{most_rows, read_input}
 use Rattle.input.proofs.Input.{layout_exactly}
 
@@ -17,7 +14,7 @@ use Rattle.input.proofs.Input.{layout_exactly}
 abbrev pub input_of : List ℕ → List ℕ → List ℕ
 input_of ws d = pack_little_endian 4 (length ws) ++ (pack_little_endian_seq 4 ws ++ (pack_little_endian 4 (length d) ++ d))
 
-abbrev pub parts_made : List ℕ → List ℕ → Parts
+abbrev pub parts_made : List ℕ → List ℕ → Layout
 parts_made ws d = record { words = length ws; start = 8 + 4 * length ws; size = length d }
 
 -- it is accepted, and they are its words and its record
@@ -66,6 +63,6 @@ module _ (ws d : List ℕ) (below : Below (2 ^ 32) ws) (few : length ws ≤ most
   pub made-read : length (input_of ws d) ≤ most_input → read_input (input_of ws d) ≡ demarshall_of ws d most_rows
   unfolding read_input
   made-read h =
-      ap (λ (o : Outcome Reason Parts). bind o (λ p. demarshall_of (grammar_of (input_of ws d) p) (record_of (input_of ws d) p) most_rows)) (made-accepted h)
+      ap (λ (o : Outcome Reason Layout). bind o (λ p. demarshall_of (grammar_of (input_of ws d) p) (record_of (input_of ws d) p) most_rows)) (made-accepted h)
       ∙ ap (λ (g : List ℕ). demarshall_of g (record_of (input_of ws d) (parts_made ws d)) most_rows) made-words
       ∙ ap (λ (x : List ℕ). demarshall_of ws x most_rows) made_record

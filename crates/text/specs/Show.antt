@@ -1,13 +1,10 @@
 -- The whole of the program between reading and writing: which text an input gives.
-use Rattle.std.specs.Prelude.{List, ℕ, ◌≤◌}
+use Rattle.std.specs.Prelude.{List, ℕ}
 use Rattle.refusal.specs.Outcome.{Outcome, accepted, refused, bind, Reason}
-use Rattle.refusal.specs.Meaning.{reason_of}
 use Rattle.value.specs.Tree.{Val}
 use Rattle.value.specs.Step.{Step}
 use Rattle.value.specs.Reading.{State}
 use Rattle.rows.specs.Layout.{rows_of}
-use Rattle.reading.specs.declared.Parsed.{Parsed}
-use Rattle.reading.specs.declared.Parsed.TheVariants as P
 use Rattle.reading.specs.Calls.{demarshall_of}
 use Rattle.text.specs.Text.{rows_text, refusal_text}
 use Rattle.input.specs.Input.{layout_of, grammar_of, record_of}
@@ -24,13 +21,3 @@ read_input input = bind (layout_of input) (λ p. demarshall_of (grammar_of input
 unfoldable pub shown : Outcome Reason (Step State Val) → List ℕ
 shown (accepted t) = rows_text (rows_of t.value 0) t.state.begun
 shown (refused r) = refusal_text r
-
--- the text of what the code's reading answered, its rows those of a table
-abbrev pub text_of : List ℕ → Parsed → List ℕ
-text_of t (P.Value n rest) = rows_text t n
-text_of t (P.Refused r) = refusal_text (reason_of r)
-
--- the rows to be printed are no more than were lent
-abbrev pub FewRows : Parsed → Type 0
-FewRows (P.Value n rest) = n ≤ most_rows
-FewRows (P.Refused r) = Unit {0}

@@ -1,60 +1,40 @@
-use mathlib.Core.Path.{refl, ap, ◌∙◌}
-use mathlib.Core.Option.{some}
-use Prim.Native.Nat.{suc}
-use native.Mathlib.Omega.{arith}
-use Rattle.value.specs.Kinds.{kinds, last_kind, kind_of}
+use Rattle.std.proofs.Common.{ap, ◌∙◌, Some, arith}
+use Rattle.value.specs.Kinds.{constant, number, array, tuple, elements, union}
+use Rattle.value.specs.Meaning.{number_named, elements_named}
 use Rattle.value.specs.Least.{add_least, least}
-use Rattle.refusal.proofs.Tests.{none_below}
+use Rattle.value.proofs.KindLaws.{width-most}
 use Rattle.grammar.specs.Tree.{node_tree}
 use Rattle.least.specs.Least.{length_of}
-use Rattle.least.proofs.Laws.{node-entry}
+use Rattle.least.proofs.Laws.{plain, node_entry}
 use Rattle.least.proofs.node_length.Goals as goal
 
-pub returns-in-0 : goal.returns-in-0
-unfolding length_of kind_of kinds node_tree least
-returns-in-0 c = node-entry c.requires.1 c.word-kind.ensures.0 0 0 c.in-0.is refl
+pub returns-in-Some-Constant : goal.returns-in-Some-Constant
+unfolding length_of node_tree least
+returns-in-Some-Constant c = node_entry c.requires constant (rw (c.in-Some-Constant.field-0-is, c.word.ensures.0) at c.in-Some-Constant.ensures)
 
-pub returns-in-1 : goal.returns-in-1
-unfolding length_of kind_of kinds node_tree least
-returns-in-1 c = node-entry c.requires.1 c.word-kind.ensures.0 1 4 c.in-1.is refl
+pub returns-in-Some-Number : goal.returns-in-Some-Number
+unfolding node_tree least
+returns-in-Some-Number c =
+    let k = number_named c.in-Some-Number.n in
+    plain c.width.result (λ h. omega (arith, c.width.ensures, width-most k))
+    ∙ ap Some c.width.ensures
+    ∙ node_entry c.requires (number k) (rw (c.in-Some-Number.field-0-is, c.word.ensures.0) at c.in-Some-Number.ensures)
 
-pub returns-in-2 : goal.returns-in-2
-unfolding length_of kind_of kinds node_tree least
-returns-in-2 c = node-entry c.requires.1 c.word-kind.ensures.0 2 8 c.in-2.is refl
+pub returns-in-Some-Array : goal.returns-in-Some-Array
+unfolding length_of node_tree least
+returns-in-Some-Array c = node_entry c.requires array (rw (c.in-Some-Array.field-0-is, c.word.ensures.0) at c.in-Some-Array.ensures)
 
-pub returns-in-3 : goal.returns-in-3
-unfolding length_of kind_of kinds node_tree least
-returns-in-3 c = node-entry c.requires.1 c.word-kind.ensures.0 3 8 c.in-3.is refl
+pub returns-in-Some-Tuple : goal.returns-in-Some-Tuple
+unfolding length_of node_tree least
+returns-in-Some-Tuple c = c.join_children.ensures ∙ node_entry c.requires tuple (rw (c.in-Some-Tuple.field-0-is, c.word.ensures.0) at c.in-Some-Tuple.ensures)
 
-pub returns-in-4 : goal.returns-in-4
-unfolding length_of kind_of kinds node_tree least
-returns-in-4 c = node-entry c.requires.1 c.word-kind.ensures.0 4 c.join_children.result c.in-4.is c.join_children.ensures
+pub returns-in-Some-Elements : goal.returns-in-Some-Elements
+unfolding length_of node_tree least
+returns-in-Some-Elements c = node_entry c.requires (elements (elements_named c.in-Some-Elements.field-0-0)) (rw (c.in-Some-Elements.field-0-is, c.word.ensures.0) at c.in-Some-Elements.ensures)
 
-pub returns-in-5 : goal.returns-in-5
-unfolding length_of kind_of kinds node_tree least
-returns-in-5 c = node-entry c.requires.1 c.word-kind.ensures.0 5 8 c.in-5.is refl
-
-pub returns-in-6 : goal.returns-in-6
-unfolding length_of kind_of kinds node_tree least
-returns-in-6 c = node-entry c.requires.1 c.word-kind.ensures.0 6 8 c.in-6.is refl
-
-pub returns-in-7 : goal.returns-in-7
-unfolding length_of kind_of kinds node_tree least
-returns-in-7 c = node-entry c.requires.1 c.word-kind.ensures.0 7 8 c.in-7.is refl
-
-pub returns-in-8 : goal.returns-in-8
-unfolding length_of kind_of kinds node_tree least
-returns-in-8 c = node-entry c.requires.1 c.word-kind.ensures.0 8 c.add_least.result c.in-8.is (c.add_least.ensures ∙ ap (add_least (some 8)) c.join_children-in-8.ensures)
-
-pub returns-in-9 : goal.returns-in-9
-unfolding length_of kind_of kinds node_tree least
-returns-in-9 c = node-entry c.requires.1 c.word-kind.ensures.0 9 4 c.in-9.is refl
-
-pub returns-in-10 : goal.returns-in-10
-unfolding length_of kind_of kinds node_tree least
-returns-in-10 c = node-entry c.requires.1 c.word-kind.ensures.0 10 8 c.in-10.is refl
-
-pub returns-in-11-to-max : goal.returns-in-11-to-max
-returns-in-11-to-max c =
-    let r = c.requires.1 in
-    absurd (omega (arith, none_below (suc last_kind) c.word-kind.result c.in-11-to-max.in-11-to-max-own.rest, c.word-kind.ensures.0, (r.passes.node _ r.below).kind))
+pub returns-in-Some-Union : goal.returns-in-Some-Union
+unfolding length_of node_tree least
+returns-in-Some-Union c =
+    c.add_least.ensures
+    ∙ ap (add_least (Some 8)) c.join_children-in-Some-Union.ensures
+    ∙ node_entry c.requires union (rw (c.in-Some-Union.field-0-is, c.word.ensures.0) at c.in-Some-Union.ensures)

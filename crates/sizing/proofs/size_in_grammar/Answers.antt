@@ -1,52 +1,45 @@
-use mathlib.Core.Path.{◌≡◌, sym, subst}
-use Rattle.refusal.proofs.Meaning.{done, stopped}
-use Rattle.refusal.specs.Outcome.{accepted}
-use Rattle.grammar.specs.Check.{check_grammar}
-use Rattle.grammar.proofs.Rule.{accepted_exactly}
-use Rattle.rows.specs.Size.{AtMost}
-use Rattle.rows.specs.Meaning.{size_of}
-use Rattle.rows.specs.declared.SizeOf.{SizeOf}
-use Rattle.rows.proofs.Calls.{Table}
+use Rattle.std.proofs.Common.{◌≡◌, sym}
+use Rattle.std.proofs.lemmas.Result.{err_from_is_err_and}
 use Rattle.value.specs.Tree.{SizeOfV}
-use Rattle.sizing.proofs.Writes.{sized, size-refused, table-sized, table_stands, value-grammar, value-rows, value-refused, value-accepted}
+use Rattle.grammar.proofs.Rule.{accepted_exactly}
+use Rattle.rows.proofs.Calls.{Table}
+use Rattle.sizing.proofs.Writes.{table-sized, table_stands, value-grammar, value-rows, value-refused, value-accepted}
 use Rattle.sizing.proofs.size_in_grammar.Goals as goal
-use Rattle.sizing.proofs.size_in_grammar.Goals.{In-Size}
+use Rattle.sizing.proofs.size_in_grammar.Goals.{In_ok-size}
 
--- behind the match on the size: the grammar passed, and the rows are a table of that size
-grammar : (c : In-Size) → accepted tt ≡ check_grammar c.args.grammar.now
-grammar c = done c.in-Accepted.is c.check_grammar.ensures
-
-table : (c : In-Size) → let a = c.args in (h : Table a.rows.now a.n a.store.now) × (c.in-Size.bytes ≡ SizeOfV h.value)
+-- behind the size: the rows are a table of that size
+table : (c : In_ok-size) → let a = c.args in (h : Table a.rows.now a.n a.store.now) × (c.in_ok-size.size ≡ SizeOfV h.value)
 table c =
     let a = c.args in
-    table-sized a.rows.now a.n a.store.now (λ j _. (c.type_inv.rows j).fits) (λ j. (c.type_inv.store j).fits) (sized c.in-Size.is c.compute_size_of.ensures.0)
+    table-sized a.rows.now a.n a.store.now (λ j _. (c.type_inv.rows j).fits) (λ j. (c.type_inv.store j).fits) c.in_ok-size.ensures.0
 
 pub check_in_grammar-requires : goal.check_in_grammar-requires
 check_in_grammar-requires c =
     let a = c.args in
-    let p = (accepted_exactly a.grammar.now).0 (sym (grammar c)) in
+    let p = (accepted_exactly a.grammar.now).0 (sym c.in_ok-check_grammar.ensures) in
     (p, p.layout.start.1.0, table_stands a.rows.now a.n a.store.now (table c).0)
 
-pub returns-in-Refused : goal.returns-in-Refused
-returns-in-Refused c =
+pub returns-in_err-check_grammar : goal.returns-in_err-check_grammar
+returns-in_err-check_grammar c =
     let a = c.args in
-    (value-grammar a.grammar.now a.rows.now a.n a.store.now (stopped c.in-Refused.is c.check_grammar.ensures), tt)
+    let p = err_from_is_err_and c.from_residual.result c.from_residual.ensures.1 in
+    rw (p.1, p.2) (value-grammar a.grammar.now a.rows.now a.n a.store.now c.in_err-check_grammar.ensures, tt)
 
-pub returns-in-Refused-compute_size_of : goal.returns-in-Refused-compute_size_of
-returns-in-Refused-compute_size_of c =
+pub returns-in_err-size : goal.returns-in_err-size
+returns-in_err-size c =
     let a = c.args in
-    (value-rows a.grammar.now a.rows.now a.n a.store.now (done c.in-Accepted.is c.check_grammar.ensures) (size-refused c.in-Refused-compute_size_of.is c.compute_size_of.ensures.0), tt)
+    let p = err_from_is_err_and c.from_residual-in_err-size.result c.from_residual-in_err-size.ensures.1 in
+    rw (p.1, p.2) (value-rows a.grammar.now a.rows.now a.n a.store.now c.in_ok-check_grammar.ensures c.in_err-size.ensures.0, tt)
 
-pub returns-in-Refused-check_in_grammar : goal.returns-in-Refused-check_in_grammar
-returns-in-Refused-check_in_grammar c =
+pub returns-in_err-check_in_grammar : goal.returns-in_err-check_in_grammar
+returns-in_err-check_in_grammar c =
     let a = c.args in
-    let h = (table (goal.at.returns-in-Refused-check_in_grammar c).In-Size).0 in
-    (value-refused a.grammar.now a.rows.now a.n a.store.now (grammar (goal.at.returns-in-Refused-check_in_grammar c).In-Size) h (stopped c.in-Refused-check_in_grammar.is (c.check_in_grammar.ensures a.store.now h.value h.table.rows)), tt)
+    let h = (table (goal.at.returns-in_err-check_in_grammar c).In_ok-size).0 in
+    let p = err_from_is_err_and c.from_residual-in_err-check_in_grammar.result c.from_residual-in_err-check_in_grammar.ensures.1 in
+    rw (p.1, p.2) (value-refused a.grammar.now a.rows.now a.n a.store.now c.in_ok-check_grammar.ensures h (c.in_err-check_in_grammar.ensures a.store.now h.value h.table.rows), tt)
 
-pub returns-in-Accepted-check_in_grammar : goal.returns-in-Accepted-check_in_grammar
-returns-in-Accepted-check_in_grammar c =
+pub returns : goal.returns
+returns c =
     let a = c.args in
-    let h = table (goal.at.returns-in-Accepted-check_in_grammar c).In-Size in (
-      value-accepted a.grammar.now a.rows.now a.n a.store.now (grammar (goal.at.returns-in-Accepted-check_in_grammar c).In-Size) h.0 (done c.in-Accepted-check_in_grammar.is (c.check_in_grammar.ensures a.store.now h.0.value h.0.table.rows)) h.1,
-      subst (λ (r : SizeOf). AtMost 4293951488 (size_of r)) c.in-Size.is c.compute_size_of.ensures.1,
-    )
+    let h = table (goal.at.returns c).In_ok-size in
+    (value-accepted a.grammar.now a.rows.now a.n a.store.now c.in_ok-check_grammar.ensures h.0 (c.in_ok-check_in_grammar.ensures a.store.now h.0.value h.0.table.rows) h.1, c.in_ok-size.ensures.1)

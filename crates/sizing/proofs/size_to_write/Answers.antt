@@ -1,24 +1,19 @@
-use Rattle.refusal.specs.Outcome.{accepted, refused}
-use Rattle.refusal.proofs.Meaning.{done, stopped}
+use Rattle.std.proofs.Common.{◌∙◌}
+use Rattle.std.proofs.lemmas.Result.{err_from_is_err_and}
 use Rattle.value.specs.Tree.{SizeOfV}
-use Rattle.sizing.specs.Writes.{value_to_write, marshall_val_of}
-use Rattle.sizing.proofs.Writes.{sized, size-refused, size_stops, size_room}
+use Rattle.sizing.specs.Writes.{value_in_grammar, value_to_write, marshall_val_of}
+use Rattle.sizing.proofs.Writes.{size-fits, size_stops}
 use Rattle.sizing.proofs.size_to_write.Goals as goal
 
-pub returns-in-Refused : goal.returns-in-Refused
-unfolding marshall_val_of
-returns-in-Refused c =
+pub returns-in_err-size : goal.returns-in_err-size
+unfolding value_to_write marshall_val_of
+returns-in_err-size c =
     let a = c.args in
-    size_stops SizeOfV SizeOfV (value_to_write a.grammar.now a.rows.now a.n a.store.now) _ (size-refused c.in-Refused.is c.size_of_value.ensures)
+    let p = err_from_is_err_and c.from_residual.result c.from_residual.ensures.1 in
+    rw (p.1, p.2) (size_stops SizeOfV a.len a.index SizeOfV (value_in_grammar a.grammar.now a.rows.now a.n a.store.now) c.in_err-size.ensures.0)
 
-pub returns-in-Refused-room : goal.returns-in-Refused-room
-unfolding marshall_val_of
-returns-in-Refused-room c =
+pub returns : goal.returns
+unfolding value_to_write marshall_val_of
+returns c =
     let a = c.args in
-    size_room SizeOfV a.len a.index (value_to_write a.grammar.now a.rows.now a.n a.store.now) (sized c.in-Size.is c.size_of_value.ensures) (refused _) (stopped c.in-Refused-room.is c.room.ensures)
-
-pub returns-in-Accepted : goal.returns-in-Accepted
-unfolding marshall_val_of
-returns-in-Accepted c =
-    let a = c.args in
-    size_room SizeOfV a.len a.index (value_to_write a.grammar.now a.rows.now a.n a.store.now) (sized c.in-Size.is c.size_of_value.ensures) (accepted tt) (done c.in-Accepted.is c.room.ensures)
+    c.check_room.ensures ∙ size-fits SizeOfV a.len a.index (value_in_grammar a.grammar.now a.rows.now a.n a.store.now) c.in_ok-size.ensures.0

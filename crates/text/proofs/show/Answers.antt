@@ -1,14 +1,14 @@
-use mathlib.Core.Path.{subst}
-use mathlib.Core.List.{List}
-use Prim.Native.Nat.{ℕ}
-use Rattle.text.specs.Text.{most_text, Puts}
-use Rattle.text.proofs.Read.{text_shown}
+use Rattle.std.proofs.Common.{arith}
+use Rattle.text.proofs.Read.{rows_shown, refusal_shown}
 use Rattle.text.proofs.show.Goals as goal
 
-pub put_text-requires : goal.put_text-requires
-put_text-requires c = (text_shown c.args.input.now c.read_input-parsed.ensures).0
+pub push_rows-requires : goal.push_rows-requires
+push_rows-requires c =
+    let s = rows_shown c.args.input.now c.in-Ok.ensures in
+    rw c.new-text.ensures (omega (arith, s.0))
 
-pub returns : goal.returns
-returns c =
-    let a = c.args in
-    subst (λ (bs : List ℕ). Puts bs most_text 0 c.put_text.result a.out.now c.put_text.new.out) (text_shown a.input.now c.read_input-parsed.ensures).1 c.put_text.ensures
+pub returns-in-Ok : goal.returns-in-Ok
+returns-in-Ok c = rw (c.push_rows.ensures, c.new-text.ensures) (rows_shown c.args.input.now c.in-Ok.ensures).1
+
+pub returns-in-Err : goal.returns-in-Err
+returns-in-Err c = rw (c.push_refusal.ensures, c.new-text.ensures) (refusal_shown c.args.input.now c.in-Err.ensures)
