@@ -1,6 +1,6 @@
 -- What the states and answers of the code mean.
 use Rattle.std.specs.Prelude.{◌≡◌, ℕ, ◌<◌, Result, Ok, Err}
-use Rattle.refusal.specs.Outcome.{Outcome, accepted, refused, map, Reason}
+use Rattle.refusal.specs.Outcome.{Outcome, refused, map, Reason}
 use Rattle.refusal.specs.declared.Refusal.{Refusal}
 use Rattle.refusal.specs.Meaning.{reason_of, outcome_of}
 use Rattle.value.specs.Step.{yield}

@@ -1,15 +1,15 @@
-use Rattle.std.proofs.Common.{◌≡◌, ℕ, suc, List, ◌+◌, ◌-◌, ◌*◌, ◌≤◌, ◌<◌, length, refl, arith, ap, sym, ◌∙◌, mul-suc, add-one, mul-le-mul_left}
+use Rattle.std.proofs.Common.{◌≡◌, ℕ, suc, List, ◌+◌, ◌-◌, ◌*◌, ◌≤◌, ◌<◌, length, refl, arith, ap, sym, mul-suc, add-one, mul-le-mul_left}
 use Rattle.std.proofs.lemmas.Result.{err_from_is_err_and}
 use Rattle.value.specs.Kinds.{Kind, kind_of}
-use Rattle.value.specs.Meaning.{kind_named, number_named, elements_named}
+use Rattle.value.specs.Meaning.{number_named, elements_named}
 use Rattle.value.specs.Tree.{SizeOfV}
 use Rattle.tables.specs.Grammar.{kind_word, first_word, count_word}
 use Rattle.grammar.specs.Tree.{node_tree, tree_of, child_trees}
 use Rattle.grammar.proofs.Rule.{node-named}
 use Rattle.xdr.specs.Xdr.{store_of, rows_in}
-use Rattle.xdr.specs.Import.{import_fields, import_body, import_val}
+use Rattle.xdr.specs.Import.{import_body, import_val}
 use Rattle.importing.specs.Meaning.{CodeStep, filling_of}
-use Rattle.importing.specs.Brings.{most_size, Ready, Brings, RowClaimed, child_place, node_at}
+use Rattle.importing.specs.Brings.{most_size, Brings, RowClaimed, child_place, node_at}
 use Rattle.importing.proofs.Laws.{arm_constant, arm_number, arm_elements}
 use Rattle.importing.proofs.Cycle.{Claimed, claimed-next, arm_refused, arm_body, ready-claimed, ready-below, below_taken, counted-children, kind_tree, node-few, children-array, children-tuple, children-case, arm_array, arm_array-refused, arm_tuple, arm_case, arm_case-refused, remaining_done, remaining_refused, remaining_next, trees_next, trees_done}
 use Rattle.importing.proofs.+value_importers.Goals as goal

@@ -1,7 +1,7 @@
 -- The readers of the cycle meet their contracts. The measure is the rows still free: four times for a value, one more for children, two for
 -- contents, three for an array, a tuple or a case.
 use mathlib.Core.Path.{◌≡◌}
-use Prim.Native.Nat.{ℕ, ◌+◌, ◌-◌, ◌*◌, ◌≤◌}
+use Prim.Native.Nat.{ℕ, ◌+◌, ◌-◌, ◌*◌}
 use Rattle.xdr.specs.Import.{import_fields}
 use Rattle.importing.specs.Meaning.{filling_of}
 use Rattle.importing.specs.Brings.{trees_at}

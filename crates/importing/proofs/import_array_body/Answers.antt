@@ -1,7 +1,5 @@
 use Rattle.std.proofs.Common.{◌≡◌, ℕ, ◌+◌, ◌-◌, take, drop, arith, ap, ◌∙◌, one-mul}
 use Rattle.std.proofs.lemmas.Result.{err_from_is_err_and}
-use Rattle.refusal.specs.Outcome.{refused, accepted, test, Reason}
-use Rattle.packed.specs.Packed.{room}
 use Rattle.xdr.specs.Xdr.{padding}
 use Rattle.xdr.specs.Import.{zeros}
 use Rattle.xdr.proofs.Sizes.{padding-few}

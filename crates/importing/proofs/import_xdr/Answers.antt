@@ -1,4 +1,4 @@
-use mathlib.Core.Path.{◌≡◌, refl, ap, sym, ◌∙◌}
+use mathlib.Core.Path.{◌≡◌, refl}
 use mathlib.Core.Logic.{inl, inr}
 use mathlib.Core.List.{List}
 use Prim.Native.Nat.{ℕ, ◌*◌, ◌^◌}
@@ -9,7 +9,6 @@ use Rattle.std.proofs.lemmas.Result.{err_from_is_err_and}
 use Rattle.packed.specs.Packed.{Below, Lent}
 use Rattle.tables.specs.Row.{row_width}
 use Rattle.admission.specs.Admission.{capacity_of}
-use Rattle.importing.specs.Meaning.{step_of}
 use Rattle.importing.specs.Brings.{Admitted}
 use Rattle.importing.specs.Calls.{admit_of}
 use Rattle.importing.proofs.Root.{admitted, import_refused, import_stopped, import_again, import_filled}

@@ -1,4 +1,4 @@
-use Rattle.std.proofs.Common.{refl, arith, sym, ◌∙◌}
+use Rattle.std.proofs.Common.{sym, ◌∙◌}
 use Rattle.importing.proofs.Laws.{zeros-next, zeros-not, zeros-none}
 use Rattle.importing.proofs.zeros.Goals as goal
 

@@ -1,4 +1,4 @@
-use Rattle.std.proofs.Common.{arith, refl}
+use Rattle.std.proofs.Common.{arith}
 use Rattle.std.proofs.lemmas.Result.{err_from_is_err_and}
 use Rattle.importing.specs.Meaning.{filling_of}
 use Rattle.importing.proofs.Laws.{take-unpacked, unpacked-fits, unpacked-below}
@@ -21,7 +21,8 @@ returns g c =
     let a = c.args in
     let w = g.T.PackedInt.WIDTH in
     let s = filling_of a.self in
-    let e = c.in_ok-n.ensures in
-    (rw (c.to_u64.ensures, c.move_on.ensures.0, c.WIDTH.ensures) (take-unpacked a.bytes.now w s c.requires.0 _ e),
-    rw c.to_u64.ensures (unpacked-below a.bytes.now w s (λ j. (c.type_inv.bytes j).fits) e),
-    c.move_on.ensures.1)
+    let e = c.in_ok-n.ensures in (
+      rw (c.to_u64.ensures, c.move_on.ensures.0, c.WIDTH.ensures) (take-unpacked a.bytes.now w s c.requires.0 _ e),
+      rw c.to_u64.ensures (unpacked-below a.bytes.now w s (λ j. (c.type_inv.bytes j).fits) e),
+      c.move_on.ensures.1,
+    )

@@ -1,4 +1,3 @@
-use Rattle.std.proofs.Common.{arith, refl}
 use Rattle.std.proofs.lemmas.Result.{err_from_is_err_and}
 use Rattle.importing.specs.Meaning.{filling_of}
 use Rattle.importing.proofs.Laws.{below-refused, below-number, below_limit}
