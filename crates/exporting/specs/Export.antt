@@ -1,13 +1,13 @@
 -- What `export_xdr` answers and leaves in the output: GM's `MarshallVal` with the XDR bytes and their size.
-use Rattle.std.specs.Prelude.{◌≡◌, List, ℕ, ◌+◌, ◌≤◌}
+use Rattle.std.specs.Prelude.{◌≡◌, Result, List, ℕ, ◌+◌, ◌≤◌}
 use Rattle.refusal.specs.Outcome.{Outcome, accepted, bind, map, contents, Reason}
 use Rattle.packed.specs.Packed.{room, put}
 use Rattle.value.specs.Tree.{Val, ValInGrammar}
 use Rattle.grammar.specs.Rule.{Passes}
 use Rattle.grammar.specs.Tree.{tree_of}
 use Rattle.rows.specs.Walk.{walk}
-use Rattle.rows.specs.Meaning.{size_of}
-use Rattle.rows.specs.declared.SizeOf.{SizeOf}
+use Rattle.refusal.specs.declared.Refusal.{Refusal}
+use Rattle.refusal.specs.Meaning.{outcome_of}
 use Rattle.sizing.specs.Writes.{value_in_grammar, check_size}
 use Rattle.xdr.specs.Xdr.{xdr_of, xdr_size}
 
@@ -20,8 +20,8 @@ unfoldable pub export_of : List ℕ → List ℕ → ℕ → List ℕ → ℕ �
 export_of g t n s len index = bind (value_to_export g t n s) (λ v. map (λ _. v) (room len index (xdr_size v)))
 
 -- the answer is the XDR size, and the output at exit is that at entry with the XDR bytes at the index; after a refusal it is that at entry
-pub record Exports (o : Outcome Reason Val) (index : ℕ) (r : SizeOf) (entry exit : List ℕ) : Type 0 where
-  pub answers : size_of r ≡ map xdr_size o
+pub record Exports (o : Outcome Reason Val) (index : ℕ) (r : Result ℕ Refusal) (entry exit : List ℕ) : Type 0 where
+  pub answers : outcome_of r ≡ map xdr_size o
   pub output : exit ≡ contents (map (λ v. put entry index (xdr_of v)) o) entry
 
 -- when v is exported: nothing is to be refused (`export_exactly` of proofs/)
