@@ -1,13 +1,7 @@
 -- Import: what the XDR bytes of a value are read to, and what an accepted import read.
-use mathlib.Core.Path.{◌≡◌, refl, sym, ap, subst, ◌∙◌}
-use mathlib.Core.Bool.{Bool, true, false, not}
-use mathlib.Core.List.{List, [], ◌∷◌, ◌++◌, append_assoc}
-use Prim.Native.Nat.{ℕ, zero, suc, ◌+◌, ◌-◌, ◌*◌, ◌^◌, ◌≤◌, ◌<◌}
-use native.Mathlib.Omega.{arith}
-use lib.ListN.{length, take, drop, length-append, length-drop, take-append-drop, replicate, length-replicate}
-use lib.Seq.{drop-drop, take_at, drop_at, length-take-le}
-use lib.Dec.{leb, ltb, eqb, T, leb→le, ltb→lt, nleb→lt, nltb→le, eqb→eq}
-use borrow.Author.Tests.{le-leb}
+use Rattle.std.proofs.Common.{◌≡◌, refl, sym, ap, subst, ◌∙◌, Bool, true, false, not, List, [], ◌∷◌, ◌++◌, append_assoc, ℕ, zero, suc, ◌+◌, ◌-◌, ◌*◌, ◌^◌, ◌≤◌, ◌<◌, arith, length, take, drop, length-append, length-drop, take-append-drop, replicate, drop-drop, take_at, drop_at, length-take-le, leb, ltb, eqb, T, leb→le, ltb→lt, nltb→le, eqb→eq, le-leb}
+use Rattle.std.proofs.Math.Dec.{nleb→lt}
+use Rattle.std.proofs.Math.ListN.{length-replicate}
 use Rattle.refusal.specs.Outcome.{accepted, refused, bind, test, reason, byte}
 use Rattle.refusal.proofs.Outcome.{Post, fails, post_bind, post_test, post_reflects, post_weaken, bind-test, bind_assoc}
 use Rattle.refusal.proofs.Tests.{and-true}

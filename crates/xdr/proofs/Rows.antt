@@ -1,10 +1,5 @@
 -- The rows of a value whose arrays lie one behind the other in a store: their length, and that with that store they stand for the value.
-use mathlib.Core.Path.{◌≡◌, refl, ap, sym, ◌∙◌}
-use mathlib.Core.List.{List, ◌++◌, append_assoc}
-use Prim.Native.Nat.{ℕ, suc, ◌+◌, ◌-◌, ◌*◌, ◌≤◌}
-use native.Mathlib.Omega.{arith}
-use lib.ListN.{length, take, drop, length-append, length-drop}
-use lib.Seq.{take_at}
+use Rattle.std.proofs.Common.{◌≡◌, refl, ap, sym, ◌∙◌, List, ◌++◌, append_assoc, ℕ, suc, ◌+◌, ◌-◌, ◌*◌, ◌≤◌, arith, length, take, drop, length-append, length-drop, take_at}
 use Rattle.refusal.specs.Outcome.{accepted}
 use Rattle.packed.specs.Packed.{pack_little_endian_seq}
 use Rattle.packed.proofs.Laws.{length_pack_seq}

@@ -1,10 +1,6 @@
 -- How many bytes: of the padding, of the XDR bytes beside those of the record and of the store.
-use mathlib.Core.Path.{◌≡◌}
-use mathlib.Core.List.{List, append-nil}
-use Prim.Native.Nat.{ℕ, ◌+◌, ◌*◌, ◌%◌, ◌≤◌}
-use native.Mathlib.Nat.{mul_assoc}
-use native.Mathlib.Omega.{arith}
-use lib.ListN.{length, length-append, length-replicate}
+use Rattle.std.proofs.Common.{◌≡◌, List, append-nil, ℕ, ◌+◌, ◌*◌, ◌%◌, ◌≤◌, mul_assoc, arith, length, length-append}
+use Rattle.std.proofs.Math.ListN.{length-replicate}
 use Rattle.packed.proofs.Laws.{length_pack_seq}
 use Rattle.big_endian.specs.BigEndian.{pack_big_endian_seq}
 use Rattle.big_endian.proofs.Laws.{length_pack_big, length_pack_big_seq}

@@ -1,10 +1,5 @@
 -- Counts and tags that 4 bytes hold: those of a value of few rows and few XDR bytes, where the unions of its grammar have few cases.
-use mathlib.Core.Path.{◌≡◌}
-use mathlib.Core.List.{List, ◌++◌}
-use Prim.Native.Nat.{ℕ, zero, suc, ◌+◌, ◌^◌, ◌≤◌, ◌<◌}
-use native.Mathlib.Nat.{mul-le-mul_right}
-use native.Mathlib.Omega.{arith}
-use lib.ListN.{length, length-append}
+use Rattle.std.proofs.Common.{◌≡◌, List, ◌++◌, ℕ, zero, suc, ◌+◌, ◌^◌, ◌≤◌, ◌<◌, mul-le-mul_right, arith, length, length-append}
 use Rattle.big_endian.specs.BigEndian.{pack_big_endian}
 use Rattle.value.specs.Tree.{G, Gs, GConstant, GNumber, GArray, GTuple, GNumberArray, GTaggedUnion, gnil, gcons, Val, Vals, seq_g, seq_v, case_at, ValInGrammar, AllInGrammar, EachInGrammar, in_constant, in_number, in_array, in_tuple, in_number_array, in_case, all_nil, all_cons, each_nil, each_cons, row_count, row_counts}
 use Rattle.value.proofs.KindLaws.{element_width_positive}

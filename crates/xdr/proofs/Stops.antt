@@ -1,11 +1,5 @@
 -- Where an import is refused, and what a refusal says of the values that the bytes begin with.
-use mathlib.Core.Path.{◌≡◌, sym, ap}
-use mathlib.Core.Logic.{◌⊎◌, inl, inr}
-use mathlib.Core.List.{List, ◌++◌}
-use Prim.Native.Nat.{ℕ, zero, suc, ◌+◌, ◌-◌, ◌*◌, ◌≤◌, ◌<◌}
-use native.Mathlib.Omega.{arith}
-use lib.ListN.{length, take, drop, length-drop}
-use lib.Dec.{leb, ltb, leb→le}
+use Rattle.std.proofs.Common.{◌≡◌, sym, ap, ◌⊎◌, inl, inr, List, ◌++◌, ℕ, zero, suc, ◌+◌, ◌-◌, ◌*◌, ◌≤◌, ◌<◌, arith, length, take, drop, length-drop, leb, ltb, leb→le}
 use Rattle.refusal.specs.Outcome.{refused, Reason, reason, byte}
 use Rattle.refusal.proofs.Outcome.{Post, fails, post_bind, post_test, bind-test, clash}
 use Rattle.packed.proofs.Calls.{room-test}

@@ -1,13 +1,6 @@
 -- The whole import: it accepts exactly the XDR bytes of the values whose rows and arrays fit, and gives the only one.
-use mathlib.Core.Path.{◌≡◌, refl, sym, ap, ◌∙◌}
-use mathlib.Core.Logic.{◌↔◌, ◌⊎◌, inl, inr}
-use mathlib.Core.List.{List, [], ◌++◌, append-nil}
-use Prim.Native.Nat.{ℕ, ◌+◌, ◌≤◌, ◌<◌}
-use native.Mathlib.Omega.{arith}
-use lib.ListN.{length}
-use lib.Seq.{drop-length}
-use lib.Dec.{eqb, eqb→eq}
-use borrow.Author.Tests.{eq-eqb}
+use Rattle.std.proofs.Common.{◌≡◌, refl, sym, ap, ◌∙◌, ◌↔◌, ◌⊎◌, inl, inr, List, [], ◌++◌, append-nil, ℕ, ◌+◌, ◌≤◌, ◌<◌, arith, length, eqb, eqb→eq, eq-eqb}
+use Rattle.std.proofs.Math.Seq.{drop-length}
 use Rattle.refusal.specs.Outcome.{accepted, refused, reason, byte}
 use Rattle.refusal.proofs.Outcome.{Post, fails, post_test, post_accepted, test-true}
 use Rattle.packed.specs.Packed.{Bytes}

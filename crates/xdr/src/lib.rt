@@ -1,4 +1,4 @@
-// XDR (RFC 4506): definitions in specs/, laws in proofs/, and as code the padding and the elements of an array, for export and import.
+// XDR (RFC 4506): definitions in specs/, laws in proofs/, and as code what export and import share: the padding of an array and its elements.
 #![tactic(auto)]
 
 ghost use Rattle.std.specs.Prelude.{◌≡◌, ◌/◌, length};
@@ -14,20 +14,22 @@ use refusal::Refusal;
 use value::Elements;
 
 // The bytes from so many up to a multiple of four.
+#[tactic(auto, unfolding(crate::specs::Xdr::padding))]
 pub fn padding(size: u64) -> u64
     ensures { result ≡ padding_of size }
 {
     (4 - size % 4) % 4
 }
 
-// Puts the elements of an array at the index, the bytes of each in the other order: a store has them least byte first, XDR most byte first.
+// Puts the elements of src at the index in the other byte order: a record's as XDR has them, or back. The bytes of a cut last element
+// are left out.
 pub fn copy_elements(
     elements: Elements,
     src: &[u8],
     out: &mut [u8],
     index: usize,
 ) -> Result<(), Refusal>
-    ensures { Fills (put_at out.old index (reverse_each (element_width (elements_named elements)) src.now (length src.now / element_width (elements_named elements)))) (outcome_of result) out.old out.new }
+    ensures { let w = element_width (elements_named elements) in Fills (put_at out.old index (reverse_each w src.now (length src.now / w))) (outcome_of result) out.old out.new }
 {
     match elements {
         Elements::Bytes => packing::copy_seq_into_array(src, out, index),
