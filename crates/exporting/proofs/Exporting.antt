@@ -1,5 +1,5 @@
 -- Putting what was decided.
-use mathlib.Core.Path.{◌≡◌, refl, ap, sym, ◌∙◌}
+use mathlib.Core.Path.{◌≡◌, ap, sym, ◌∙◌}
 use mathlib.Core.List.{List, ◌++◌, append_assoc}
 use Prim.Native.Nat.{ℕ, ◌+◌, ◌-◌, ◌*◌, ◌/◌, ◌^◌, ◌≤◌, ◌<◌, min}
 use native.Mathlib.Nat.{mul-div_cancel_left}
@@ -12,17 +12,15 @@ use Rattle.refusal.specs.declared.Refusal.{Refusal}
 use Rattle.refusal.proofs.Outcome.{map-accepted, map-refused}
 use Rattle.packed.specs.Packed.{Bytes, Below, put, put_at}
 use Rattle.packed.proofs.Put.{put-nothing, put_more, put_next}
-use Rattle.packed.proofs.Calls.{fills_put}
+use Rattle.packed.proofs.Calls.{fills_put, fills_answers}
 use Rattle.big_endian.specs.BigEndian.{pack_big_endian, reverse_each}
-use Rattle.big_endian.proofs.Laws.{length_pack_big, length-reverse_each, bytes_as_elements}
+use Rattle.big_endian.proofs.Laws.{length_pack_big, length-reverse_each}
 use Rattle.big_endian.proofs.Calls.{elements-inside}
-use Rattle.value.specs.Kinds.{Elements, bytes, uint32s, uint64s, element_width}
 use Rattle.value.specs.Tree.{Val, SizeOfV}
-use Rattle.value.proofs.KindLaws.{element_width_positive}
 use Rattle.rows.specs.Walk.{walk}
 use Rattle.rows.specs.Rule.{TableOf}
 use Rattle.rows.specs.Size.{sum_from}
-use Rattle.rows.specs.declared.SizeOf.TheVariants as SizeOf
+use Rattle.std.specs.Prelude.{Ok, Err}
 use Rattle.rows.proofs.Rule.{accepted_exactly as rows_exactly}
 use Rattle.sizing.specs.Writes.{value_in_grammar}
 use Rattle.sizing.proofs.Writes.{accepted_in_grammar}
@@ -35,25 +33,16 @@ use Rattle.exporting.proofs.Exports.{accepted_exports}
 
 -- ---- an array
 
--- bytes that have room were put: they are elements of one byte
-pub bytes_copied : (src out : List ℕ) (index : ℕ) → index + length src ≤ length out → {o : Outcome Reason (Unit {0})} {exit : List ℕ} → Fills (put_at out index src) o out exit → exit ≡ put out index (reverse_each 1 src (length src / 1))
-bytes_copied src out index h f =
-    fills_put out index src (length src) refl h f ∙ ap (put out index) (sym (bytes_as_elements src))
+-- elements that have room, each turned round
+module _ (w : ℕ) (src out : List ℕ) (index : ℕ) (p : 0 < w) (h : index + length src ≤ length out) {o : Outcome Reason (Unit {0})} {exit : List ℕ} (f : Fills (put_at out index (reverse_each w src (length src / w))) o out exit) where
+  long : length (reverse_each w src (length src / w)) ≡ w * (length src / w)
+  long = length-reverse_each w (length src / w) src (elements-inside w (length src) p)
 
--- elements that have room were put, each turned round
-pub elements_copied : (w : ℕ) (src out : List ℕ) (index : ℕ) → 0 < w → index + length src ≤ length out → {o : Outcome Reason (Unit {0})} {exit : List ℕ} → Fills (put_at out index (reverse_each w src (length src / w))) o out exit → exit ≡ put out index (reverse_each w src (length src / w))
-elements_copied w src out index p h f =
-    let i = elements-inside w (length src) p in
-    fills_put out index (reverse_each w src (length src / w)) (w * (length src / w)) (length-reverse_each w (length src / w) src i) (omega arith) f
+  pub elements_copied : exit ≡ put out index (reverse_each w src (length src / w))
+  elements_copied = let i = elements-inside w (length src) p in fills_put out index _ (w * (length src / w)) long (omega arith) f
 
--- elements are of 1, 4 or 8 bytes
-pub eight_left : (w : ℕ) → (k : Elements) × (w ≡ element_width k) → (w ≡ 1 → ⊥) → (w ≡ 4 → ⊥) → w ≡ 8
-eight_left w h n m = go h.0 h.1
-  where
-    go : (k : Elements) → w ≡ element_width k → w ≡ 8
-    go bytes e = absurd (n e)
-    go uint32s e = absurd (m e)
-    go uint64s e = e
+  pub elements_fit : o ≡ accepted tt
+  elements_fit = let i = elements-inside w (length src) p in fills_answers out index _ (w * (length src / w)) long (omega arith) f
 
 -- the loop over padding: as many zeros are put as the count allows
 module _ (out now : List ℕ) (index count i : ℕ) (e : now ≡ put out index (replicate (min i count) 0)) where
@@ -73,7 +62,7 @@ pub zeros-none : (out : List ℕ) (index count : ℕ) → out ≡ put out index 
 zeros-none out index count = let e : 0 ≡ min 0 count = omega arith in sym (put-nothing out index) ∙ ap (λ (n : ℕ). put out index (replicate n 0)) e
 
 -- a count, the elements and their padding, put one behind the other
-module _ (w count place : ℕ) (s out : List ℕ) (index : ℕ) (known : (k : Elements) × (w ≡ element_width k)) (held : place + w * count ≤ length s) (room : index + (4 + (w * count + padding (w * count))) ≤ length out) where
+module _ (w count place : ℕ) (s out : List ℕ) (index : ℕ) (positive : 0 < w) (held : place + w * count ≤ length s) (room : index + (4 + (w * count + padding (w * count))) ≤ length out) where
   abbrev part : List ℕ
   part = take (place + w * count - place) (drop place s)
 
@@ -81,7 +70,6 @@ module _ (w count place : ℕ) (s out : List ℕ) (index : ℕ) (known : (k : El
   unfolding padded
   elements-put {at} {mid} {behind} {exit} a m b e =
       let n = w * count in
-      let positive : 0 < w = omega (arith, known.1, element_width_positive known.0) in
       let z : place + n - place ≡ n = omega arith in
       let src = take n (drop place s) in
       let l : length src ≡ n = length-take-le n (drop place s) (rw length-drop (omega arith)) in
@@ -134,10 +122,10 @@ module _ (o : Outcome Reason Val) (index : ℕ) (out : List ℕ) where
   output : {x : Outcome Reason Val} → o ≡ x → contents (map (λ v. put out index (xdr_of v)) o) out ≡ contents (map (λ v. put out index (xdr_of v)) x) out
   output e = ap (λ (x : Outcome Reason Val). contents (map (λ v. put out index (xdr_of v)) x) out) e
 
-  pub exports_refused : (r : Refusal) → refused (reason_of r) ≡ map xdr_size o → Exports o index (SizeOf.Refused r) out out
+  pub exports_refused : (r : Refusal) → refused (reason_of r) ≡ map xdr_size o → Exports o index (Err r) out out
   unfolding output
   exports_refused r h = record { answers = h; output = sym (output (map-refused xdr_size o (sym h))) }
 
-  pub exports_put : {size : ℕ} {v : Val} {exit : List ℕ} → accepted size ≡ map xdr_size o → o ≡ accepted v → exit ≡ put out index (xdr_of v) → Exports o index (SizeOf.Size size) out exit
+  pub exports_put : {size : ℕ} {v : Val} {exit : List ℕ} → accepted size ≡ map xdr_size o → o ≡ accepted v → exit ≡ put out index (xdr_of v) → Exports o index (Ok size) out exit
   unfolding output
   exports_put h e p = record { answers = h; output = p ∙ sym (output e) }

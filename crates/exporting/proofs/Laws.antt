@@ -10,8 +10,9 @@ use Rattle.packed.proofs.Source.{put-before, put-behind, put-there}
 use Rattle.value.specs.Tree.{Val, ValueOf}
 use Rattle.grammar.specs.Tree.{tree_of}
 use Rattle.rows.specs.Rule.{TableOf}
-use Rattle.rows.specs.Meaning.{size_of}
-use Rattle.rows.specs.declared.SizeOf.{SizeOf}
+use Rattle.std.specs.Prelude.{Result}
+use Rattle.refusal.specs.declared.Refusal.{Refusal}
+use Rattle.refusal.specs.Meaning.{outcome_of}
 use Rattle.rows.proofs.Rule.{accepted_exactly}
 use Rattle.xdr.specs.Xdr.{xdr_of, xdr_size}
 use Rattle.xdr.proofs.Import.{Small}
@@ -19,12 +20,12 @@ use Rattle.exporting.specs.Export.{export_of, Exports}
 use Rattle.exporting.proofs.Narrow.{table-narrow}
 use Rattle.exporting.proofs.Exports.{accepted_exports}
 
-module _ (g t : List ℕ) (n : ℕ) (s : List ℕ) (entry exit : List ℕ) (index : ℕ) (r : SizeOf) (m : Exports (export_of g t n s (length entry) index) index r entry exit) where
-  pub export_refused : (e : Reason) → export_of g t n s (length entry) index ≡ refused e → (size_of r ≡ refused e) × (exit ≡ entry)
+module _ (g t : List ℕ) (n : ℕ) (s : List ℕ) (entry exit : List ℕ) (index : ℕ) (r : Result ℕ Refusal) (m : Exports (export_of g t n s (length entry) index) index r entry exit) where
+  pub export_refused : (e : Reason) → export_of g t n s (length entry) index ≡ refused e → (outcome_of r ≡ refused e) × (exit ≡ entry)
   export_refused e h = (m.answers ∙ ap (map xdr_size) h, m.output ∙ ap (λ (o : Outcome Reason Val). contents (map (λ v. put entry index (xdr_of v)) o) entry) h)
 
   module _ (v : Val) (h : export_of g t n s (length entry) index ≡ accepted v) where
-    pub export_size : size_of r ≡ accepted (xdr_size v)
+    pub export_size : outcome_of r ≡ accepted (xdr_size v)
     export_size = m.answers ∙ ap (map xdr_size) h
 
     pub export_output : exit ≡ put entry index (xdr_of v)

@@ -106,6 +106,7 @@ fn export_elements(
 }
 
 // Puts a row's own XDR bytes, without its children's, and gives the index behind them.
+#[tactic(auto, unfolding(crate::specs::Own::own_xdr))]
 fn export_row(rows: &[u64], row: usize, store: &[u8], out: &mut [u8], index: usize) -> usize
     requires { RowFits rows.now store.now row × (index + of_row own_xdr_size rows.now row ≤ length out.old) }
     ensures { (result ≡ index + of_row own_xdr_size rows.now row) × (out.new ≡ put out.old index (own_at own_xdr rows.now store.now row)) }
@@ -113,13 +114,12 @@ fn export_row(rows: &[u64], row: usize, store: &[u8], out: &mut [u8], index: usi
     let word2 = tables::word2_at(rows, row);
     let place = tables::word3_at(rows, row);
     match Kind::of_word(tables::kind_at(rows, row)) {
-        Some(Kind::Number(Number::Uint32)) => export_number(word2 as u32, out, index),
-        Some(Kind::Number(Number::Uint64)) => export_number(word2, out, index),
-        Some(Kind::Number(Number::Int32)) => export_number(word2 as u32, out, index),
-        Some(Kind::Number(Number::Int64)) => export_number(word2, out, index),
-        Some(Kind::Array) => export_number(word2 as u32, out, index),
+        Some(Kind::Number(Number::Uint32 | Number::Int32)) => {
+            export_number(word2 as u32, out, index)
+        }
+        Some(Kind::Number(Number::Uint64 | Number::Int64)) => export_number(word2, out, index),
+        Some(Kind::Array | Kind::Union) => export_number(word2 as u32, out, index),
         Some(Kind::Elements(e)) => export_elements(word2, e, store, place, out, index),
-        Some(Kind::Union) => export_number(word2 as u32, out, index),
         Some(Kind::Constant | Kind::Tuple) | None => index,
     }
 }

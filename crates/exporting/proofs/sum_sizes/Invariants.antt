@@ -1,12 +1,8 @@
 -- The loop's invariant: after i rows the sum is that of these i.
-use mathlib.Core.Path.{◌≡◌}
-use Prim.Native.Nat.{◌-◌, ◌≤◌}
+use Rattle.std.proofs.Common.{◌≡◌}
 use Rattle.rows.specs.Size.{sum_from}
 use Rattle.exporting.specs.Own.{own_xdr_size}
 use Rattle.exporting.proofs.sum_sizes.Given as goal
 
 abbrev pub invariant-loop-i : goal.invariant-loop-i
-invariant-loop-i l = (l.i ≤ l.n) × (l.sum ≡ sum_from own_xdr_size l.rows 0 l.i)
-
-abbrev pub decreases-loop-i : goal.decreases-loop-i
-decreases-loop-i l = l.n - l.i
+invariant-loop-i l = l.sum ≡ sum_from own_xdr_size l.rows 0 l.i
