@@ -1,13 +1,7 @@
 -- That the code of `same_route` may compare bytes, and that its contract leaves nothing to the program.
-use mathlib.Core.Path.{◌≡◌, refl, sym, ap, subst, ◌∙◌}
-use mathlib.Core.Logic.Iff
-use mathlib.Core.Logic.{◌↔◌}
-use mathlib.Core.Bool.{Bool, true, false}
-use mathlib.Core.List.{List}
-use Prim.Native.Nat.{ℕ, ◌-◌, ◌^◌, ◌≤◌}
-use native.Mathlib.Omega.{arith}
-use lib.ListN.{length, take, drop}
-use Rattle.refusal.specs.Outcome.{Outcome, accepted, refused, Reason}
+use Rattle.std.proofs.Common.{◌≡◌, refl, sym, ap, subst, ◌∙◌, ◌↔◌, Bool, true, false, List, ℕ, ◌^◌, ◌≤◌, arith, length, drop}
+use Rattle.std.proofs.Math.Logic.Iff
+use Rattle.refusal.specs.Outcome.{Outcome, accepted, refused, map, Reason}
 use Rattle.refusal.proofs.Outcome.{clash, map-accepted, map-refused}
 use Rattle.refusal.proofs.Tests.{refuted, refutes}
 use Rattle.packed.specs.Packed.{Bytes, Below}
@@ -19,11 +13,10 @@ use Rattle.value.proofs.Laws.{length_bytes_of, demarshallable_value}
 use Rattle.grammar.specs.Check.{check_grammar}
 use Rattle.grammar.specs.Tree.{tree_of}
 use Rattle.readers.specs.Root.{read_root, behind_first_field, first_field_of}
-use Rattle.readers.proofs.Laws.{part_from}
 use Rattle.reading.specs.Calls.{without_state, demarshall_of}
 use Rattle.reading.proofs.Calls.{root-whole}
 use Rattle.reading.proofs.Bridge.{demarshall_accepted}
-use Rattle.comparing.specs.SameRoute.{NamedReason, of_grammar, of_first, of_second, Both, read_both, Same, Compares}
+use Rattle.comparing.specs.SameRoute.{NamedReason, of_grammar, of_first, of_second, Both, read_both, counted_bytes, Same, Compares}
 use Rattle.comparing.proofs.Counted.{counted-bytes, first-within}
 
 -- an accepted record is the bytes of its value, a value of the root's tree
@@ -42,17 +35,23 @@ same-route-same-bytes g first second capacity w a b t u h k =
 
 -- what the check of a record's first field says of its whole reading
 module _ (g d : List ℕ) where
-  field-refused : {e : Stop} → refused e ≡ first_field_of g d 4096 → demarshall_of g d 4096 ≡ refused e.why
-  field-refused h = sym (root-whole g d 4096) ∙ ap without_state (map-refused (λ (t : Step State Val). behind_first_field t.value) (read_root g d 0 4096 true) (sym h))
+  pub field_refused : {e : Stop} → refused e ≡ first_field_of g d 4096 → refused e.why ≡ counted_bytes g d
+  field_refused h = ap (map _) (sym (ap without_state (map-refused (λ (t : Step State Val). behind_first_field t.value) (read_root g d 0 4096 true) (sym h))) ∙ root-whole g d 4096)
 
   field-accepted : {s : State} → accepted s ≡ first_field_of g d 4096 → (t : Step State Val) × (demarshall_of g d 4096 ≡ accepted t) × (s ≡ behind_first_field t.value)
   field-accepted h =
       let m = map-accepted (λ (t : Step State Val). behind_first_field t.value) (read_root g d 0 4096 true) (sym h) in
       (m.0, sym (root-whole g d 4096) ∙ ap without_state m.1, m.2)
 
+  pub field_counted : {s : State} → accepted s ≡ first_field_of g d 4096 → accepted (drop s.at d) ≡ counted_bytes g d
+  field_counted {s} h = let m = field-accepted h in go m.0 m.1 m.2
+    where
+      go : (t : Step State Val) → demarshall_of g d 4096 ≡ accepted t → s ≡ behind_first_field t.value → accepted (drop s.at d) ≡ counted_bytes g d
+      go t p q = rw (p, q)
+
   -- the first field ends within the record
-  pub field-within : {s : State} → accepted s ≡ first_field_of g d 4096 → Below (2 ^ 32) g → Bytes d → s.at ≤ length d
-  field-within {s} h w b =
+  pub field_within : {s : State} → accepted s ≡ first_field_of g d 4096 → Below (2 ^ 32) g → Bytes d → s.at ≤ length d
+  field_within {s} h w b =
       let m = field-accepted h in
       let x = record_value g d 4096 w b m.0 m.1 in
       let l : length d ≡ SizeOfV m.0.value = ap length x.0 ∙ length_bytes_of m.0.value in
@@ -80,35 +79,31 @@ module _ (g first second : List ℕ) where
       is : {P : Both → Type 0} → (x : (a : Both) × (read_both g first second ≡ accepted a) × P a) → x.0 ≡ b
       is x = let p : accepted x.0 ≡ accepted b = sym x.1 ∙ h in cc
 
+  -- by the answers of the calls
+  pub grammar_refused : {e : Reason} → refused e ≡ check_grammar g → Compares g first second (refused (of_grammar e))
+  unfolding read_both
+  grammar_refused h = refused-both (rw (sym h))
+
+  pub first_refused : accepted tt ≡ check_grammar g → {e : Reason} → refused e ≡ counted_bytes g first → Compares g first second (refused (of_first e))
+  unfolding read_both
+  first_refused p h = refused-both (rw (sym p, map-refused _ (demarshall_of g first 4096) (sym h)))
+
+  pub second_refused : accepted tt ≡ check_grammar g → {a : List ℕ} → accepted a ≡ counted_bytes g first → {e : Reason} → refused e ≡ counted_bytes g second → Compares g first second (refused (of_second e))
+  unfolding read_both
+  second_refused p h k =
+      let t = map-accepted _ (demarshall_of g first 4096) (sym h) in
+      refused-both (rw (sym p, t.1, map-refused _ (demarshall_of g second 4096) (sym k)))
+
   both_read : (t u : Step State Val) → accepted tt ≡ check_grammar g → demarshall_of g first 4096 ≡ accepted t → demarshall_of g second 4096 ≡ accepted u → read_both g first second ≡ accepted (record { first = t.value; second = u.value })
   unfolding read_both
   both_read t u p h k = rw (sym p, h, k)
 
-  -- by the answers of the calls
-  pub grammar-refused : {e : Reason} → refused e ≡ check_grammar g → Compares g first second (refused (of_grammar e))
-  unfolding read_both
-  grammar-refused h = refused-both (rw (sym h))
-
-  module _ (p : accepted tt ≡ check_grammar g) where
-    pub first-refused : {e : Stop} → refused e ≡ first_field_of g first 4096 → Compares g first second (refused (of_first e.why))
-    unfolding read_both
-    first-refused h = refused-both (rw (sym p, field-refused g first h))
-
-    module _ {m : State} (h : accepted m ≡ first_field_of g first 4096) where
-      pub second-refused : {e : Stop} → refused e ≡ first_field_of g second 4096 → Compares g first second (refused (of_second e.why))
-      unfolding read_both
-      second-refused k = let t = field-accepted g first h in refused-both (rw (sym p, t.1, field-refused g second k))
-
-      pub compared : {n : State} → accepted n ≡ first_field_of g second 4096 → Below (2 ^ 32) g → Bytes first → Bytes second → {s : Bool} → (take (length first - m.at) (drop m.at first) ≡ take (length second - n.at) (drop n.at second)) ↔ (s ≡ true) → Compares g first second (accepted s)
-      compared {n} k w a b {s} e =
-          let t = field-accepted g first h in
-          let u = field-accepted g second k in
-          let d : (drop (behind_first_field t.0.value).at first ≡ drop (behind_first_field u.0.value).at second) ↔ (s ≡ true) = rw (part_from, part_from, t.2, u.2) at e in
-          accepted-both (both_read t.0 u.0 p t.1 u.1) (Iff.trans (same-route-same-bytes g first second 4096 w a b t.0 u.0 t.1 u.1) d)
-
--- an answer that was tested
-pub with_answer : {g first second : List ℕ} {s r : Bool} → s ≡ r → Compares g first second (accepted s) → Compares g first second (accepted r)
-with_answer e h = rw e at h
+  pub compared : accepted tt ≡ check_grammar g → {a b : List ℕ} → accepted a ≡ counted_bytes g first → accepted b ≡ counted_bytes g second → Below (2 ^ 32) g → Bytes first → Bytes second → {s : Bool} → (a ≡ b) ↔ (s ≡ true) → Compares g first second (accepted s)
+  compared p h k w c d {s} e =
+      let t = map-accepted _ (demarshall_of g first 4096) (sym h) in
+      let u = map-accepted _ (demarshall_of g second 4096) (sym k) in
+      let f : (drop (behind_first_field t.0.value).at first ≡ drop (behind_first_field u.0.value).at second) ↔ (s ≡ true) = rw (t.2, u.2) at e in
+      accepted-both (both_read t.0 u.0 p t.1 u.1) (Iff.trans (same-route-same-bytes g first second 4096 w c d t.0 u.0 t.1 u.1) f)
 
 -- the contract allows one outcome
 pub compares-one : (g first second : List ℕ) (o p : Outcome NamedReason Bool) → Compares g first second o → Compares g first second p → o ≡ p

@@ -1,12 +1,5 @@
 -- What counts of two values of one grammar, and its bytes in their records.
-use mathlib.Core.Path.{◌≡◌, refl, sym, ap, ◌∙◌}
-use mathlib.Core.Logic.{◌↔◌}
-use mathlib.Core.List.{List, [], ◌++◌}
-use Prim.Native.Nat.{ℕ, ◌+◌, ◌≤◌}
-use native.Mathlib.Nat.{zero-add}
-use native.Mathlib.Omega.{arith}
-use lib.ListN.{drop}
-use lib.Seq.{drop_at}
+use Rattle.std.proofs.Common.{◌≡◌, refl, sym, ap, ◌∙◌, ◌↔◌, List, [], ◌++◌, ℕ, ◌+◌, ◌≤◌, zero-add, arith, drop, drop_at}
 use Rattle.value.specs.Tree.{G, Gs, Val, Vals, VTuple, vcons, ValInGrammar, in_constant, in_number, in_array, in_tuple, in_number_array, in_case, each_nil, each_cons, ValidVal, TypedVal, ValueOf, FieldsOf, SizeOfV}
 use Rattle.value.specs.Bytes.{bytes_of, bytes_of_all}
 use Rattle.value.specs.Reading.{start}

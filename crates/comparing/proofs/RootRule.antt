@@ -1,9 +1,5 @@
 -- What counts by the root of the table.
-use mathlib.Core.Path.{◌≡◌, refl, sym, ap, subst}
-use mathlib.Core.Logic.{◌↔◌}
-use mathlib.Core.List.{List}
-use Prim.Native.Nat.{ℕ}
-use native.Mathlib.Omega.{arith}
+use Rattle.std.proofs.Common.{◌≡◌, refl, sym, ap, subst, ◌↔◌, List, ℕ, arith}
 use Rattle.refusal.specs.Outcome.{Outcome, accepted, refused, Reason}
 use Rattle.refusal.proofs.Outcome.{clash, bind_inverse, map-accepted}
 use Rattle.value.specs.Tree.{G, Gs, GTuple, gcons, Val, Vals, VTuple, vcons, ValInGrammar, in_tuple, each_cons}

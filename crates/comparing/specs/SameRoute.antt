@@ -1,14 +1,15 @@
 -- What `same_route` answers: whether two records under one grammar are equal in what counts, or what is refused and why.
-use Rattle.std.specs.Prelude.{◌≡◌, ◌↔◌, Bool, true, false, List, ℕ, ◌^◌, ◌<◌}
+use Rattle.std.specs.Prelude.{◌≡◌, ◌↔◌, Bool, true, false, List, ℕ, ◌^◌, ◌<◌, drop, Result, Ok, Err}
 use Rattle.refusal.specs.Outcome.{Outcome, accepted, refused, bind, map, Reason}
 use Rattle.refusal.specs.Meaning.{reason_of}
 use Rattle.packed.specs.Packed.{Bytes, Below}
 use Rattle.value.specs.Tree.{Val, Vals, VConstant, VNumber, VArray, VTuple, VNumberArray, VCase, vnil, vcons}
 use Rattle.tables.specs.Grammar.{kind_word, count_word}
 use Rattle.grammar.specs.Check.{check_grammar}
+use Rattle.readers.specs.Root.{behind_first_field}
 use Rattle.reading.specs.Calls.{demarshall_of}
-use Rattle.comparing.specs.declared.SameRoute.{SameRoute}
-use Rattle.comparing.specs.declared.SameRoute.TheVariants as S
+use Rattle.comparing.specs.declared.Unread.{Unread}
+use Rattle.comparing.specs.declared.Unread.TheVariants as U
 
 -- a refusal and the record that it names: neither, where it is the grammar's, the first or the second
 pub data NamedReason : Type 0 where
@@ -16,13 +17,15 @@ pub data NamedReason : Type 0 where
   of_first : Reason → NamedReason
   of_second : Reason → NamedReason
 
--- what each case of the answer means; `true` is yes and `false` is no
-abbrev pub same_route_of : SameRoute → Outcome NamedReason Bool
-same_route_of S.Yes = accepted true
-same_route_of S.No = accepted false
-same_route_of (S.Grammar r) = refused (of_grammar (reason_of r))
-same_route_of (S.First r) = refused (of_first (reason_of r))
-same_route_of (S.Second r) = refused (of_second (reason_of r))
+abbrev pub named_of : Unread → NamedReason
+named_of (U.Grammar r) = of_grammar (reason_of r)
+named_of (U.First r) = of_first (reason_of r)
+named_of (U.Second r) = of_second (reason_of r)
+
+-- what an answer means; `true` is yes and `false` is no
+abbrev pub same_route_of : Result Bool Unread → Outcome NamedReason Bool
+same_route_of (Ok same) = accepted same
+same_route_of (Err u) = refused (named_of u)
 
 abbrev pub naming : {A : Type 0} → (Reason → NamedReason) → Outcome Reason A → Outcome NamedReason A
 naming name (accepted a) = accepted a
@@ -51,6 +54,10 @@ counted (VTuple vnil) = VTuple vnil
 counted (VTuple (vcons v vs)) = VTuple vs
 counted (VNumberArray k ns) = VNumberArray k ns
 counted (VCase c v) = VCase c v
+
+-- the bytes of what counts of a record, by its whole reading of capacity 4,096: those behind the first field of a tuple that has one, else all
+abbrev pub counted_bytes : List ℕ → List ℕ → Outcome Reason (List ℕ)
+counted_bytes g d = map (λ t. drop (behind_first_field t.value).at d) (demarshall_of g d 4096)
 
 -- when the values are those of the same route
 abbrev pub Same : Both → Type 0

@@ -2,17 +2,16 @@
 #![tactic(auto)]
 
 ghost use Rattle.std.specs.Prelude.{◌≡◌, true, ◌↔◌};
-ghost use Rattle.comparing.specs.SameRoute.{same_route_of, Compares};
+ghost use Rattle.refusal.specs.Outcome.{map};
+ghost use Rattle.refusal.specs.Meaning.{outcome_of};
+ghost use Rattle.comparing.specs.SameRoute.{counted_bytes, same_route_of, Compares};
 
-use readers::Step;
-use refusal::{Answer, Refusal};
+use refusal::Refusal;
 use tables::MOST_ROWS;
 
-// The answer of `same_route`: yes, no, or the refusal of the grammar, of the first record or of the second.
-#[derive(Clone, Copy)]
-pub enum SameRoute {
-    Yes,
-    No,
+// Why there is no answer: the refusal of the grammar, of the first record or of the second.
+#[derive(Clone, Copy, Debug, PartialEq, Eq)]
+pub enum Unread {
     Grammar(Refusal),
     First(Refusal),
     Second(Refusal),
@@ -26,37 +25,26 @@ fn same_bytes(a: &[u8], b: &[u8]) -> bool
         return false;
     }
     let mut same = true;
-    let mut i: usize = 0;
-    while i < a.len() {
-        if a[i] != b[i] {
-            same = false;
-        }
-        i += 1;
+    for (x, y) in a.iter().zip(b) {
+        same &= *x == *y;
     }
     same
 }
 
-// Whether two records under one grammar are of the same route. A record is the bytes of its value, so the bytes behind the root's
-// first field are compared, or where it has none, all bytes.
-pub fn same_route(grammar: &[u32], first: &[u8], second: &[u8]) -> SameRoute
+// The bytes of what counts of a record: a record is the bytes of its value, so those behind the root's first field, or where it has none, all.
+fn counted_bytes<'a>(grammar: &[u32], bytes: &'a [u8]) -> Result<&'a [u8], Refusal>
+    ensures { map (λ s. s.now) (outcome_of result) ≡ counted_bytes grammar.now bytes.now }
+{
+    let end = readers::check_first_field(grammar, bytes, MOST_ROWS)?;
+    Ok(&bytes[end.at..])
+}
+
+// Whether two records under one grammar are of the same route.
+pub fn same_route(grammar: &[u32], first: &[u8], second: &[u8]) -> Result<bool, Unread>
     ensures { Compares grammar.now first.now second.now (same_route_of result) }
 {
-    match grammar::check_grammar(grammar) {
-        Answer::Refused(r) => SameRoute::Grammar(r),
-        Answer::Accepted => match readers::check_first_field(grammar, first, MOST_ROWS) {
-            Step::Stopped(_, r) => SameRoute::First(r),
-            Step::Next(t) => match readers::check_first_field(grammar, second, MOST_ROWS) {
-                Step::Stopped(_, r) => SameRoute::Second(r),
-                Step::Next(u) => {
-                    let a = t.at;
-                    let b = u.at;
-                    if same_bytes(&first[a..], &second[b..]) {
-                        SameRoute::Yes
-                    } else {
-                        SameRoute::No
-                    }
-                }
-            },
-        },
-    }
+    grammar::check_grammar(grammar).map_err(Unread::Grammar)?;
+    let a = counted_bytes(grammar, first).map_err(Unread::First)?;
+    let b = counted_bytes(grammar, second).map_err(Unread::Second)?;
+    Ok(same_bytes(a, b))
 }

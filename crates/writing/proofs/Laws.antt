@@ -15,19 +15,20 @@ use Rattle.value.specs.Parse.{parse_val, Demarshallable}
 use Rattle.value.proofs.Laws.{length_bytes_of, parse_val_bytes_of, demarshallable_bytes_of}
 use Rattle.grammar.specs.Tree.{tree_of}
 use Rattle.grammar.proofs.Tree.{tree_valid}
-use Rattle.rows.specs.Meaning.{size_of}
-use Rattle.rows.specs.declared.SizeOf.{SizeOf}
+use Rattle.std.specs.Prelude.{Result}
+use Rattle.refusal.specs.declared.Refusal.{Refusal}
+use Rattle.refusal.specs.Meaning.{outcome_of}
 use Rattle.rows.proofs.Rule.{accepted_exactly}
 use Rattle.sizing.specs.Writes.{marshall_val_of}
 use Rattle.sizing.proofs.Writes.{accepted_writes}
 use Rattle.writing.specs.Marshall.{Marshalls}
 
-module _ (g t : List ℕ) (n : ℕ) (s : List ℕ) (entry exit : List ℕ) (index : ℕ) (r : SizeOf) (m : Marshalls (marshall_val_of g t n s (length entry) index) index r entry exit) where
-  pub marshall_refused : (e : Reason) → marshall_val_of g t n s (length entry) index ≡ refused e → (size_of r ≡ refused e) × (exit ≡ entry)
+module _ (g t : List ℕ) (n : ℕ) (s : List ℕ) (entry exit : List ℕ) (index : ℕ) (r : Result ℕ Refusal) (m : Marshalls (marshall_val_of g t n s (length entry) index) index r entry exit) where
+  pub marshall_refused : (e : Reason) → marshall_val_of g t n s (length entry) index ≡ refused e → (outcome_of r ≡ refused e) × (exit ≡ entry)
   marshall_refused e h = (m.answers ∙ ap (map SizeOfV) h, m.output ∙ ap (λ (o : Outcome Reason Val). contents (map (λ v. put entry index (bytes_of v)) o) entry) h)
 
   module _ (v : Val) (h : marshall_val_of g t n s (length entry) index ≡ accepted v) where
-    pub marshall_size : size_of r ≡ accepted (SizeOfV v)
+    pub marshall_size : outcome_of r ≡ accepted (SizeOfV v)
     marshall_size = m.answers ∙ ap (map SizeOfV) h
 
     pub marshall_output : exit ≡ put entry index (bytes_of v)

@@ -12,7 +12,7 @@ use Rattle.value.specs.Tree.{Val, SizeOfV}
 use Rattle.value.specs.Bytes.{bytes_of}
 use Rattle.rows.specs.Rule.{RowHolds, TableOf}
 use Rattle.rows.specs.Size.{size_from}
-use Rattle.rows.specs.declared.SizeOf.TheVariants as SizeOf
+use Rattle.std.specs.Prelude.{Ok, Err}
 use Rattle.rows.proofs.Rule.{accepted_exactly as rows_exactly}
 use Rattle.rows.proofs.Parts.{table-holds}
 use Rattle.rows.proofs.Size.{table-size}
@@ -43,10 +43,10 @@ module _ (o : Outcome Reason Val) (index : ℕ) (out : List ℕ) where
   output : {x : Outcome Reason Val} → o ≡ x → contents (map (λ v. put out index (bytes_of v)) o) out ≡ contents (map (λ v. put out index (bytes_of v)) x) out
   output e = ap (λ (x : Outcome Reason Val). contents (map (λ v. put out index (bytes_of v)) x) out) e
 
-  pub marshalls_refused : (r : Refusal) → refused (reason_of r) ≡ map SizeOfV o → Marshalls o index (SizeOf.Refused r) out out
+  pub marshalls_refused : (r : Refusal) → refused (reason_of r) ≡ map SizeOfV o → Marshalls o index (Err r) out out
   unfolding output
   marshalls_refused r h = record { answers = h; output = sym (output (map-refused SizeOfV o (sym h))) }
 
-  pub marshalls_put : {size : ℕ} {v : Val} {exit : List ℕ} → accepted size ≡ map SizeOfV o → o ≡ accepted v → exit ≡ put out index (bytes_of v) → Marshalls o index (SizeOf.Size size) out exit
+  pub marshalls_put : {size : ℕ} {v : Val} {exit : List ℕ} → accepted size ≡ map SizeOfV o → o ≡ accepted v → exit ≡ put out index (bytes_of v) → Marshalls o index (Ok size) out exit
   unfolding output
   marshalls_put h e p = record { answers = h; output = p ∙ sym (output e) }

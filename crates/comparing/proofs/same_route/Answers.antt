@@ -1,63 +1,51 @@
-use Prim.Native.Nat.{◌≤◌}
-use native.Mathlib.Omega.{arith}
-use lib.ListN.{length}
-use Rattle.refusal.specs.Outcome.{accepted}
+use Rattle.std.proofs.Common.{◌≡◌, List, ℕ, Result, Bor}
+use Rattle.std.proofs.lemmas.Result.{err_from_is_err_and}
+use Rattle.refusal.specs.declared.Refusal.{Refusal}
+use Rattle.refusal.specs.Outcome.{Outcome, Reason, accepted, map}
+use Rattle.refusal.specs.Meaning.{outcome_of}
 use Rattle.refusal.proofs.Meaning.{matched, done, stopped}
-use Rattle.comparing.specs.SameRoute.{Compares}
-use Rattle.readers.specs.Meaning.{step_of}
-use Rattle.comparing.proofs.Comparing.{field-within, grammar-refused, first-refused, second-refused, compared, with_answer}
+use Rattle.grammar.specs.Check.{check_grammar}
+use Rattle.comparing.specs.SameRoute.{counted_bytes}
+use Rattle.comparing.specs.declared.Unread.{Unread}
+use Rattle.comparing.proofs.Meaning.{renamed_err, renamed_ok}
+use Rattle.comparing.proofs.Comparing.{grammar_refused, first_refused, second_refused, compared}
 use Rattle.comparing.proofs.same_route.Goals as goal
-use Rattle.comparing.proofs.same_route.Goals.{After-same_bytes, In-Next-check_first_field}
+use Rattle.comparing.proofs.same_route.Goals.{In_ok-map_err, In_ok-a}
 
--- both records are accepted: the first fields end within them
-inside : (c : In-Next-check_first_field) → let a = c.args in (c.in-Next.t.at ≤ length a.first.now) × (c.in-Next-check_first_field.u.at ≤ length a.second.now)
-inside c =
-    let a = c.args in (
-      field-within a.grammar.now a.first.now (matched step_of c.in-Next.is c.check_first_field.ensures.0) (λ j l. (c.type_inv.grammar j).fits) (λ j. (c.type_inv.first j).fits),
-      field-within a.grammar.now a.second.now (matched step_of c.in-Next-check_first_field.is c.check_first_field-in-Next.ensures.0) (λ j l. (c.type_inv.grammar j).fits) (λ j. (c.type_inv.second j).fits),
-    )
+abbrev bytes_of_result : Result (Bor (List ℕ)) Refusal → Outcome Reason (List ℕ)
+bytes_of_result r = map (λ s. s.now) (outcome_of r)
 
-pub slice_bounds-same_bytes-count : goal.slice_bounds-same_bytes-count
-slice_bounds-same_bytes-count c = omega (arith, (inside c).0)
+-- what the calls were accepted with
+checked : (c : In_ok-map_err) → accepted tt ≡ check_grammar c.args.grammar.now
+checked c = done (renamed_ok Unread.Grammar c.check_grammar.result tt c.in_ok-map_err.ensures.cases) c.check_grammar.ensures
 
-pub slice_bounds-same_bytes-start : goal.slice_bounds-same_bytes-start
-slice_bounds-same_bytes-start c = omega (arith, (inside c).0)
+counted : (c : In_ok-a) → accepted c.in_ok-a.a.now ≡ counted_bytes c.args.grammar.now c.args.first.now
+counted c = matched bytes_of_result (renamed_ok Unread.First c.counted_bytes.result c.in_ok-a.a c.in_ok-a.ensures.cases) c.counted_bytes.ensures
 
-pub slice_bounds-same_bytes-count-in-Next-check_first_field : goal.slice_bounds-same_bytes-count-in-Next-check_first_field
-slice_bounds-same_bytes-count-in-Next-check_first_field c = omega (arith, (inside (goal.at.slice_bounds-same_bytes-count-in-Next-check_first_field c).In-Next-check_first_field).1)
-
-pub slice_bounds-same_bytes-start-in-Next-check_first_field : goal.slice_bounds-same_bytes-start-in-Next-check_first_field
-slice_bounds-same_bytes-start-in-Next-check_first_field c = omega (arith, (inside (goal.at.slice_bounds-same_bytes-start-in-Next-check_first_field c).In-Next-check_first_field).1)
-
-pub returns-in-Refused : goal.returns-in-Refused
-returns-in-Refused c =
+pub returns-in_err-map_err : goal.returns-in_err-map_err
+returns-in_err-map_err c =
     let a = c.args in
-    grammar-refused a.grammar.now a.first.now a.second.now (stopped c.in-Refused.is c.check_grammar.ensures)
+    let p = err_from_is_err_and c.from_residual.result c.from_residual.ensures.1 in
+    let e = renamed_err Unread.Grammar c.check_grammar.result c.in_err-map_err.field-0.0 c.in_err-map_err.ensures.cases in
+    rw (p.1, p.2, e.2) (grammar_refused a.grammar.now a.first.now a.second.now (stopped e.1 c.check_grammar.ensures))
 
-pub returns-in-Stopped : goal.returns-in-Stopped
-returns-in-Stopped c =
+pub returns-in_err-a : goal.returns-in_err-a
+returns-in_err-a c =
     let a = c.args in
-    first-refused a.grammar.now a.first.now a.second.now (done c.in-Accepted.is c.check_grammar.ensures)
-    (matched step_of c.in-Stopped.is c.check_first_field.ensures.0)
+    let p = err_from_is_err_and c.from_residual-in_err-a.result c.from_residual-in_err-a.ensures.1 in
+    let e = renamed_err Unread.First c.counted_bytes.result c.in_err-a.field-0.0 c.in_err-a.ensures.cases in
+    rw (p.1, p.2, e.2) (first_refused a.grammar.now a.first.now a.second.now (checked (goal.at.returns-in_err-a c).In_ok-map_err) (matched bytes_of_result e.1 c.counted_bytes.ensures))
 
-pub returns-in-Stopped-check_first_field : goal.returns-in-Stopped-check_first_field
-returns-in-Stopped-check_first_field c =
+pub returns-in_err-b : goal.returns-in_err-b
+returns-in_err-b c =
     let a = c.args in
-    second-refused a.grammar.now a.first.now a.second.now (done c.in-Accepted.is c.check_grammar.ensures)
-    (matched step_of c.in-Next.is c.check_first_field.ensures.0)
-    (matched step_of c.in-Stopped-check_first_field.is c.check_first_field-in-Next.ensures.0)
+    let p = err_from_is_err_and c.from_residual-in_err-b.result c.from_residual-in_err-b.ensures.1 in
+    let e = renamed_err Unread.Second c.counted_bytes-2.result c.in_err-b.field-0.0 c.in_err-b.ensures.cases in
+    rw (p.1, p.2, e.2) (second_refused a.grammar.now a.first.now a.second.now (checked (goal.at.returns-in_err-b c).In_ok-map_err) (counted (goal.at.returns-in_err-b c).In_ok-a) (matched bytes_of_result e.1 c.counted_bytes-2.ensures))
 
--- their bytes behind the first fields are compared
-answered : (c : After-same_bytes) → let a = c.args in Compares a.grammar.now a.first.now a.second.now (accepted c.same_bytes.result)
-answered c =
+pub returns : goal.returns
+returns c =
     let a = c.args in
-    compared a.grammar.now a.first.now a.second.now (done c.in-Accepted.is c.check_grammar.ensures)
-    (matched step_of c.in-Next.is c.check_first_field.ensures.0)
-    (matched step_of c.in-Next-check_first_field.is c.check_first_field-in-Next.ensures.0)
+    let e = renamed_ok Unread.Second c.counted_bytes-2.result c.in_ok-b.b c.in_ok-b.ensures.cases in
+    compared a.grammar.now a.first.now a.second.now (checked (goal.at.returns c).In_ok-map_err) (counted (goal.at.returns c).In_ok-a) (matched bytes_of_result e c.counted_bytes-2.ensures)
     (λ j l. (c.type_inv.grammar j).fits) (λ j. (c.type_inv.first j).fits) (λ j. (c.type_inv.second j).fits) c.same_bytes.ensures
-
-pub returns-then-same_bytes : goal.returns-then-same_bytes
-returns-then-same_bytes c = with_answer c.if-same_bytes.true (answered (goal.at.returns-then-same_bytes c).After-same_bytes)
-
-pub returns-else-same_bytes : goal.returns-else-same_bytes
-returns-else-same_bytes c = with_answer c.if-same_bytes.false (answered (goal.at.returns-else-same_bytes c).After-same_bytes)

@@ -1,9 +1,7 @@
-use mathlib.Core.Path.{◌≡◌, refl, ap, sym, ◌∙◌}
-use Prim.Native.Nat.{ℕ}
-use native.Mathlib.Omega.{arith}
+use Rattle.std.proofs.Common.{sym, ap, ◌∙◌, arith}
 use Rattle.packed.specs.Packed.{put}
 use Rattle.packed.proofs.Put.{put-nothing}
-use Rattle.rows.specs.Size.{own_bytes, own_size, bytes_from}
+use Rattle.rows.specs.Size.{own_bytes, own_size}
 use Rattle.rows.proofs.Loop.{size_none, size-next, size-within, bytes-none, rows_next}
 use Rattle.rows.proofs.Size.{length-own_bytes}
 use Rattle.writing.proofs.marshall_rows.Goals as goal
@@ -11,7 +9,7 @@ use Rattle.writing.proofs.marshall_rows.Goals as goal
 pub loop-i-init : goal.loop-i-init
 loop-i-init c =
     let a = c.args in
-    (omega arith, omega (arith, size_none own_size a.rows.now 0), sym (ap (put a.out.now a.index) (bytes-none own_bytes a.rows.now a.store.now 0) ∙ put-nothing a.out.now a.index), refl)
+    (omega (arith, size_none own_size a.rows.now 0), sym (ap (put a.out.now a.index) (bytes-none own_bytes a.rows.now a.store.now 0) ∙ put-nothing a.out.now a.index))
 
 pub marshall_row-at-requires : goal.marshall_row-at-requires
 marshall_row-at-requires c =
@@ -23,14 +21,5 @@ loop-i-preserved c =
     let a = c.args in
     let l = c.loop-i in
     let q = c.marshall_row-at in
-    let r = rows_next own_bytes a.rows.now a.store.now own_size length-own_bytes a.n c.requires.0 a.out.now a.index c.requires.1 l.out _ l.at l.i c.loop-i-test.true l.invariant.1 l.invariant.2 q.ensures.1 in
-    (omega arith, omega (arith, q.ensures.0, size-next own_size a.rows.now l.i), r.0, r.1)
-
-pub shape_of-out : goal.shape_of-out
-shape_of-out c = c.loop-i.invariant.3
-
-pub returns : goal.returns
-returns c =
-    let a = c.args in
-    let e : c.loop-i.i ≡ a.n = omega arith in
-    c.loop-i.invariant.2 ∙ ap (λ (i : ℕ). put a.out.now a.index (bytes_from a.rows.now a.store.now 0 i)) e
+    let r = rows_next own_bytes a.rows.now a.store.now own_size length-own_bytes a.n c.requires.0 a.out.now a.index c.requires.1 l.out _ l.at l.i c.loop-i-test.true l.invariant.0 l.invariant.1 q.ensures.1 in
+    (omega (arith, q.ensures.0, size-next own_size a.rows.now l.i), r.0)

@@ -1,9 +1,0 @@
-use mathlib.Core.Path.{refl}
-use Rattle.packed.specs.Packed.{pack_little_endian}
-use Rattle.packed.proofs.Laws.{length_pack}
-use Rattle.packed.proofs.Calls.{fills_put}
-use Rattle.writing.proofs.marshall_uint64.Goals as goal
-
-pub returns : goal.returns
-returns c =
-    (refl, fills_put c.args.out.now c.args.index (pack_little_endian 8 c.args.n) 8 (length_pack 8 c.args.n) c.requires c.pack_little_endian_uint64_into_array.ensures)
