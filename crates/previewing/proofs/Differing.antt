@@ -4,7 +4,7 @@ use mathlib.Core.Bool.{Bool, true, false, cond}
 use mathlib.Core.List.{List, [], ◌∷◌, ◌++◌}
 use Prim.Native.Nat.{ℕ, zero, suc, ◌+◌, ◌≤◌, ◌<◌}
 use native.Mathlib.Omega.{arith}
-use lib.ListN.{length, get_or, take, drop, length-take, length-drop}
+use lib.ListN.{length, get_or, take, drop, length-take}
 use lib.Dec.{eqb}
 use lib.Seq.{take-length, drop-cons, drop-drop, take-add, length-take-le}
 use borrow.Author.Tests.{eq-eqb, ne_eqb, eqb-true}
@@ -66,24 +66,33 @@ differing-put out index bs h =
     let g : differing (drop index out) (bs ++ behind) ≡ differing (drop index out) bs = differing_join (drop index out) bs behind ∙ rw f (omega arith) in
     differing_join out (take index out) (bs ++ behind) ∙ rw (differing-front index out, e) (omega (arith, g))
 
--- ---- the loop that counts
+-- ---- the loops that count
 
--- n places more of a, from i on, and of b, from j on
-pub next-block : (a : List ℕ) (i : ℕ) (b : List ℕ) (j k n : ℕ) → j + k ≤ length b → differing (drop i a) (take (k + n) (drop j b)) ≡ differing (drop i a) (take k (drop j b)) + differing (drop (i + k) a) (take n (drop (j + k) b))
-next-block a i b j k n q =
-    let l : length (take k (drop j b)) ≡ k = length-take-le k (drop j b) (rw length-drop (omega arith)) in
-    rw (take-add, differing_join, l, drop-drop, drop-drop)
+-- what is behind the end of a list is not looked at
+pub differing_cut : (n : ℕ) (a b : List ℕ) → differing (take n a) (take n b) ≡ differing a (take n b)
+unfolding differing
+differing_cut zero a b = sym (differing-none a)
+differing_cut (suc n) [] b = refl
+differing_cut (suc n) (x ∷ a) [] = refl
+differing_cut (suc n) (x ∷ a) (y ∷ b) = ap (λ (d : ℕ). cond (eqb x y) 0 1 + d) (differing_cut n a b)
+
+pub differing_over : (a b : List ℕ) → differing (take (length b) a) b ≡ differing a b
+differing_over a b = ap (differing (take (length b) a)) (sym (take-length b)) ∙ differing_cut (length b) a b ∙ ap (differing a) (take-length b)
+
+-- n places more
+pub next-block : (a b : List ℕ) (k n : ℕ) → k ≤ length b → differing a (take (k + n) b) ≡ differing a (take k b) + differing (drop k a) (take n (drop k b))
+next-block a b k n q = rw (take-add, differing_join, length-take-le k b q)
 
 -- one place more
-module _ (a : List ℕ) (i : ℕ) (b : List ℕ) (j k : ℕ) (p : i + k < length a) (q : j + k < length b) where
-  next : differing (drop i a) (take (k + 1) (drop j b)) ≡ differing (drop i a) (take k (drop j b)) + cond (eqb (get_or a (i + k) 0) (get_or b (j + k) 0)) 0 1
+module _ (a b : List ℕ) (k : ℕ) (p : k < length a) (q : k < length b) where
+  next : differing a (take (k + 1) b) ≡ differing a (take k b) + cond (eqb (get_or a k 0) (get_or b k 0)) 0 1
   unfolding differing
-  next = next-block a i b j k 1 (omega arith) ∙ rw (drop-cons a (i + k) 0 p, drop-cons b (j + k) 0 q) (omega (arith, differing-none (drop (suc (i + k)) a)))
+  next = next-block a b k 1 (omega arith) ∙ rw (drop-cons a k 0 p, drop-cons b k 0 q) (omega (arith, differing-none (drop (suc k) a)))
 
-  pub next-equal : get_or a (i + k) 0 ≡ get_or b (j + k) 0 → differing (drop i a) (take (k + 1) (drop j b)) ≡ differing (drop i a) (take k (drop j b))
+  pub next-equal : get_or a k 0 ≡ get_or b k 0 → differing a (take (k + 1) b) ≡ differing a (take k b)
   next-equal e = next ∙ rw (eq-eqb _ _ e) (omega arith)
 
-  pub next-different : (get_or a (i + k) 0 ≡ get_or b (j + k) 0 → ⊥) → differing (drop i a) (take (k + 1) (drop j b)) ≡ differing (drop i a) (take k (drop j b)) + 1
+  pub next-different : (get_or a k 0 ≡ get_or b k 0 → ⊥) → differing a (take (k + 1) b) ≡ differing a (take k b) + 1
   next-different n = next ∙ rw (ne_eqb _ _ n)
 
 -- ---- what it counts

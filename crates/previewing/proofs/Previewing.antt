@@ -13,8 +13,9 @@ use Rattle.value.specs.Bytes.{bytes_of}
 use Rattle.value.proofs.Laws.{length_bytes_of}
 use Rattle.rows.specs.Size.{bytes_from}
 use Rattle.rows.proofs.Size.{table-bytes}
-use Rattle.rows.specs.Meaning.{size_of}
-use Rattle.rows.specs.declared.SizeOf.{SizeOf}
+use Rattle.std.specs.Prelude.{Result}
+use Rattle.refusal.specs.declared.Refusal.{Refusal}
+use Rattle.refusal.specs.Meaning.{outcome_of}
 use Rattle.sizing.specs.Writes.{marshall_val_of}
 use Rattle.sizing.proofs.Writes.{accepted_writes}
 use Rattle.writing.specs.Marshall.{Marshalls}
@@ -63,7 +64,7 @@ changed-most g t s out n index p h =
     let d = differing-put out index (bytes_of v) (omega (arith, w.room)) in
     rw x.2 (omega (arith, d, (differing-most (drop index out) (bytes_of v)).1, length_bytes_of v), w.small)
 
-changed-none : (g t s out exit : List ℕ) (n index : ℕ) (p : Preview) (w : SizeOf) → preview_of g t n s out index ≡ accepted p → Marshalls (marshall_val_of g t n s (length out) index) index w out exit → (p.changed ≡ 0) ↔ (exit ≡ out)
+changed-none : (g t s out exit : List ℕ) (n index : ℕ) (p : Preview) (w : Result ℕ Refusal) → preview_of g t n s out index ≡ accepted p → Marshalls (marshall_val_of g t n s (length out) index) index w out exit → (p.changed ≡ 0) ↔ (exit ≡ out)
 unfolding preview_of
 changed-none g t s out exit n index p w h m =
     let x = map-accepted (of g t n s out index) (marshall_val_of g t n s (length out) index) h in
@@ -72,7 +73,7 @@ changed-none g t s out exit n index p w h m =
     let z = counts_places.zero out exit (sym (marshall_length g t n s out exit index w m v x.1)) in
     (λ c. sym (z.0 (sym e ∙ c)), λ q. e ∙ z.1 (sym q))
 
-preview-again : (g t s out exit : List ℕ) (n index size : ℕ) (w : SizeOf) → Marshalls (marshall_val_of g t n s (length out) index) index w out exit → size_of w ≡ accepted size → preview_of g t n s exit index ≡ accepted (record { size = size; changed = 0 })
+preview-again : (g t s out exit : List ℕ) (n index size : ℕ) (w : Result ℕ Refusal) → Marshalls (marshall_val_of g t n s (length out) index) index w out exit → outcome_of w ≡ accepted size → preview_of g t n s exit index ≡ accepted (record { size = size; changed = 0 })
 unfolding preview_of
 preview-again g t s out exit n index size w m h =
     let x = map-accepted SizeOfV (marshall_val_of g t n s (length out) index) (sym m.answers ∙ h) in

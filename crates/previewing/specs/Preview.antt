@@ -1,12 +1,11 @@
 -- What `preview` answers: what a writing with the same arguments would answer, and how many bytes of the output it would change.
-use Rattle.std.specs.Prelude.{◌≡◌, ◌↔◌, cond, List, [], ◌∷◌, ℕ, suc, ◌+◌, ◌≤◌, length, eqb}
-use Rattle.refusal.specs.Outcome.{Outcome, accepted, refused, map, Reason}
-use Rattle.refusal.specs.Meaning.{reason_of}
+use Rattle.std.specs.Prelude.{◌≡◌, ◌↔◌, cond, List, [], ◌∷◌, ℕ, suc, ◌+◌, ◌≤◌, length, eqb, Result}
+use Rattle.refusal.specs.Outcome.{Outcome, accepted, map, Reason}
+use Rattle.refusal.specs.declared.Refusal.{Refusal}
+use Rattle.refusal.specs.Meaning.{outcome_of}
 use Rattle.packed.specs.Packed.{put}
 use Rattle.value.specs.Tree.{SizeOfV}
 use Rattle.value.specs.Bytes.{bytes_of}
-use Rattle.rows.specs.Meaning.{size_of}
-use Rattle.rows.specs.declared.SizeOf.{SizeOf}
 use Rattle.sizing.specs.Writes.{marshall_val_of}
 use Rattle.writing.specs.Marshall.{Marshalls}
 use Rattle.previewing.specs.declared.Previewed.{Previewed}
@@ -26,20 +25,19 @@ pub record Preview : Type 0 where
 unfoldable pub preview_of : List ℕ → List ℕ → ℕ → List ℕ → List ℕ → ℕ → Outcome Reason Preview
 preview_of g t n s out index = map (λ v. record { size = SizeOfV v; changed = differing out (put out index (bytes_of v)) }) (marshall_val_of g t n s (length out) index)
 
--- what each case of the answer means
-abbrev pub previewed_of : Previewed → Outcome Reason Preview
-previewed_of (Previewed.Preview size changed) = accepted (record { size = size; changed = changed })
-previewed_of (Previewed.Refused r) = refused (reason_of r)
+-- what the answer means
+abbrev pub previewed_of : Result Previewed Refusal → Outcome Reason Preview
+previewed_of r = map (λ p. record { size = p.size; changed = p.changed }) (outcome_of r)
 
 -- "It must equal what writing to a copy of the output would answer and change" (document 02): of every answer p that the contract of `preview`
 -- allows and every answer w and output at exit that the contract of `marshall_val` allows, with the same arguments. It would be empty if
 -- nothing were written: in `examples` of Examples.antt case A is, over outputs of which from no byte to all 14 differ
 abbrev pub EqualsWriting : Type 0
 EqualsWriting =
-    (g t s out exit : List ℕ) (n index : ℕ) (p : Previewed) (w : SizeOf)
+    (g t s out exit : List ℕ) (n index : ℕ) (p : Result Previewed Refusal) (w : Result ℕ Refusal)
     → previewed_of p ≡ preview_of g t n s out index
     → Marshalls (marshall_val_of g t n s (length out) index) index w out exit
-    → previewed_of p ≡ map (λ size. record { size = size; changed = differing out exit }) (size_of w)
+    → previewed_of p ≡ map (λ size. record { size = size; changed = differing out exit }) (outcome_of w)
 
 -- what `differing` counts, without its text: of lists of one length 0 exactly where they are equal, each place counts once, and no more than
 -- there are
@@ -54,6 +52,6 @@ pub record Consequences : Type 0 where
   -- no more bytes would differ than would be written, and the size is at most 1,048,576
   pub most : (g t s out : List ℕ) (n index : ℕ) (p : Preview) → preview_of g t n s out index ≡ accepted p → (p.changed ≤ p.size) × (p.size ≤ 1048576)
   -- no byte would differ exactly where the writing leaves the output as it is
-  pub none : (g t s out exit : List ℕ) (n index : ℕ) (p : Preview) (w : SizeOf) → preview_of g t n s out index ≡ accepted p → Marshalls (marshall_val_of g t n s (length out) index) index w out exit → (p.changed ≡ 0) ↔ (exit ≡ out)
+  pub none : (g t s out exit : List ℕ) (n index : ℕ) (p : Preview) (w : Result ℕ Refusal) → preview_of g t n s out index ≡ accepted p → Marshalls (marshall_val_of g t n s (length out) index) index w out exit → (p.changed ≡ 0) ↔ (exit ≡ out)
   -- a preview over what an accepted writing left, all else the same, gives that size and no byte
-  pub again : (g t s out exit : List ℕ) (n index size : ℕ) (w : SizeOf) → Marshalls (marshall_val_of g t n s (length out) index) index w out exit → size_of w ≡ accepted size → preview_of g t n s exit index ≡ accepted (record { size = size; changed = 0 })
+  pub again : (g t s out exit : List ℕ) (n index size : ℕ) (w : Result ℕ Refusal) → Marshalls (marshall_val_of g t n s (length out) index) index w out exit → outcome_of w ≡ accepted size → preview_of g t n s exit index ≡ accepted (record { size = size; changed = 0 })

@@ -9,18 +9,17 @@ ghost use Rattle.previewing.specs.Preview.{differing, preview_of, previewed_of};
 ghost use Rattle.previewing.specs.Compared.{compared_with};
 
 use refusal::Refusal;
-use rows::SizeOf;
+use value::Kind;
 
-// The answer of `preview`: the size, and the number of output bytes whose content would differ after the writing.
-#[derive(Clone, Copy)]
-pub enum Previewed {
-    Preview { size: u64, changed: u64 },
-    Refused(Refusal),
+// What `preview` answers: the size, and the number of output bytes whose content would differ after the writing.
+#[derive(Clone, Copy, Debug, PartialEq, Eq)]
+pub struct Previewed {
+    pub size: u64,
+    pub changed: u64,
 }
 
-// How far a value's bytes are compared with the output: the output's byte behind the last one compared, and how many differ. `changed`
-// is at most `at`, so that adding to it does not overflow.
-#[derive(Clone, Copy)]
+// A part of a value's bytes compared with the output: the output's byte behind the last one compared, and how many differ.
+#[derive(Clone, Copy, Debug, PartialEq, Eq)]
 struct Compared {
     at: usize,
     changed: u64,
@@ -29,54 +28,56 @@ struct Compared {
 // The most places that a byte can count.
 const BLOCK: usize = 255;
 
-// At how many of count places, from i on in a and from j on in b, the bytes differ. There are at most BLOCK, so a byte holds the number. The
-// loop has no other end and its counter is a byte, so that it is compiled to 16 places at once.
-fn count_block(a: &[u8], i: usize, b: &[u8], j: usize, count: usize) -> u8
-    requires { (count ≤ 255) × (i + count ≤ length a.now) × (j + count ≤ length b.now) }
-    ensures { result ≡ differing (drop i a.now) (take count (drop j b.now)) }
+// At how many places the bytes of two slices of one length differ. There are at most BLOCK, so a byte holds the number. The loop has no
+// other end and its counter is a byte, so that it is compiled to 16 places at once.
+fn count_block(a: &[u8], b: &[u8]) -> u8
+    requires { (length b.now ≤ 255) × (length a.now ≡ length b.now) }
+    ensures { result ≡ differing a.now b.now }
 {
     let mut changed: u8 = 0;
-    let mut k: usize = 0;
-    while k < count {
-        if a[i + k] != b[j + k] {
+    for i in 0..b.len() {
+        if a[i] != b[i] {
             changed += 1;
         }
-        k += 1;
     }
     changed
 }
 
-// The same of any count, block by block.
-fn count_differing(a: &[u8], i: usize, b: &[u8], j: usize, count: usize) -> u64
-    requires { (i + count ≤ length a.now) × (j + count ≤ length b.now) }
-    ensures { result ≡ differing (drop i a.now) (take count (drop j b.now)) }
+// The same of any length, block by block.
+fn count_differing(a: &[u8], b: &[u8]) -> u64
+    requires { length a.now ≡ length b.now }
+    ensures { result ≡ differing a.now b.now }
 {
     let mut changed: u64 = 0;
     let mut k: usize = 0;
-    while k < count {
-        let mut size = count - k;
-        if BLOCK < size {
-            size = BLOCK;
-        }
-        changed += count_block(a, i + k, b, j + k, size) as u64;
+    while k < b.len() {
+        let size = (b.len() - k).min(BLOCK);
+        changed += u64::from(count_block(&a[k..k + size], &b[k..k + size]));
         k += size;
     }
     changed
 }
 
-// Compares the first width of a number's 8 bytes with the output, behind what was compared before.
-fn compare_number(n: u64, width: usize, out: &[u8], before: Compared) -> Compared
-    requires { (width ≤ 8) × (before.at + width ≤ length out.now) × (before.changed ≤ before.at) }
-    ensures { result ≡ compared_with out.now before (pack_little_endian width n) }
+// Compares bytes with those of the output from `at` on.
+fn compare_bytes(bytes: &[u8], out: &[u8], at: usize) -> Compared
+    requires { at + length bytes.now ≤ length out.now }
+    ensures { result ≡ compared_with out.now at bytes.now }
+{
+    let end = at + bytes.len();
+    Compared {
+        at: end,
+        changed: count_differing(&out[at..end], bytes),
+    }
+}
+
+// Compares the first width of a number's 8 bytes.
+fn compare_number(n: u64, width: usize, out: &[u8], at: usize) -> Compared
+    requires { (width ≤ 8) × (at + width ≤ length out.now) }
+    ensures { result ≡ compared_with out.now at (pack_little_endian width n) }
 {
     let mut packed = [0u8; 8];
-    packing::pack_little_endian_uint64_into_array(n, &mut packed, 0);
-    let at = before.at;
-    let changed = count_differing(out, at, &packed, 0, width);
-    Compared {
-        at: at + width,
-        changed: before.changed + changed,
-    }
+    let _ = packing::pack_little_endian_into_array(n, &mut packed, 0);
+    compare_bytes(&packed[..width], out, at)
 }
 
 // Compares the count of an array of numbers of a width and its bytes, which lie in the store.
@@ -86,42 +87,34 @@ fn compare_elements(
     store: &[u8],
     place: u64,
     out: &[u8],
-    before: Compared,
+    at: usize,
 ) -> Compared
-    requires { (place + width * count ≤ length store.now) × (before.at + (8 + width * count) ≤ length out.now) × (before.changed ≤ before.at) }
-    ensures { result ≡ compared_with out.now before (pack_little_endian 8 count ++ take (width * count) (drop place store.now)) }
+    requires { (place + width * count ≤ length store.now) × (at + (8 + width * count) ≤ length out.now) }
+    ensures { result ≡ compared_with out.now at (pack_little_endian 8 count ++ take (width * count) (drop place store.now)) }
 {
-    let counted = compare_number(count, 8, out, before);
-    let at = counted.at;
+    let counted = compare_number(count, 8, out, at);
+    let start = place as usize;
     let size = (width * count) as usize;
-    let changed = count_differing(out, at, store, place as usize, size);
+    let elements = compare_bytes(&store[start..start + size], out, counted.at);
     Compared {
-        at: at + size,
-        changed: counted.changed + changed,
+        at: elements.at,
+        changed: counted.changed + elements.changed,
     }
 }
 
 // Compares a row's own bytes, without its children's.
-fn compare_row(rows: &[u64], row: usize, store: &[u8], out: &[u8], before: Compared) -> Compared
-    requires { RowHolds rows.now store.now row × (before.at + own_size_at rows.now row ≤ length out.now) × (before.changed ≤ before.at) }
-    ensures { result ≡ compared_with out.now before (own_bytes_at rows.now store.now row) }
+#[tactic(auto, unfolding(rows::specs::Size::own_bytes))]
+fn compare_row(rows: &[u64], row: usize, store: &[u8], out: &[u8], at: usize) -> Compared
+    requires { RowHolds rows.now store.now row × (at + own_size_at rows.now row ≤ length out.now) }
+    ensures { result ≡ compared_with out.now at (own_bytes_at rows.now store.now row) }
 {
-    let kind = tables::kind_at(rows, row);
     let word2 = tables::word2_at(rows, row);
     let place = tables::word3_at(rows, row);
-    match kind {
-        0 => before,
-        1 => compare_number(word2, 4, out, before),
-        2 => compare_number(word2, 8, out, before),
-        3 => compare_number(word2, 8, out, before),
-        4 => before,
-        5 => compare_elements(word2, 1, store, place, out, before),
-        6 => compare_elements(word2, 4, store, place, out, before),
-        7 => compare_elements(word2, 8, store, place, out, before),
-        8 => compare_number(word2, 8, out, before),
-        9 => compare_number(word2, 4, out, before),
-        10 => compare_number(word2, 8, out, before),
-        11.. => before,
+    match Kind::of_word(tables::kind_at(rows, row)) {
+        Some(Kind::Number(n)) => compare_number(word2, n.width() as usize, out, at),
+        Some(Kind::Array | Kind::Union) => compare_number(word2, 8, out, at),
+        Some(Kind::Elements(e)) => compare_elements(word2, e.width(), store, place, out, at),
+        Some(Kind::Constant | Kind::Tuple) | None => Compared { at, changed: 0 },
     }
 }
 
@@ -130,16 +123,14 @@ fn compare_rows(rows: &[u64], n: usize, store: &[u8], out: &[u8], index: usize) 
     requires { ((j : ℕ) → j < n → RowHolds rows.now store.now j) × (index + size_from rows.now 0 n ≤ length out.now) }
     ensures { result ≡ differing (drop index out.now) (bytes_from rows.now store.now 0 n) }
 {
-    let mut compared = Compared {
-        at: index,
-        changed: 0,
-    };
-    let mut i: usize = 0;
-    while i < n {
-        compared = compare_row(rows, i, store, out, compared);
-        i += 1;
+    let mut at = index;
+    let mut changed: u64 = 0;
+    for i in 0..n {
+        let row = compare_row(rows, i, store, out, at);
+        at = row.at;
+        changed += row.changed;
     }
-    compared.changed
+    changed
 }
 
 // What GM's `MarshallVal` would answer, and how many bytes of the output it would change. Nothing is changed.
@@ -150,17 +141,10 @@ pub fn preview(
     store: &[u8],
     out: &[u8],
     index: usize,
-) -> Previewed
+) -> Result<Previewed, Refusal>
     ensures { previewed_of result ≡ preview_of grammar.now rows.now n store.now out.now index }
 {
-    match sizing::size_to_write(grammar, rows, n, store, out.len(), index) {
-        SizeOf::Refused(r) => Previewed::Refused(r),
-        SizeOf::Size(size) => {
-            let changed = compare_rows(rows, n, store, out, index);
-            Previewed::Preview {
-                size: size,
-                changed: changed,
-            }
-        }
-    }
+    let size = sizing::size_to_write(grammar, rows, n, store, out.len(), index)?;
+    let changed = compare_rows(rows, n, store, out, index);
+    Ok(Previewed { size, changed })
 }
