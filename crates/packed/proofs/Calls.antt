@@ -1,12 +1,20 @@
 -- When bytes are present and when they have room, as the calls decide it.
-use Rattle.std.proofs.Common.{◌≡◌, refl, sym, ap, ◌∙◌, true, ℕ, ◌+◌, ◌*◌, ◌≤◌, ◌<◌, le_refl, arith, length, take, drop, take_all, leb, le-leb, leb-true, List, ◌++◌}
+use Rattle.std.proofs.Common.{le-div_iff_mul-le, mul_comm, ◌-◌, ◌/◌, ◌≡◌, refl, sym, ap, ◌∙◌, true, ℕ, ◌+◌, ◌*◌, ◌≤◌, ◌<◌, le_refl, arith, length, take, drop, take_all, leb, le-leb, leb-true, List, ◌++◌}
 use borrow.Author.Tests.{lt-leb}
 use Rattle.refusal.specs.Outcome.{Outcome, accepted, refused, test, map, contents, Fills, Reason, reason, byte}
-use Rattle.refusal.proofs.Outcome.{test-true, test-false, test_passed, fills_refused, fills_accepted}
+use Rattle.refusal.proofs.Tests.{leb_iff}
+use Rattle.refusal.proofs.Outcome.{test-true, test-false, test_passed, fills_accepted}
 use Rattle.packed.specs.Packed.{present, room, unpack_little_endian_seq, pack_little_endian_seq, unpack_seq_at, put, put_at}
 use Rattle.packed.specs.Steps.{UnpackedTo, PackedTo}
 use Rattle.packed.proofs.Laws.{length_unpack_seq, unpack_seq_take, length_pack_seq}
 use Rattle.packed.proofs.Put.{length-put, put_whole, put_more}
+
+-- a count compared with the numbers that have room says what the product would, as `within` compares it
+pub count_compared : (len index count width : ℕ) → 0 < width → index ≤ len → leb count ((len - index) / width) ≡ leb (index + width * count) len
+count_compared len index count width pos h =
+    leb_iff count ((len - index) / width) (index + width * count) len
+    (λ (l : count ≤ (len - index) / width). let p : count * width ≤ len - index = (le-div_iff_mul-le pos).0 l in omega (arith, mul_comm count width))
+    (λ (l : index + width * count ≤ len). (le-div_iff_mul-le pos).1 (omega (arith, mul_comm count width)))
 
 module _ (len index size : ℕ) where
   pub present-index : len < index → present len index size ≡ refused (reason 7 (byte index))
@@ -51,11 +59,8 @@ module _ (w : ℕ) (s : List ℕ) (index : ℕ) (numbers : List ℕ) where
       fills_accepted (λ bs. unpack_little_endian_seq w bs (length numbers)) numbers (ap bytes h)
       (f ∙ put_whole numbers (unpack_little_endian_seq w (drop index s) i) l ∙ ap (unpack_little_endian_seq w (drop index s)) e ∙ sym (unpack_seq_take w (length numbers) (w * length numbers) (drop index s) (le_refl (w * length numbers))))
 
--- putting bytes that have room, or refused
+-- putting bytes that have room
 module _ (out : List ℕ) (index : ℕ) (bs : List ℕ) (size : ℕ) (l : length bs ≡ size) where
-  pub put_refused : {x : Reason} → refused x ≡ room (length out) index size → Fills (put_at out index bs) (refused x) out out
-  put_refused h = rw l (fills_refused (λ _. put out index bs) out h)
-
   pub put-accepted : {exit : List ℕ} → accepted tt ≡ room (length out) index size → exit ≡ put out index bs → Fills (put_at out index bs) (accepted tt) out exit
   put-accepted h e = rw l (fills_accepted (λ _. put out index bs) out h e)
 

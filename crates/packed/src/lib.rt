@@ -124,6 +124,7 @@ fn unpack(packed: &[u8], index: usize, width: usize) -> u64
     requires { (1 ≤ width) × (width ≤ 8) × (index + width ≤ length packed.now) }
     ensures { Summed packed.now index width result }
 {
+    // Byte 0 stands before the loop, which multiplies first: the weight behind byte 7 would not fit.
     let mut weight: u64 = 1;
     let mut sum = add_byte(0, packed, index, 0, weight);
     for i in 1..width {

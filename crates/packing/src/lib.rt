@@ -25,6 +25,7 @@ fn pack(n: u64, out: &mut [u8], index: usize, width: usize)
     requires { (1 ≤ width) × (width ≤ 8) × (index + width ≤ length out.old) }
     ensures { PutSoFar n out.old index width out.new }
 {
+    // Byte 0 stands before the loop, which multiplies first: the weight behind byte 7 would not fit.
     let mut weight: u64 = 1;
     put_byte(n, out, index, 0, weight);
     for i in 1..width {
