@@ -1,13 +1,6 @@
 -- The chooser step by step, as the code decides it.
-use mathlib.Core.Path.{◌≡◌, refl, ap, sym, ◌∙◌}
-use mathlib.Core.Bool.{true, false}
-use mathlib.Core.List.{List}
-use Prim.Native.Nat.{ℕ, zero, suc, ◌+◌, ◌-◌, ◌≤◌, ◌<◌}
-use native.Mathlib.Nat.{add-zero}
-use native.Mathlib.Numerals.{add-one}
-use native.Mathlib.Omega.{arith}
-use lib.ListN.{length, get_or, take, drop}
-use lib.Dec.{eqb}
+use Rattle.std.proofs.Common.{◌≡◌, refl, ap, sym, ◌∙◌, true, false, List, ℕ, zero, suc, ◌+◌, ◌-◌, ◌≤◌, ◌<◌, add-zero, add-one, arith, length, get_or, take, drop, length-drop, length-take-le, eqb}
+use Rattle.std.proofs.Math.Nat.{sub-zero}
 use Rattle.refusal.specs.Outcome.{Outcome, accepted, refused, bind, test, map, word, byte, Reason, reason}
 use Rattle.refusal.specs.Meaning.{location_of, reason_of}
 use Rattle.refusal.specs.declared.Refusal.{Refusal}
@@ -24,7 +17,7 @@ use Rattle.admission.specs.Admission.{check_length}
 use Rattle.readers.specs.Root.{read_root}
 use Rattle.reading.proofs.Calls.{try_whole}
 use Rattle.choosing.specs.Choose.{list_count, count_at, grammar_of, check_list, placed_reason, in_list, check_grammars, try_of, Choice, tried, try_grammars, choose_of}
-use Rattle.choosing.specs.Rule.{ListRule}
+use Rattle.choosing.specs.Rule.{ListRule, ListPasses}
 
 -- ---- the list
 
@@ -54,16 +47,9 @@ module _ (l : List ℕ) where
   pub within : count_at l (list_count l) ≡ length l → (j : ℕ) → j ≤ list_count l → count_at l j ≤ length l
   within e j h = omega (arith, count_rises j (list_count l) h)
 
-  -- a step over grammar j, from its word count to the next
-  module _ (j at end : ℕ) (a : at ≡ count_at l j) (e : end ≡ at + 1 + get_or l at 0) where
-    pub next-at : end ≡ count_at l (j + 1)
-    next-at = e ∙ rw (a, add-one j) (count_next j)
-
-    pub next-inside : count_at l (list_count l) ≡ length l → j < list_count l → end ≤ length l
-    next-inside r h = omega (arith, next-at, within r (j + 1) (omega arith))
-
-    pub part-grammar : take (end - (at + 1)) (drop (at + 1) l) ≡ grammar_of l j
-    part-grammar = let f : end - (at + 1) ≡ get_or l at 0 = omega arith in rw (f, a)
+  -- from the word count of grammar j to the next
+  pub next_at : (j at : ℕ) → at ≡ count_at l j → at + (1 + get_or l at 0) ≡ count_at l (j + 1)
+  next_at j at a = rw (a, add-one j) (omega (arith, count_next j))
 
   -- what 21 not given says
   rule-of : (0 < list_count l) × (list_count l ≤ 16) → count_at l (list_count l) ≡ length l → ListRule l
@@ -90,6 +76,19 @@ module _ (l : List ℕ) where
   pub list_filled : (list_count l ≡ 0 → ⊥) → list_count l ≤ 16 → test (eqb (count_at l (list_count l)) (length l)) (reason 21 (word 0)) accepted ≡ check_list l
   unfolding check_list
   list_filled n h = sym (test-true _ _ ((reflects_and (reflects_ltb 0 (list_count l)) (reflects_leb (list_count l) 16)).0 (omega arith, h)))
+
+  -- the words of grammar j, and the next word count behind them
+  module _ {j at : ℕ} {g : List ℕ} (r : ListRule l) (h : j < list_count l) (a : at ≡ count_at l j) (e : g ≡ take (get_or l at 0) (drop (at + 1) l)) where
+    pub part_is : g ≡ grammar_of l j
+    part_is = rw (e, a)
+
+    pub next_behind : at + (1 + length g) ≡ count_at l (j + 1)
+    next_behind =
+        let f : get_or l at 0 ≤ length (drop (at + 1) l) = rw (length-drop, a) (omega (arith, r.whole j h)) in
+        rw (e, length-take-le (get_or l at 0) (drop (at + 1) l) f) (next_at j at a)
+
+-- what the loop of `fills_list` takes
+pub ruleset list_steps = (count-first, next_at, cut_short)
 
 -- ---- the grammars of the list, one behind the other
 
@@ -121,6 +120,9 @@ module _ (l : List ℕ) (j n : ℕ) where
   pub grammar-refused : j < n → {r : Reason} → refused r ≡ check_grammar (grammar_of l j) → refused (placed_reason (count_at l j + 1) r) ≡ check_grammars l j (n - j)
   grammar-refused h e = grammar-step h e
 
+-- what the loop of `check_grammars` takes
+pub ruleset grammar_steps = (count-first, sub-zero, part_is, next_behind, refusal-word, grammars-none, grammar_passed, grammar-refused)
+
 -- ---- the tries
 
 pub tries-none : (l d : List ℕ) (j before n : ℕ) → n ≤ j → refused (reason 22 (byte 0)) ≡ try_grammars l d j before (n - j)
@@ -147,6 +149,9 @@ pub record Trying (l d g : List ℕ) (j n : ℕ) : Type 0 where
   pub short : length d ≤ 1048576
   pub part : g ≡ grammar_of l j
 
+pub trying : {l d g : List ℕ} {j n at : ℕ} → ListPasses l → length d ≤ 1048576 → n ≡ list_count l → j < n → at ≡ count_at l j → g ≡ take (get_or l at 0) (drop (at + 1) l) → Trying l d g j n
+trying {l} {d} {g} {j} {n} {at} p s c h a e = record { below = h; passes = p.grammars j (omega arith); short = s; part = part_is l p.rule (omega arith) a e }
+
 -- and what its answer says
 module _ {l d g : List ℕ} {j n : ℕ} (k : Trying l d g j n) where
   whole : read_root g d 0 4096 true ≡ try_of l d j
@@ -171,6 +176,9 @@ module _ {l d g : List ℕ} {j n : ℕ} (k : Trying l d g j n) where
 
     pub try_refused : (before : ℕ) → try_grammars l d (j + 1) (before + x.state.begun) (n - (j + 1)) ≡ try_grammars l d j before (n - j)
     try_refused before = tries-refused l d j n k.below before refused-read
+
+-- what the loop of `try_grammars` takes
+pub ruleset try_steps = (count-first, sub-zero, next_behind, tries-none, trying, accepted-most, try_accepted, refused-most, try_refused)
 
 -- ---- 21, 1 to 5, 6, then the tries
 

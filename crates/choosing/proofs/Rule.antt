@@ -1,12 +1,6 @@
 -- Which grammar is chosen, how many values are begun, and that this is what the definition says.
-use mathlib.Core.Path.{◌≡◌, refl, ap, sym, ◌∙◌}
-use mathlib.Core.Logic.{◌↔◌}
-use mathlib.Core.List.{List}
-use Prim.Native.Nat.{ℕ, zero, suc, ◌+◌, ◌-◌, ◌*◌, ◌≤◌, ◌<◌}
-use native.Mathlib.Nat.{sub-zero}
-use native.Mathlib.Numerals.{add-one}
-use native.Mathlib.Omega.{arith}
-use lib.ListN.{length}
+use Rattle.std.proofs.Common.{◌≡◌, refl, ap, sym, ◌∙◌, ◌↔◌, List, ℕ, zero, suc, ◌+◌, ◌-◌, ◌*◌, ◌≤◌, ◌<◌, add-one, arith, length}
+use Rattle.std.proofs.Math.Nat.{sub-zero}
 use Rattle.refusal.specs.Outcome.{Outcome, accepted, refused, bind, word, byte, Reason, reason}
 use Rattle.refusal.proofs.Tests.{reflects_eqb}
 use Rattle.refusal.proofs.Outcome.{Post, holds, fails, post_bind, post_weaken, post_accepted, test-true, clash}
@@ -17,6 +11,7 @@ use Rattle.value.proofs.Begun.{begins_whole, begun-whole}
 use Rattle.grammar.specs.Check.{check_grammar}
 use Rattle.grammar.specs.Tree.{tree_of}
 use Rattle.grammar.proofs.Rule.{one_more}
+use Rattle.admission.specs.Admission.{check_length}
 use Rattle.admission.proofs.Admission.{length-fits, length_post}
 use Rattle.reading.specs.Calls.{without_state, demarshall_of}
 use Rattle.reading.proofs.Calls.{without_state-accepted, checked}
@@ -80,6 +75,12 @@ module _ (l : List ℕ) where
 
   pub passes_held : accepted tt ≡ check_list l → accepted tt ≡ check_grammars l 0 (list_count l) → ListPasses l
   passes_held h k = record { rule = rule_held h; grammars = post_accepted (rw (sym k) at grammars_post) }
+
+pub short : (d : List ℕ) → accepted tt ≡ check_length d → length d ≤ 1048576
+short d h = post_accepted (rw (sym h) at (length_post d))
+
+-- what `choose_grammar` takes
+pub ruleset choose_steps = (rule_held, passes_held, short)
 
 -- ---- the tries
 

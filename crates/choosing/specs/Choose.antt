@@ -1,14 +1,14 @@
 -- What `choose_grammar` answers: which grammar of a list is the first that accepts a record whole, or what is refused and why.
-use Rattle.std.specs.Prelude.{◌&&◌, List, ℕ, zero, suc, ◌+◌, length, get_or, take, drop, leb, ltb, eqb}
-use Rattle.refusal.specs.Outcome.{Outcome, accepted, refused, bind, test, Location, word, byte, row, Reason, reason}
-use Rattle.refusal.specs.Meaning.{reason_of}
+use Rattle.std.specs.Prelude.{◌&&◌, List, ℕ, zero, suc, ◌+◌, length, get_or, take, drop, leb, ltb, eqb, Result}
+use Rattle.refusal.specs.Outcome.{Outcome, accepted, refused, bind, test, map, Location, word, byte, row, Reason, reason}
+use Rattle.refusal.specs.declared.Refusal.{Refusal}
+use Rattle.refusal.specs.Meaning.{outcome_of}
 use Rattle.value.specs.Tree.{Val}
 use Rattle.value.specs.Reading.{Reading, read_whole}
 use Rattle.grammar.specs.Check.{check_grammar}
 use Rattle.grammar.specs.Tree.{tree_of}
 use Rattle.admission.specs.Admission.{check_length}
 use Rattle.choosing.specs.declared.Chosen.{Chosen}
-use Rattle.choosing.specs.declared.Chosen.TheVariants as C
 
 -- ---- the list: a count, then each grammar after its word count
 
@@ -61,10 +61,9 @@ pub record Choice : Type 0 where
   pub number : ℕ
   pub begun : ℕ
 
--- what each case of the answer means
-abbrev pub chosen_of : Chosen → Outcome Reason Choice
-chosen_of (C.Grammar number begun) = accepted (record { number = number; begun = begun })
-chosen_of (C.Refused r) = refused (reason_of r)
+-- what the answer means
+abbrev pub chosen_of : Result Chosen Refusal → Outcome Reason Choice
+chosen_of r = map (λ c. record { number = c.number; begun = c.begun }) (outcome_of r)
 
 -- behind grammar j's try, where the tries before it have begun so many values: the grammar is chosen where its try is accepted, else what
 -- follows takes the values begun so far

@@ -1,11 +1,7 @@
-use mathlib.Core.Path.{◌≡◌}
-use Prim.Native.Nat.{◌-◌, ◌*◌, ◌≤◌}
-use lib.ListN.{length}
+-- The loop's invariant: where the next word count stands, at most 4,097 values begun by each try, and what is left from here decides the whole.
+use Rattle.std.proofs.Common.{◌≡◌, ◌-◌, ◌*◌, ◌≤◌}
 use Rattle.choosing.specs.Choose.{list_count, count_at, try_grammars}
 use Rattle.choosing.proofs.try_grammars.Given as goal
 
 abbrev pub invariant-loop-j : goal.invariant-loop-j
-invariant-loop-j l = (l.count ≡ list_count l.list) × (l.j ≤ l.count) × (l.at ≡ count_at l.list l.j) × (l.at ≤ length l.list) × (l.begun ≤ 4097 * l.j) × (try_grammars l.list l.record l.j l.begun (l.count - l.j) ≡ try_grammars l.list l.record 0 0 (list_count l.list))
-
-abbrev pub decreases-loop-j : goal.decreases-loop-j
-decreases-loop-j l = l.count - l.j
+invariant-loop-j l = (l.at ≡ count_at l.list l.j) × (l.begun ≤ 4097 * l.j) × (try_grammars l.list l.record l.j l.begun (l.j-end - l.j) ≡ try_grammars l.list l.record 0 0 (list_count l.list))
