@@ -76,7 +76,7 @@ fn compare_number(n: u64, width: usize, out: &[u8], at: usize) -> Compared
     ensures { result ≡ compared_with out.now at (pack_little_endian width n) }
 {
     let mut packed = [0u8; 8];
-    let _ = packing::pack_little_endian_into_array(n, &mut packed, 0);
+    packing::pack_little_endian_into_array(n, &mut packed, 0).unwrap();
     compare_bytes(&packed[..width], out, at)
 }
 

@@ -17,7 +17,7 @@ fn marshall_uint<T: PackedInt>(n: T, out: &mut [u8], index: usize) -> usize
     requires { index + T.WIDTH ≤ length out.old }
     ensures { (result ≡ index + T.WIDTH) × (out.new ≡ put out.old index (pack_little_endian T.WIDTH (T.number n))) }
 {
-    let _ = packing::pack_little_endian_into_array(n, out, index);
+    packing::pack_little_endian_into_array(n, out, index).unwrap();
     index + T::WIDTH
 }
 
@@ -36,7 +36,7 @@ fn marshall_elements(
     let at = marshall_uint(count, out, index);
     let start = place as usize;
     let size = (width * count) as usize;
-    let _ = packing::copy_seq_into_array(&store[start..start + size], out, at);
+    packing::copy_seq_into_array(&store[start..start + size], out, at).unwrap();
     at + size
 }
 

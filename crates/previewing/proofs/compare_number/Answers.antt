@@ -3,9 +3,15 @@ use Rattle.std.proofs.Common.{◌≡◌, ap, ◌∙◌, take, arith}
 use Rattle.packed.specs.Packed.{pack_little_endian}
 use Rattle.packed.proofs.Laws.{length_pack, pack_front}
 use Rattle.packed.proofs.Put.{put_whole}
-use Rattle.packed.proofs.Calls.{fills_put}
+use Rattle.packed.proofs.Calls.{fills_put, fills_answers}
 use Rattle.previewing.specs.Compared.{compared_with}
 use Rattle.previewing.proofs.compare_number.Goals as goal
+
+pub unwrap-requires : goal.unwrap-requires
+unwrap-requires c =
+    let a = c.args in
+    let e = fills_answers _ 0 (pack_little_endian 8 a.n) 8 (length_pack 8 a.n) (omega arith) c.pack_little_endian_into_array.ensures in
+    grind arith
 
 pub returns : goal.returns
 returns c =
