@@ -1,14 +1,5 @@
 -- When the length decides, and what `accepts` then answers.
-use mathlib.Core.Path.{◌≡◌, refl, ap, sym, ◌∙◌}
-use mathlib.Core.Bool.{Bool, true, false, ◌||◌}
-use mathlib.Core.Logic.{◌↔◌}
-use mathlib.Core.Option.{Option, none, some, some-injective}
-use mathlib.Core.List.{List}
-use Prim.Native.Nat.{ℕ, ◌≤◌}
-use native.Mathlib.Omega.{arith}
-use lib.ListN.{length}
-use lib.Dec.{ltb}
-use borrow.Author.Tests.{lt-ltb, ltb-true}
+use Rattle.std.proofs.Common.{Option, Some, None, ◌≡◌, refl, ap, sym, ◌∙◌, Bool, true, false, ◌||◌, ◌↔◌, List, ℕ, ◌≤◌, ◌<◌, arith, length, ltb, lt-ltb, le-ltb, ltb-true}
 use Rattle.refusal.specs.Outcome.{accepted, refused, map, Reason}
 use Rattle.refusal.proofs.Outcome.{map-accepted, map-refused}
 use Rattle.refusal.proofs.Tests.{refuted}
@@ -59,12 +50,8 @@ module _ (g d : List ℕ) where
 
       from : (o : Option ℕ) → least (tree_of g 0) ≡ o → (b : Bool) → ltb 1048576 (length d) ≡ b → (b || below_least o (length d)) ≡ true → NoWalk g d
       from o e true q h = too_long (ltb-true 1048576 (length d) q)
-      from none e false q h = no_value e
-      from (some l) e false q h = too_short l e (ltb-true (length d) l h)
-
-  pub accepts-refused : {r : Reason} → refused r ≡ least_of g → refused r ≡ accepts_of g d
-  unfolding accepts_of
-  accepts-refused h = rw (map-refused (λ (u : Unit {0}). least (tree_of g 0)) (check_grammar g) (sym h))
+      from None e false q h = no_value e
+      from (Some l) e false q h = too_short l e (ltb-true (length d) l h)
 
   module _ (p : accepted tt ≡ check_grammar g) where
     pub not-walked : NoWalk g d → accepted unread ≡ accepts_of g d
@@ -75,11 +62,27 @@ module _ (g d : List ℕ) where
     unfolding accepts_of
     walked n = rw (sym p, refuted reflects_decided n)
 
-    pub tried : (NoWalk g d → ⊥) → length d ≤ 1048576 → accepted (verdict (read_root g d 0 4096 true)) ≡ accepts_of g d
-    tried n h = ap (λ (x : Reading Val). accepted (verdict x)) (try_whole g d 4096 (sym p) h) ∙ walked n
+  -- by what the least length came to
+  pub accepts_refused : {r : Reason} → refused r ≡ least_of g → refused r ≡ accepts_of g d
+  unfolding accepts_of
+  accepts_refused h = rw (map-refused (λ (u : Unit {0}). least (tree_of g 0)) (check_grammar g) (sym h))
 
-  -- a record that is neither too long nor too short is walked
-  pub walks : {l : ℕ} → least (tree_of g 0) ≡ some l → length d ≤ 1048576 → l ≤ length d → NoWalk g d → ⊥
-  walks e h k (too_long x) = omega arith
-  walks e h k (no_value x) = let z : ◌≡◌ {A = ℕ} 0 1 = cc in omega arith
-  walks {l} e h k (too_short m x y) = let q : l ≡ m = some-injective l m (sym e ∙ x) in omega arith
+  module _ {x : Option ℕ} (k : accepted x ≡ least_of g) where
+    pub too_long_unread : 1048576 < length d → accepted unread ≡ accepts_of g d
+    too_long_unread h = not-walked (least_known g k).0 (too_long h)
+
+    pub below_unread : below_least x (length d) ≡ true → accepted unread ≡ accepts_of g d
+    unfolding accepts_of
+    below_unread h =
+        let a = least_known g k in
+        rw (sym a.0, or_second (ltb 1048576 (length d)) (below_least (least (tree_of g 0)) (length d)) (rw a.1 h))
+
+    pub tried : length d ≤ 1048576 → below_least x (length d) ≡ false → accepted (verdict (read_root g d 0 4096 true)) ≡ accepts_of g d
+    unfolding accepts_of
+    tried h e =
+        let a = least_known g k in
+        ap (λ (x : Reading Val). accepted (verdict x)) (try_whole g d 4096 (sym a.0) h)
+        ∙ rw (sym a.0, le-ltb 1048576 (length d) h, a.1, e)
+
+-- what `accepts` takes
+pub ruleset accepts_steps = (accepts_refused, too_long_unread, below_unread, tried)

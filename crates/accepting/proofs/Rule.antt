@@ -1,12 +1,6 @@
 -- When a verdict is yes, when it is no, and how many values were begun.
-use mathlib.Core.Path.{◌≡◌, refl, ap, sym, ◌∙◌}
-use mathlib.Core.Bool.{Bool, true, false}
-use mathlib.Core.List.{List}
-use Prim.Native.Nat.{ℕ, ◌^◌, ◌≤◌}
-use native.Mathlib.Decide.{dec_le}
-use native.Mathlib.Omega.{arith}
-use lib.ListN.{length}
-use borrow.Author.Tests.{lt-ltb}
+use Rattle.std.proofs.Common.{◌≡◌, refl, ap, sym, ◌∙◌, Bool, true, false, List, ℕ, ◌^◌, ◌≤◌, arith, length, lt-ltb}
+use Rattle.std.proofs.Math.Decide.{dec_le}
 use Rattle.refusal.specs.Outcome.{Outcome, accepted, refused, Reason}
 use Rattle.refusal.proofs.Outcome.{clash, map-accepted}
 use Rattle.refusal.proofs.Tests.{refutes}

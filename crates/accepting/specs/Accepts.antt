@@ -1,24 +1,25 @@
 -- What `accepts` answers: whether a record is accepted whole, and how many values were begun to tell.
-use Rattle.std.specs.Prelude.{Bool, true, false, ◌||◌, List, ℕ, length, ltb}
+use Rattle.std.specs.Prelude.{Bool, true, false, ◌||◌, List, ℕ, length, ltb, Result}
 use Rattle.refusal.specs.Outcome.{Outcome, accepted, refused, map, Reason}
-use Rattle.refusal.specs.Meaning.{reason_of}
+use Rattle.refusal.specs.declared.Refusal.{Refusal}
+use Rattle.refusal.specs.Meaning.{outcome_of}
 use Rattle.value.specs.Tree.{Val}
 use Rattle.value.specs.Reading.{Reading, read_whole}
 use Rattle.value.specs.Least.{least, below_least}
 use Rattle.grammar.specs.Check.{check_grammar}
 use Rattle.grammar.specs.Tree.{tree_of}
-use Rattle.accepting.specs.declared.YesOrNo.{YesOrNo}
-use Rattle.accepting.specs.declared.YesOrNo.TheVariants as Y
+use Rattle.accepting.specs.declared.Verdict.{Verdict as CodeVerdict}
 
 pub record Verdict : Type 0 where
   pub yes : Bool
   pub begun : ℕ
 
--- what each case of the answer means
-abbrev pub verdict_of : YesOrNo → Outcome Reason Verdict
-verdict_of (Y.Yes n) = accepted (record { yes = true; begun = n })
-verdict_of (Y.No n) = accepted (record { yes = false; begun = n })
-verdict_of (Y.Refused r) = refused (reason_of r)
+abbrev pub verdict_named : CodeVerdict → Verdict
+verdict_named v = record { yes = v.accepted; begun = v.begun }
+
+-- what the answer means
+abbrev pub verdict_of : Result CodeVerdict Refusal → Outcome Reason Verdict
+verdict_of r = map verdict_named (outcome_of r)
 
 -- a no without a walk
 abbrev pub unread : Verdict

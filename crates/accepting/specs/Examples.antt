@@ -1,6 +1,5 @@
 -- Examples of least lengths and of verdicts, as two lists.
-use Rattle.std.specs.Prelude.{◌≡◌, true, false, List, [], ◌∷◌, ◌++◌, map, ℕ, zero, suc, take}
-use Rattle.std.proofs.Math.Option.{Option, none, some}
+use Rattle.std.specs.Prelude.{◌≡◌, true, false, List, [], ◌∷◌, ◌++◌, map, ℕ, zero, suc, take, Option, Some, None}
 use Rattle.refusal.specs.Outcome.{Outcome, accepted, refused, Reason, reason, word}
 use Rattle.value.specs.Least.{least}
 use Rattle.tables.specs.Grammar.{node_count}
@@ -40,15 +39,15 @@ pub record Lengths : Type 0 where
 
 abbrev pub lengths : List Lengths
 lengths =
-    record { grammar = grammar_a; expected = some 12 ∷ some 4 ∷ some 8 ∷ [] }
-    ∷ record { grammar = grammar_b; expected = some 0 ∷ [] }
-    ∷ record { grammar = grammar_c; expected = some 8 ∷ some 0 ∷ [] }
-    ∷ record { grammar = grammar_d; expected = none ∷ [] }
-    ∷ record { grammar = array_of_d; expected = some 8 ∷ none ∷ [] }
-    ∷ record { grammar = tuple_with_d; expected = none ∷ some 4 ∷ none ∷ [] }
-    ∷ record { grammar = union_with_d; expected = some 12 ∷ none ∷ some 4 ∷ some 8 ∷ [] }
-    ∷ record { grammar = union_of_signed; expected = some 12 ∷ some 8 ∷ some 4 ∷ some 8 ∷ [] }
-    ∷ record { grammar = tuple_of_arrays; expected = some 16 ∷ some 8 ∷ some 8 ∷ some 0 ∷ [] }
+    record { grammar = grammar_a; expected = Some 12 ∷ Some 4 ∷ Some 8 ∷ [] }
+    ∷ record { grammar = grammar_b; expected = Some 0 ∷ [] }
+    ∷ record { grammar = grammar_c; expected = Some 8 ∷ Some 0 ∷ [] }
+    ∷ record { grammar = grammar_d; expected = None ∷ [] }
+    ∷ record { grammar = array_of_d; expected = Some 8 ∷ None ∷ [] }
+    ∷ record { grammar = tuple_with_d; expected = None ∷ Some 4 ∷ None ∷ [] }
+    ∷ record { grammar = union_with_d; expected = Some 12 ∷ None ∷ Some 4 ∷ Some 8 ∷ [] }
+    ∷ record { grammar = union_of_signed; expected = Some 12 ∷ Some 8 ∷ Some 4 ∷ Some 8 ∷ [] }
+    ∷ record { grammar = tuple_of_arrays; expected = Some 16 ∷ Some 8 ∷ Some 8 ∷ Some 0 ∷ [] }
     ∷ []
 
 abbrev pub LengthsHold : Type 0

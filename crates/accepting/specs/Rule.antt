@@ -1,6 +1,5 @@
 -- What a verdict means, in document 02's terms: when it is yes, and when there was no walk.
-use Rattle.std.specs.Prelude.{◌≡◌, true, false, ◌↔◌, List, ℕ, ◌^◌, ◌≤◌, ◌<◌, length}
-use Rattle.std.proofs.Math.Option.{none, some}
+use Rattle.std.specs.Prelude.{◌≡◌, true, false, ◌↔◌, List, ℕ, ◌^◌, ◌≤◌, ◌<◌, length, Some, None}
 use Rattle.refusal.specs.Outcome.{accepted, refused, Reason}
 use Rattle.packed.specs.Packed.{Bytes, Below}
 use Rattle.value.specs.Tree.{Val}
@@ -24,8 +23,8 @@ NoExactly g d = ((n : ℕ) × (accepts_of g d ≡ accepted (record { yes = false
 -- "A record below the root's least length, or a root with none, is answered no without a walk", and "a record too long is a no without a walk"
 pub data NoWalk (g d : List ℕ) : Type 0 where
   too_long : 1048576 < length d → NoWalk g d
-  no_value : least (tree_of g 0) ≡ none → NoWalk g d
-  too_short : (l : ℕ) → least (tree_of g 0) ≡ some l → length d < l → NoWalk g d
+  no_value : least (tree_of g 0) ≡ None → NoWalk g d
+  too_short : (l : ℕ) → least (tree_of g 0) ≡ Some l → length d < l → NoWalk g d
 
 -- "Yes and no carry the number of values begun, counted as the chooser does for a try, 0 exactly when there was no walk"
 pub record Counted (g d : List ℕ) (v : Verdict) : Type 0 where

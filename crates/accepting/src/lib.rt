@@ -2,49 +2,58 @@
 #![tactic(auto)]
 
 ghost use Rattle.std.specs.Prelude.{◌≡◌, true};
-ghost use Rattle.refusal.specs.Outcome.{accepted};
+ghost use Rattle.value.specs.Least.{below_least};
 ghost use Rattle.readers.specs.Root.{read_root};
-ghost use Rattle.accepting.specs.Accepts.{verdict_of, verdict, accepts_of};
+ghost use Rattle.accepting.specs.Accepts.{verdict_named, verdict_of, verdict, accepts_of};
 
-use least::LeastLength;
-use readers::Step;
-use refusal::{Answer, Refusal};
-use tables::MOST_ROWS;
+use refusal::Refusal;
+use tables::{MOST_BYTES, MOST_ROWS};
 
-// The answer of `accepts`: yes or no with the values begun, 0 where there was no walk.
-#[derive(Clone, Copy)]
-pub enum YesOrNo {
-    Yes(usize),
-    No(usize),
-    Refused(Refusal),
+// Whether the record is accepted, with the values begun to tell.
+#[derive(Clone, Copy, Debug, PartialEq, Eq)]
+pub struct Verdict {
+    pub accepted: bool,
+    pub begun: usize,
+}
+
+// A no without a walk.
+const UNREAD: Verdict = Verdict {
+    accepted: false,
+    begun: 0,
+};
+
+// Whether so many bytes are fewer than the least length, or there is none.
+#[tactic(auto, unfolding(value::specs::Least::below_least))]
+fn below_least(least: Option<u64>, len: usize) -> bool
+    ensures { result ≡ below_least least len }
+{
+    least.is_none_or(|least| (len as u64) < least)
 }
 
 // The walk: a try at the largest capacity.
-fn walk(grammar: &[u32], record: &[u8]) -> YesOrNo
-    ensures { verdict_of result ≡ accepted (verdict (read_root grammar.now «record».now 0 4096 true)) }
+fn walk(grammar: &[u32], record: &[u8]) -> Verdict
+    ensures { verdict_named result ≡ verdict (read_root grammar.now «record».now 0 4096 true) }
 {
     match reading::try_whole(grammar, record, MOST_ROWS) {
-        Step::Next(t) => YesOrNo::Yes(t.begun),
-        Step::Stopped(t, _) => YesOrNo::No(t.begun),
+        Ok(end) => Verdict {
+            accepted: true,
+            begun: end.begun,
+        },
+        Err(e) => Verdict {
+            accepted: false,
+            begun: e.state.begun,
+        },
     }
 }
 
 // Whether the record is accepted whole at the largest capacity. A record too long, or shorter than every value of the grammar, is not walked.
-pub fn accepts(grammar: &[u32], record: &[u8]) -> YesOrNo
+#[tactic(auto, using(crate::proofs::Laws::accepts_steps))]
+pub fn accepts(grammar: &[u32], record: &[u8]) -> Result<Verdict, Refusal>
     ensures { verdict_of result ≡ accepts_of grammar.now «record».now }
 {
-    match least::least_length(grammar) {
-        LeastLength::Refused(r) => YesOrNo::Refused(r),
-        LeastLength::NoValue => YesOrNo::No(0),
-        LeastLength::Bytes(length) => match admission::check_length(record) {
-            Answer::Refused(_) => YesOrNo::No(0),
-            Answer::Accepted => {
-                if (record.len() as u64) < length {
-                    YesOrNo::No(0)
-                } else {
-                    walk(grammar, record)
-                }
-            }
-        },
+    let least = least::least_length(grammar)?;
+    if MOST_BYTES < record.len() || below_least(least, record.len()) {
+        return Ok(UNREAD);
     }
+    Ok(walk(grammar, record))
 }
