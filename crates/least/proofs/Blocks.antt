@@ -31,3 +31,6 @@ module _ (a b c d : List ℕ) (p : Blocks a b c d) (i x : ℕ) where
   set_d l =
       let e : i - 128 - 64 ≡ i - 192 = omega arith in
       rw (behind_b (omega arith), set-append_right c d 64 (i - 128) x p.2 (omega arith), e)
+
+-- what `set` takes
+pub ruleset set_steps = (set_a, set_b, set_c, set_d)

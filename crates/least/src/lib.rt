@@ -1,18 +1,17 @@
 // The least length of the records of a grammar, worked out for each of its nodes from the last back to the root.
 #![tactic(auto)]
 
-ghost use Rattle.std.specs.Prelude.{◌≡◌, ◌<◌, ◌^◌, List, ℕ, Option, get_or};
+ghost use Rattle.std.specs.Prelude.{◌≡◌, ◌<◌, ◌^◌, List, ℕ, Option, get_or, set};
 ghost use Rattle.refusal.specs.Meaning.{outcome_of};
 ghost use Rattle.value.specs.Least.{add_least, min_least, least, fold_least};
 ghost use Rattle.tables.specs.Grammar.{first_word, count_word};
 ghost use Rattle.grammar.specs.Rule.{Passes};
 ghost use Rattle.grammar.specs.Tree.{child_trees, tree_of};
+ghost use Rattle.least.specs.Entries.{Blocks, entries};
 ghost use Rattle.least.specs.Least.{length_of, FilledFrom, Ready, least_of};
 
-mod entries;
-
-use entries::Entries;
 use refusal::Refusal;
+use std::marker::Model;
 use value::Kind;
 
 // The mark of a node that has no value.
@@ -20,6 +19,60 @@ const NO_VALUE: u32 = u32::MAX;
 
 // Where a sum stops growing: one byte more than the longest record has.
 const LARGEST_SUM: u32 = 1048577;
+
+// The entries of the nodes: 256, in four blocks of 64. For a local of more than 256 bytes the compiler calls memset of the C library, which the
+// archive must not need, so each block is a local of its own that is lent.
+#[derive(Drop)]
+struct Entries<'a> {
+    a: &'a mut [u32; 64],
+    b: &'a mut [u32; 64],
+    c: &'a mut [u32; 64],
+    d: &'a mut [u32; 64],
+}
+
+impl<'a> Model for Entries<'a> {
+    ghost Value = { List ℕ };
+
+    ghost view = { λ e. entries e.a.now e.b.now e.c.now e.d.now };
+
+    ghost invariant = { λ e. Blocks e.a.now e.b.now e.c.now e.d.now };
+}
+
+impl Entries<'_> {
+    // A node's entry.
+    #[tactic(auto, unfolding(crate::specs::Entries::entries))]
+    fn get(&self, node: usize) -> u32
+        requires { node < 256 }
+        ensures { result ≡ get_or self.now node 0 }
+    {
+        let block: &[u32; 64] = if node < 64 {
+            &*self.a
+        } else if node < 128 {
+            &*self.b
+        } else if node < 192 {
+            &*self.c
+        } else {
+            &*self.d
+        };
+        block[node % 64]
+    }
+
+    #[tactic(auto, using(crate::proofs::Blocks::set_steps))]
+    fn set(&mut self, node: usize, length: u32)
+        requires { node < 256 }
+        ensures { self.new ≡ set self.old node length }
+    {
+        if node < 64 {
+            self.a[node] = length;
+        } else if node < 128 {
+            self.b[node - 64] = length;
+        } else if node < 192 {
+            self.c[node - 128] = length;
+        } else {
+            self.d[node - 192] = length;
+        }
+    }
+}
 
 // The sum. No addition wraps.
 #[tactic(auto, unfolding(crate::specs::Least::length_of, value::specs::Least::add_least))]
