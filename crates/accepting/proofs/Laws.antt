@@ -1,31 +1,21 @@
 -- When the length decides, and what `accepts` then answers.
 use Rattle.std.proofs.Common.{Option, Some, None, ◌≡◌, refl, ap, sym, ◌∙◌, Bool, true, false, ◌||◌, ◌↔◌, List, ℕ, ◌≤◌, ◌<◌, arith, length, ltb, lt-ltb, le-ltb, ltb-true}
-use Rattle.refusal.specs.Outcome.{accepted, refused, map, Reason}
+use Rattle.refusal.specs.Outcome.{accepted, refused, Reason}
 use Rattle.refusal.proofs.Outcome.{map-accepted, map-refused}
 use Rattle.refusal.proofs.Tests.{refuted}
 use Rattle.value.specs.Tree.{Val}
-use Rattle.value.specs.Step.{Step}
-use Rattle.value.specs.Reading.{State, Stop, Reading, read_whole}
+use Rattle.value.specs.Reading.{Reading, read_whole}
 use Rattle.value.specs.Least.{least, below_least}
 use Rattle.grammar.specs.Check.{check_grammar}
 use Rattle.grammar.specs.Tree.{tree_of}
 use Rattle.readers.specs.Root.{read_root}
 use Rattle.reading.proofs.Calls.{try_whole}
 use Rattle.least.specs.Least.{least_of}
-use Rattle.accepting.specs.Accepts.{Verdict, unread, verdict, decided, accepts_of}
+use Rattle.accepting.specs.Accepts.{unread, verdict, decided, accepts_of}
 use Rattle.accepting.specs.Rule.{NoWalk, too_long, no_value, too_short}
 
 pub yes-is-not-no : {P : Type 0} → true ≡ false → P
 yes-is-not-no e = let z : ◌≡◌ {A = ℕ} 0 1 = cc in absurd (omega arith)
-
--- a try by its answer
-pub verdict-accepted : (x : Reading Val) {s : State} → accepted s ≡ map (λ t. t.state) x → ◌≡◌ {A = Verdict} (record { yes = true; begun = s.begun }) (verdict x)
-verdict-accepted x h =
-    let a = map-accepted (λ (t : Step State Val). t.state) x (sym h) in
-    rw a.1 (ap (λ (s : State). record { yes = true; begun = s.begun }) a.2)
-
-pub verdict-refused : (x : Reading Val) {e : Stop} → refused e ≡ map (λ t. t.state) x → ◌≡◌ {A = Verdict} (record { yes = false; begun = e.state.begun }) (verdict x)
-verdict-refused x h = rw (map-refused (λ (t : Step State Val). t.state) x (sym h))
 
 or_first : (a b : Bool) → a ≡ true → (a || b) ≡ true
 or_first a b h = rw h
