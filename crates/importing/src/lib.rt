@@ -435,14 +435,7 @@ fn import_children(
     let mut t = s;
     let mut at = place;
     for _ in 0..count {
-        let u = import_value(grammar, node_at(grammar, at), bytes, rows, store, lent, t)?;
-        // Field by field: a copy of the whole waits for what the call has just stored (docs/PERFORMANCE.md).
-        t = Filling {
-            at: u.at,
-            begun: u.begun,
-            used: u.used,
-            size: u.size,
-        };
+        t = import_value(grammar, node_at(grammar, at), bytes, rows, store, lent, t)?;
         at += step;
     }
     Ok(t)

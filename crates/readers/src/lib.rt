@@ -251,8 +251,8 @@ fn refuse_kind(node: usize, s: State) -> Stopped
     s.stop(refusal::at_word(refusal::NODE_KIND, 1 + 3 * node))
 }
 
-// The value that starts at s and stands for a node. Arrays, tuples and cases are functions by themselves, also because the
-// compiler then lets them share one frame. In a table that passes each kind word names a kind.
+// The value that starts at s and stands for a node. In a table that passes each kind word names a kind. Arrays, tuples and cases are
+// functions by themselves, which share one frame: all of the cycle but this one are put into it as compiled (docs/DECISIONS.md, 27).
 #[cycle(value_readers)]
 fn read_value(
     grammar: &[u32],
@@ -279,6 +279,7 @@ fn read_value(
 
 // Kind 3: the count, at most the rows left, then the elements.
 #[cycle(value_readers)]
+#[inline(always)]
 fn read_array(
     grammar: &[u32],
     node: usize,
@@ -298,6 +299,7 @@ fn read_array(
 
 // Kind 4: the fields.
 #[cycle(value_readers)]
+#[inline(always)]
 fn read_tuple(
     grammar: &[u32],
     node: usize,
@@ -316,6 +318,7 @@ fn read_tuple(
 
 // Kind 8: the tag, then the value of its case.
 #[cycle(value_readers)]
+#[inline(always)]
 fn read_case(
     grammar: &[u32],
     node: usize,
@@ -334,9 +337,10 @@ fn read_case(
     close_row(rows, row, s.at, Kind::Union, tag, read)
 }
 
-// The elements of an array, one behind the other. Here and of a tuple the grammar's words are read again at each value: what is kept
-// across the call stands in the frame of each level.
+// The elements of an array, one behind the other. The child is read from the grammar again at each: what is kept across the call stands in
+// the frame of each level.
 #[cycle(value_readers)]
+#[inline(always)]
 fn read_array_contents(
     grammar: &[u32],
     node: usize,
@@ -351,19 +355,14 @@ fn read_array_contents(
     let mut t = s;
     for _ in 0..count {
         let child = child_at(grammar, node, 0);
-        let u = read_value(grammar, child, bytes, rows, t)?;
-        // Field by field: a copy of the whole waits for what the call has just stored (docs/PERFORMANCE.md).
-        t = State {
-            at: u.at,
-            begun: u.begun,
-            capacity: u.capacity,
-        };
+        t = read_value(grammar, child, bytes, rows, t)?;
     }
     Ok(t)
 }
 
-// The fields of a tuple, one behind the other. Their count is read again at each field, as no `for` would.
+// The fields of a tuple, one behind the other.
 #[cycle(value_readers)]
+#[inline(always)]
 fn read_tuple_contents(
     grammar: &[u32],
     node: usize,
@@ -375,17 +374,9 @@ fn read_tuple_contents(
     ensures { Reads rows_of_all (read_fields s.capacity bytes.now (child_trees grammar.now (tree_of grammar.now) (first_word grammar.now node) (count_word grammar.now node)) (state_of s)) s.capacity s.begun s.at rows.old result rows.new }
 {
     let mut t = s;
-    let mut i: usize = 0;
-    while i < word(grammar, 3 + 3 * node) {
+    for i in 0..word(grammar, 3 + 3 * node) {
         let child = child_at(grammar, node, i);
-        let u = read_value(grammar, child, bytes, rows, t)?;
-        // Field by field, as above.
-        t = State {
-            at: u.at,
-            begun: u.begun,
-            capacity: u.capacity,
-        };
-        i += 1;
+        t = read_value(grammar, child, bytes, rows, t)?;
     }
     Ok(t)
 }

@@ -91,14 +91,14 @@ import_children-import_value-requires t c =
     let l = c.loop in
     (omega (arith, c.decreases, l.invariant.1.grown), (record { table = c.requires.0.table; below = rw (c.node_at.ensures, l.invariant.0) (c.requires.0.below l.counter c.loop-test.true) }, l.invariant.1.ready))
 
-pub import_children-returns-in_err-u : goal.import_children-returns-in_err-u
-import_children-returns-in_err-u t c =
+pub import_children-returns-in_err-t : goal.import_children-returns-in_err-t
+import_children-returns-in_err-t t c =
     let a = c.args in
     let l = c.loop in
     let e = trees_next a.grammar.now a.lent.capacity a.lent.room a.bytes.now l.at a.step a.count l.counter (filling_of l.t) c.loop-test.true in
-    let h = rw c.node_at.ensures at c.in_err-u.ensures in
+    let h = rw c.node_at.ensures at c.in_err-t.ensures in
     let p = err_from_is_err_and c.from_residual.result c.from_residual.ensures.1 in
-    rw (p.1, p.2) (remaining_refused a.grammar.now c.requires.0.table (node_at a.grammar.now l.at) (l.at + a.step) a.step (a.count - (l.counter + 1)) e l.invariant.1 h c.in_err-u.field-0.0 refl)
+    rw (p.1, p.2) (remaining_refused a.grammar.now c.requires.0.table (node_at a.grammar.now l.at) (l.at + a.step) a.step (a.count - (l.counter + 1)) e l.invariant.1 h c.in_err-t.field-0.0 refl)
 
 pub import_children-overflow_add-at : goal.import_children-overflow_add-at
 import_children-overflow_add-at t c =
@@ -113,9 +113,9 @@ import_children-loop-preserved t c =
     let l = c.loop in
     let p = c.requires.0 in
     let e = trees_next a.grammar.now a.lent.capacity a.lent.room a.bytes.now l.at a.step a.count l.counter (filling_of l.t) c.loop-test.true in
-    let h = rw c.node_at.ensures at c.in_ok-u.ensures in
+    let h = rw c.node_at.ensures at c.in_ok-t.ensures in
     let k = c.import_value.auto in
-    (rw (l.invariant.0, add-one l.counter, mul-suc a.step l.counter) (omega arith), remaining_next a.grammar.now p.table (node_at a.grammar.now l.at) (l.at + a.step) a.step (a.count - (l.counter + 1)) e l.invariant.1 h c.in_ok-u.u refl k.rows k.store)
+    (rw (l.invariant.0, add-one l.counter, mul-suc a.step l.counter) (omega arith), remaining_next a.grammar.now p.table (node_at a.grammar.now l.at) (l.at + a.step) a.step (a.count - (l.counter + 1)) e l.invariant.1 h c.in_ok-t.t refl k.rows k.store)
 
 pub import_children-returns : goal.import_children-returns
 import_children-returns t c =

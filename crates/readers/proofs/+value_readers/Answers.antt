@@ -56,11 +56,11 @@ next_element t c =
     let k = elements (a.count - (l.counter + 1)) (read_val a.s.capacity a.bytes.now element) in
     elements-next a.s.capacity a.bytes.now element (state_of l.t) a.count l.counter c.loop-test.true ∙ ap (λ (j : ℕ). both (read_val a.s.capacity a.bytes.now (tree_of a.grammar.now j) (state_of l.t)) k) (sym c.child_at-child.ensures.0)
 
-pub read_array_contents-returns-in_err-u : goal.read_array_contents-returns-in_err-u
-read_array_contents-returns-in_err-u t c =
-    let e = next_element t (goal.at.read_array_contents-returns-in_err-u t c).After-read_value in
+pub read_array_contents-returns-in_err-t : goal.read_array_contents-returns-in_err-t
+read_array_contents-returns-in_err-t t c =
+    let e = next_element t (goal.at.read_array_contents-returns-in_err-t t c).After-read_value in
     let p = err_from_is_err_and c.from_residual.result c.from_residual.ensures.1 in
-    rw (p.1, p.2) (remaining_stopped _ _ e c.loop.invariant c.in_err-u.ensures c.in_err-u.field-0.0 refl)
+    rw (p.1, p.2) (remaining_stopped _ _ e c.loop.invariant c.in_err-t.ensures c.in_err-t.field-0.0 refl)
 
 pub read_array_contents-loop-preserved : goal.read_array_contents-loop-preserved
 read_array_contents-loop-preserved t c =
@@ -68,7 +68,7 @@ read_array_contents-loop-preserved t c =
     let l = c.loop in
     let element = tree_of a.grammar.now (child_word a.grammar.now (first_word a.grammar.now a.node + 0)) in
     let e = next_element t (goal.at.read_array_contents-loop-preserved t c).After-read_value in
-    remaining_next _ _ e l.invariant c.in_ok-u.ensures c.in_ok-u.u refl (tree_valid a.grammar.now c.requires.0.words c.child_at-child.result) c.read_value.auto.rows (λ w h o. few-elements a.s.capacity a.bytes.now element (a.count - (l.counter + 1)) (state_of c.in_ok-u.u) h w o)
+    remaining_next _ _ e l.invariant c.in_ok-t.ensures c.in_ok-t.t refl (tree_valid a.grammar.now c.requires.0.words c.child_at-child.result) c.read_value.auto.rows (λ w h o. few-elements a.s.capacity a.bytes.now element (a.count - (l.counter + 1)) (state_of c.in_ok-t.t) h w o)
 
 pub read_array_contents-returns : goal.read_array_contents-returns
 read_array_contents-returns t c =
@@ -138,13 +138,13 @@ next_field t c =
     let f = first_word a.grammar.now a.node in
     let n = count_word a.grammar.now a.node in
     let k = read_fields a.s.capacity a.bytes.now (child_trees a.grammar.now (tree_of a.grammar.now) (f + (l.i + 1)) (n - (l.i + 1))) in
-    fields_next a.s.capacity a.bytes.now a.grammar.now (state_of l.t) f n l.i (omega (arith, c.word.ensures.0)) ∙ ap (λ (c : ℕ). both (read_val a.s.capacity a.bytes.now (tree_of a.grammar.now c) (state_of l.t)) k) (sym c.child_at-child.ensures.0)
+    fields_next a.s.capacity a.bytes.now a.grammar.now (state_of l.t) f n l.i (omega (arith, c.word-i-end.ensures.0)) ∙ ap (λ (c : ℕ). both (read_val a.s.capacity a.bytes.now (tree_of a.grammar.now c) (state_of l.t)) k) (sym c.child_at-child.ensures.0)
 
-pub read_tuple_contents-returns-in_err-u : goal.read_tuple_contents-returns-in_err-u
-read_tuple_contents-returns-in_err-u t c =
-    let e = next_field t (goal.at.read_tuple_contents-returns-in_err-u t c).After-read_value in
+pub read_tuple_contents-returns-in_err-t : goal.read_tuple_contents-returns-in_err-t
+read_tuple_contents-returns-in_err-t t c =
+    let e = next_field t (goal.at.read_tuple_contents-returns-in_err-t t c).After-read_value in
     let p = err_from_is_err_and c.from_residual.result c.from_residual.ensures.1 in
-    rw (p.1, p.2) (remaining_stopped _ _ e c.loop-i.invariant.1 c.in_err-u.ensures c.in_err-u.field-0.0 refl)
+    rw (p.1, p.2) (remaining_stopped _ _ e c.loop-i.invariant.1 c.in_err-t.ensures c.in_err-t.field-0.0 refl)
 
 pub read_tuple_contents-loop-i-preserved : goal.read_tuple_contents-loop-i-preserved
 read_tuple_contents-loop-i-preserved t c =
@@ -152,13 +152,13 @@ read_tuple_contents-loop-i-preserved t c =
     let l = c.loop-i in
     let rest = child_trees a.grammar.now (tree_of a.grammar.now) (first_word a.grammar.now a.node + (l.i + 1)) (count_word a.grammar.now a.node - (l.i + 1)) in
     let e = next_field t (goal.at.read_tuple_contents-loop-i-preserved t c).After-read_value in
-    (omega (arith, c.word.ensures.0), remaining_next _ _ e l.invariant.1 c.in_ok-u.ensures c.in_ok-u.u refl (tree_valid a.grammar.now c.requires.0.words c.child_at-child.result) c.read_value.auto.rows (λ w h o. few_fields a.s.capacity a.bytes.now rest (state_of c.in_ok-u.u) h w o))
+    (omega (arith, c.word-i-end.ensures.0), remaining_next _ _ e l.invariant.1 c.in_ok-t.ensures c.in_ok-t.t refl (tree_valid a.grammar.now c.requires.0.words c.child_at-child.result) c.read_value.auto.rows (λ w h o. few_fields a.s.capacity a.bytes.now rest (state_of c.in_ok-t.t) h w o))
 
 pub read_tuple_contents-returns : goal.read_tuple_contents-returns
 read_tuple_contents-returns t c =
     let a = c.args in
     let l = c.loop-i in
-    remaining_done l.invariant.1 (fields_none a.s.capacity a.bytes.now a.grammar.now (state_of l.t) (first_word a.grammar.now a.node) (count_word a.grammar.now a.node) l.i (omega (arith, c.word.ensures.0)))
+    remaining_done l.invariant.1 (fields_none a.s.capacity a.bytes.now a.grammar.now (state_of l.t) (first_word a.grammar.now a.node) (count_word a.grammar.now a.node) l.i (omega (arith, c.word-i-end.ensures.0)))
 
 -- a row was claimed for the value, and what that says of the state behind
 claimed_row : (t : ℕ) (c : read_value-In_ok-t t) → Claimed c.args.s c.in_ok-t.t

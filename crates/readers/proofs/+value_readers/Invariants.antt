@@ -34,6 +34,3 @@ invariant-read_array_contents-loop l =
 
 abbrev pub invariant-read_tuple_contents-loop-i : goal.invariant-read_tuple_contents-loop-i
 invariant-read_tuple_contents-loop-i l = (l.i ≤ count_word l.grammar l.node) × Remaining l.bytes l.initial.rows l.initial.t (read_fields l.initial.t.capacity l.bytes (child_trees l.grammar (tree_of l.grammar) (first_word l.grammar l.node) (count_word l.grammar l.node)) (state_of l.initial.t)) l.rows l.t (read_fields l.initial.t.capacity l.bytes (child_trees l.grammar (tree_of l.grammar) (first_word l.grammar l.node + l.i) (count_word l.grammar l.node - l.i)) (state_of l.t))
-
-abbrev pub decreases-read_tuple_contents-loop-i : goal.decreases-read_tuple_contents-loop-i
-decreases-read_tuple_contents-loop-i l = count_word l.grammar l.node - l.i
