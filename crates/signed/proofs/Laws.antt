@@ -1,10 +1,9 @@
 -- The machine's cast of a pattern to a signed number of its width m, which has w bytes, is two's complement.
-use Rattle.std.proofs.Common.{◌≡◌, ℕ, ◌^◌, ◌<◌, ◌≤◌, sym, ◌∙◌, arith}
-use Rattle.std.proofs.lemmas.Int.{to_z_pos}
-use native.Mathlib.Decide.{dec_le}
-use borrow.Author.Tests.{le-ltb}
+use Rattle.std.proofs.Common.{◌≡◌, ℕ, ◌^◌, ◌<◌, ◌≤◌, sym, ◌∙◌, arith, le-ltb, to_z}
+use Rattle.std.proofs.Math.Decide.{dec_le}
 use mir.Syntax.{Width}
-use mir.Val.{bits, hbits, to_z}
+use mir.Val.{bits, hbits}
+use Rattle.std.proofs.lemmas.Int.{to_z_pos}
 use Rattle.value.specs.Signed.{half, signed_of}
 use Rattle.value.proofs.Signed.{signed_low, signed_high}
 
