@@ -1,5 +1,5 @@
 -- The walk's definition as the code takes it: it does not depend on the depth, and what is left of the children decides the whole.
-use Rattle.std.proofs.Common.{◌≡◌, refl, ap, sym, ◌∙◌, Bool, true, false, ◌↔◌, List, ℕ, zero, suc, ◌+◌, ◌-◌, ◌*◌, ◌^◌, ◌≤◌, ◌<◌, add-one, arith, length, ltb, eqb, lt-ltb, le-ltb, ltb-true, le-leb, eq-eqb, ne_eqb}
+use Rattle.std.proofs.Common.{◌≡◌, refl, ap, sym, ◌∙◌, Bool, true, false, ◌&&◌, ◌↔◌, List, ℕ, zero, suc, ◌+◌, ◌-◌, ◌*◌, ◌^◌, ◌≤◌, ◌<◌, add-one, arith, length, leb, ltb, eqb, lt-ltb, le-ltb, ltb-true, le-leb, eq-eqb, ne_eqb}
 use borrow.Author.Tests.{lt-leb}
 use Rattle.refusal.specs.Outcome.{Outcome, accepted, refused, bind, test, map, Reason, reason, byte, row}
 use Rattle.refusal.proofs.Outcome.{Post, holds, fails, post_bind, post_reflects, post_accepted, map-map, test-true, test-false}
@@ -65,6 +65,16 @@ row_post r len i end =
 
 pub row_passed : (r : Row) (len i end count : ℕ) → accepted count ≡ check_row r len i end → Passed r len i end count
 row_passed r len i end count h = post_accepted (rw (← h) at (row_post r len i end))
+
+-- a span that is 0 or does not reach is 13
+pub row_out : (r : Row) (len i end : ℕ) → (leb 1 r.span && leb (i + r.span) end) ≡ false → refused (reason 13 (row i)) ≡ check_row r len i end
+unfolding check_row
+row_out r len i end p = go (leb 1 r.span) (leb (i + r.span) end) p
+  where
+    go : (a b : Bool) → (a && b) ≡ false → refused (reason 13 (row i)) ≡ test (a && (b && keeps_rule (kind_of r.kind) r)) (reason 13 (row i)) (λ _. test (within_store (kind_of r.kind) r len) (reason 14 (row i)) (λ _. accepted (child_count (kind_of r.kind) r)))
+    go true true h = let z : ◌≡◌ {A = ℕ} 0 1 = cc in absurd (omega arith)
+    go true false h = refl
+    go false b h = refl
 
 -- ---- the depth
 
