@@ -1,6 +1,5 @@
 -- The laws of what is compared: of bytes one behind the other, and of the loop over rows.
-use Rattle.std.proofs.Common.{◌≡◌, refl, sym, ℕ, ◌+◌, List, [], ◌++◌, length, drop, length-append, add-zero, add_assoc}
-use Rattle.std.proofs.Math.Seq.{drop-drop}
+use Rattle.std.proofs.Common.{◌≡◌, refl, sym, ℕ, ◌+◌, List, [], ◌++◌, length, drop, length-append, add-zero, add_assoc, drop-drop}
 use Rattle.rows.specs.Size.{own_bytes, own_bytes_at, bytes_from}
 use Rattle.rows.proofs.Loop.{bytes_next}
 use Rattle.previewing.specs.declared.Compared.{Compared}

@@ -1,13 +1,6 @@
 -- The laws of `differing`: of one list and of two joined, of an output and what is put into it, and of the loop that counts.
-use mathlib.Core.Path.{◌≡◌, refl, ap, sym, ◌∙◌}
-use mathlib.Core.Bool.{Bool, true, false, cond}
-use mathlib.Core.List.{List, [], ◌∷◌, ◌++◌}
-use Prim.Native.Nat.{ℕ, zero, suc, ◌+◌, ◌≤◌, ◌<◌}
-use native.Mathlib.Omega.{arith}
-use lib.ListN.{length, get_or, take, drop, length-take}
-use lib.Dec.{eqb}
-use lib.Seq.{take-length, drop-cons, drop-drop, take-add, length-take-le}
-use borrow.Author.Tests.{eq-eqb, ne_eqb, eqb-true}
+use Rattle.std.proofs.Common.{◌≡◌, refl, ap, sym, ◌∙◌, Bool, true, false, cond, List, [], ◌∷◌, ◌++◌, ℕ, zero, suc, ◌+◌, ◌≤◌, ◌<◌, arith, length, get_or, take, drop, length-take, eqb, drop-cons, drop-drop, take-add, length-take-le, eq-eqb, ne_eqb, eqb-true}
+use Rattle.std.proofs.Math.Seq.{take-length}
 use Rattle.packed.specs.Packed.{put}
 use Rattle.previewing.specs.Preview.{differing, CountsPlaces}
 

@@ -1,10 +1,5 @@
 -- What was decided and counted is the preview, which equals what a writing answers and changes; and what a caller may take from it.
-use mathlib.Core.Path.{◌≡◌, refl, ap, sym, ◌∙◌}
-use mathlib.Core.Logic.{◌↔◌}
-use mathlib.Core.List.{List}
-use Prim.Native.Nat.{ℕ, ◌≤◌}
-use native.Mathlib.Omega.{arith}
-use lib.ListN.{length, drop}
+use Rattle.std.proofs.Common.{◌≡◌, refl, ap, sym, ◌∙◌, ◌↔◌, List, ℕ, ◌≤◌, arith, length, drop, Result}
 use Rattle.refusal.specs.Outcome.{Outcome, accepted, refused, map, contents, Reason}
 use Rattle.refusal.proofs.Outcome.{map-accepted, map-refused}
 use Rattle.packed.specs.Packed.{put}
@@ -13,7 +8,6 @@ use Rattle.value.specs.Bytes.{bytes_of}
 use Rattle.value.proofs.Laws.{length_bytes_of}
 use Rattle.rows.specs.Size.{bytes_from}
 use Rattle.rows.proofs.Size.{table-bytes}
-use Rattle.std.specs.Prelude.{Result}
 use Rattle.refusal.specs.declared.Refusal.{Refusal}
 use Rattle.refusal.specs.Meaning.{outcome_of}
 use Rattle.sizing.specs.Writes.{marshall_val_of}

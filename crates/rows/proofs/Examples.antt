@@ -1,7 +1,5 @@
 -- Layouts and walks by computation.
-use mathlib.Core.Path.{◌≡◌, refl}
-use mathlib.Core.List.{List, [], ◌∷◌, ◌++◌}
-use Prim.Native.Nat.{ℕ}
+use Rattle.std.proofs.Common.{◌≡◌, refl, List, [], ◌∷◌, ◌++◌, ℕ}
 use Rattle.refusal.specs.Outcome.{Outcome, accepted, refused, Reason, reason, row}
 use Rattle.packed.specs.Packed.{unpack_little_endian, unpack_little_endian_seq}
 use Rattle.value.specs.Kinds.{kinds, kind_of}

@@ -1,19 +1,10 @@
 -- The walk's definition as the code takes it: it does not depend on the depth, and what is left of the children decides the whole.
-use mathlib.Core.Path.{◌≡◌, refl, ap, sym, ◌∙◌}
-use mathlib.Core.Bool.{Bool, true, false, ◌&&◌}
-use mathlib.Core.Logic.{◌↔◌}
-use mathlib.Core.List.{List}
-use Prim.Native.Nat.{ℕ, zero, suc, ◌+◌, ◌-◌, ◌*◌, ◌^◌, ◌≤◌, ◌<◌}
-use native.Mathlib.Numerals.{add-one}
-use native.Mathlib.Omega.{arith}
-use lib.ListN.{length}
-use lib.Dec.{leb, ltb, eqb}
-use borrow.Author.Tests.{lt-ltb, le-ltb, ltb-true, le-leb, lt-leb, eq-eqb, ne_eqb}
+use Rattle.std.proofs.Common.{◌≡◌, refl, ap, sym, ◌∙◌, Bool, true, false, ◌&&◌, ◌↔◌, List, ℕ, zero, suc, ◌+◌, ◌-◌, ◌*◌, ◌^◌, ◌≤◌, ◌<◌, add-one, arith, length, leb, ltb, eqb, lt-ltb, le-ltb, ltb-true, le-leb, eq-eqb, ne_eqb}
+use borrow.Author.Tests.{lt-leb}
 use Rattle.refusal.specs.Outcome.{Outcome, accepted, refused, bind, test, map, Reason, reason, byte, row}
 use Rattle.refusal.proofs.Outcome.{Post, holds, fails, post_bind, post_reflects, post_accepted, map-map, test-true, test-false}
-use Rattle.refusal.proofs.Tests.{and-true, NoneBelow, reflects_leb, reflects_ltb, reflects_eqb, reflects_and}
-use Rattle.value.specs.Kinds.{Number, width, Kind, last_kind, kind_of, number, other}
-use Rattle.value.proofs.KindLaws.{none_of}
+use Rattle.refusal.proofs.Tests.{reflects_leb, reflects_ltb, reflects_eqb, reflects_and}
+use Rattle.value.specs.Kinds.{Number, width, kind_of, number}
 use Rattle.value.specs.Tree.{Val, Vals, vnil, vcons, SizeOfV}
 use Rattle.tables.specs.Row.{row_width, Row, row_at}
 use Rattle.rows.specs.Walk.{keeps_rule, within_store, child_count, row_value, check_row, walk_children, check_size_word, walk_to, walk_row, count_holds, walk}
@@ -75,22 +66,7 @@ row_post r len i end =
 pub row_passed : (r : Row) (len i end count : ℕ) → accepted count ≡ check_row r len i end → Passed r len i end count
 row_passed r len i end count h = post_accepted (rw (← h) at (row_post r len i end))
 
--- in an arm of a match: what a kind does, by the kind word
-pub by_kind : {A : Type 0} (f : Kind → A) {m k : ℕ} {x : A} → m ≡ k → x ≡ f (kind_of k) → x ≡ f (kind_of m)
-by_kind f e h = h ∙ ap (λ (n : ℕ). f (kind_of n)) (sym e)
-
--- in its last arm
-pub by_other : {A : Type 0} (f : Kind → A) {m : ℕ} {x : A} → NoneBelow (suc last_kind) m → x ≡ f other → x ≡ f (kind_of m)
-by_other f {m} n h = h ∙ ap f (sym (none_of m n))
-
--- in an arm of the row's match: the span reaches, and the kind's rule is decided
-pub row_arm : (r : Row) (len i end : ℕ) {kept held : Bool} {count : ℕ} → (leb 1 r.span && leb (i + r.span) end) ≡ true → kept ≡ keeps_rule (kind_of r.kind) r → held ≡ within_store (kind_of r.kind) r len → count ≡ child_count (kind_of r.kind) r → test kept (reason 13 (row i)) (λ _. test held (reason 14 (row i)) (λ _. accepted count)) ≡ check_row r len i end
-unfolding check_row
-row_arm r len i end p k h c =
-    let q = and-true (leb 1 r.span) (leb (i + r.span) end) p in
-    rw (q.0, q.1, k, h, c)
-
--- before the match: the span does not reach
+-- a span that is 0 or does not reach is 13
 pub row_out : (r : Row) (len i end : ℕ) → (leb 1 r.span && leb (i + r.span) end) ≡ false → refused (reason 13 (row i)) ≡ check_row r len i end
 unfolding check_row
 row_out r len i end p = go (leb 1 r.span) (leb (i + r.span) end) p

@@ -1,11 +1,5 @@
 -- The layout of a value: its length, and that with the value's bytes in the store it stands for the value.
-use mathlib.Core.Path.{◌≡◌, refl, ap, sym, ◌∙◌}
-use mathlib.Core.List.{List, ◌++◌, append_assoc}
-use Prim.Native.Nat.{ℕ, suc, ◌+◌, ◌-◌, ◌*◌, ◌≤◌}
-use native.Mathlib.Numerals.{add-one}
-use native.Mathlib.Omega.{arith}
-use lib.ListN.{length, get_or, take, drop, length-append, length-drop, take-append-drop}
-use lib.Seq.{get_or-drop, drop-drop, take_at, drop_at}
+use Rattle.std.proofs.Common.{◌≡◌, refl, ap, sym, ◌∙◌, List, ◌++◌, append_assoc, ℕ, suc, ◌+◌, ◌-◌, ◌*◌, ◌≤◌, add-one, arith, length, get_or, take, drop, length-append, length-drop, take-append-drop, get_or-drop, drop-drop, take_at, drop_at}
 use Rattle.refusal.specs.Outcome.{accepted}
 use Rattle.packed.specs.Packed.{pack_little_endian, pack_little_endian_seq}
 use Rattle.packed.proofs.Laws.{length_pack, length_pack_seq}

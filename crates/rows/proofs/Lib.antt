@@ -1,6 +1,5 @@
 pub mod LayoutLaws
 pub mod Laws
-pub mod Words
 pub mod Rule
 pub mod Parts
 pub mod Loop

@@ -1,11 +1,5 @@
 -- The loops over rows, which add up own sizes or put own bytes one behind the other, by any rule of own bytes and of own sizes.
-use mathlib.Core.Path.{◌≡◌, refl, ap, sym, ◌∙◌}
-use mathlib.Core.Bool.{true}
-use mathlib.Core.List.{List, [], ◌++◌, append_assoc, append-nil}
-use Prim.Native.Nat.{ℕ, zero, suc, ◌+◌, ◌-◌, ◌*◌, ◌≤◌, ◌<◌}
-use native.Mathlib.Nat.{zero-add, suc-add, add-zero, mul-suc, mul-le-mul_left}
-use native.Mathlib.Omega.{arith}
-use lib.ListN.{length, length-append}
+use Rattle.std.proofs.Common.{◌≡◌, refl, ap, sym, ◌∙◌, true, List, [], ◌++◌, append_assoc, append-nil, ℕ, zero, suc, ◌+◌, ◌-◌, ◌*◌, ◌≤◌, ◌<◌, zero-add, suc-add, add-zero, mul-suc, mul-le-mul_left, arith, length, length-append}
 use Rattle.packed.specs.Packed.{put}
 use Rattle.packed.proofs.Put.{length-put, put_more}
 use Rattle.value.specs.Kinds.{Kind, kind_of}

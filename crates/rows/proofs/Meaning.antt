@@ -1,6 +1,5 @@
 -- An answer of the locator is determined by what it means, so a contract through the meaning fixes the answer.
-use Rattle.std.specs.Prelude.{Result, Ok, Err}
-use Rattle.std.proofs.Common.{◌≡◌, ℕ, ap, arith}
+use Rattle.std.proofs.Common.{Result, Ok, Err, ◌≡◌, ℕ, ap, arith}
 use Rattle.refusal.specs.declared.Refusal.{Refusal}
 use Rattle.refusal.proofs.Meaning.{reason_injective}
 use Rattle.rows.specs.declared.Located.{Located}

@@ -1,13 +1,7 @@
 -- Every row of a value stands for a part of it, so every row of a table keeps its kind's rule, has its array in the store and says the size
 -- of its part.
-use mathlib.Core.Path.{◌≡◌, refl, ap, ◌∙◌}
-use mathlib.Core.Bool.{true}
-use mathlib.Core.List.{List}
-use Prim.Native.Nat.{ℕ, suc, ◌+◌, ◌*◌, ◌^◌, ◌≤◌, ◌<◌}
-use native.Mathlib.Decide.{dec_lt}
-use native.Mathlib.Omega.{arith}
-use lib.ListN.{length}
-use borrow.Author.Tests.{lt-ltb, le-leb}
+use Rattle.std.proofs.Common.{◌≡◌, refl, ap, ◌∙◌, true, List, ℕ, suc, ◌+◌, ◌*◌, ◌^◌, ◌≤◌, ◌<◌, arith, length, lt-ltb, le-leb}
+use Rattle.std.proofs.Math.Decide.{dec_lt}
 use Rattle.value.specs.Kinds.{width, element_width, kinds, kind_of}
 use Rattle.value.specs.Tree.{Val, Vals, VConstant, VNumber, VArray, VTuple, VNumberArray, VCase, vnil, vcons, TypedVal, TypedVals, SizeOfV, row_count, row_counts}
 use Rattle.value.proofs.KindLaws.{number-kind, elements-kind}

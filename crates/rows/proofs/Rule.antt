@@ -1,14 +1,7 @@
 -- The walk is accepted exactly where the rows are a table of a value.
-use mathlib.Core.Path.{◌≡◌, refl, ap, sym, ◌∙◌}
-use mathlib.Core.Bool.{Bool, true, false, ◌&&◌}
-use mathlib.Core.Logic.{◌↔◌}
-use mathlib.Core.List.{List, [], ◌∷◌, append-nil}
-use Prim.Native.Nat.{ℕ, zero, suc, ◌+◌, ◌-◌, ◌*◌, ◌^◌, ◌≤◌, ◌<◌}
-use native.Mathlib.Decide.{dec_lt}
-use native.Mathlib.Omega.{arith}
-use lib.ListN.{length, get_or, take, drop, length-drop, get_or-eq_default}
-use lib.Dec.{eqb, lit<}
-use borrow.Author.Tests.{le-leb, leb-true, lt-ltb, eq-eqb, eqb-true}
+use Rattle.std.proofs.Common.{◌≡◌, refl, ap, sym, ◌∙◌, Bool, true, false, ◌&&◌, ◌↔◌, List, [], ◌∷◌, append-nil, ℕ, zero, suc, ◌+◌, ◌-◌, ◌*◌, ◌^◌, ◌≤◌, ◌<◌, arith, length, get_or, take, drop, length-drop, eqb, lit<, le-leb, leb-true, lt-ltb, eq-eqb, eqb-true}
+use Rattle.std.proofs.Math.Decide.{dec_lt}
+use Rattle.std.proofs.Math.ListN.{get_or-eq_default}
 use Rattle.refusal.specs.Outcome.{Outcome, accepted, bind, Reason}
 use Rattle.refusal.proofs.Outcome.{holds, fails, post_bind, post_weaken, post_reflects, post_accepted, test-true}
 use Rattle.refusal.proofs.Tests.{and-true, reflects_leb, reflects_ltb, reflects_eqb, reflects_and}

@@ -1,15 +1,6 @@
 -- The byte rule by rows: a value's bytes are its rows' own, its size is the sum of their own sizes, and it is bounded; and the size of a
 -- row whose children have passed.
-use mathlib.Core.Path.{◌≡◌, refl, ap, sym, subst, ◌∙◌}
-use mathlib.Core.Bool.{Bool, true, false}
-use mathlib.Core.List.{List}
-use Prim.Native.Nat.{ℕ, suc, ◌+◌, ◌-◌, ◌*◌, ◌^◌, ◌≤◌, ◌<◌}
-use native.Mathlib.Numerals.{add-one}
-use native.Mathlib.Omega.{arith}
-use lib.ListN.{length, take, drop, length-append, length-drop}
-use lib.Seq.{length-take-le}
-use lib.Dec.{eqb}
-use borrow.Author.Tests.{leb-true}
+use Rattle.std.proofs.Common.{◌≡◌, refl, ap, sym, subst, ◌∙◌, Bool, true, false, List, ℕ, suc, ◌+◌, ◌-◌, ◌*◌, ◌^◌, ◌≤◌, ◌<◌, add-one, arith, length, take, drop, length-append, length-drop, length-take-le, eqb, leb-true}
 use Rattle.refusal.specs.Outcome.{accepted, test, reason, row}
 use Rattle.refusal.proofs.Outcome.{post_accepted}
 use Rattle.packed.specs.Packed.{Bytes, Below}

@@ -1,9 +1,5 @@
 -- The bytes of a value are its rows' own bytes one behind the other, in every spelling.
-use mathlib.Core.Path.{◌≡◌, ap, sym, ◌∙◌}
-use mathlib.Core.List.{List, [], ◌++◌, append-nil}
-use Prim.Native.Nat.{ℕ, suc, ◌+◌}
-use native.Mathlib.Omega.{arith}
-use lib.ListN.{length}
+use Rattle.std.proofs.Common.{◌≡◌, ap, sym, ◌∙◌, List, [], ◌++◌, append-nil, ℕ, suc, ◌+◌, arith, length}
 use Rattle.value.specs.Kinds.{Number, Elements, Kind, kind_of, constant, number, array, tuple, elements, union}
 use Rattle.value.specs.Tree.{Val, Vals, VConstant, VNumber, VArray, VTuple, VNumberArray, VCase, vnil, vcons, row_count, row_counts}
 use Rattle.value.proofs.KindLaws.{number-kind, elements-kind, other-kinds}

@@ -1,12 +1,5 @@
 -- The call gives z exactly where z is the signed number of the row.
-use mathlib.Core.Path.{◌≡◌, refl, sym, ap, subst, ◌∙◌}
-use mathlib.Core.Logic.{◌↔◌}
-use mathlib.Core.Bool.{Bool, true, false}
-use mathlib.Core.List.{List}
-use Prim.Native.Nat.{ℕ, ◌^◌}
-use native.Mathlib.Omega.{arith}
-use lib.IntN.{ℤ}
-use borrow.Author.Tests.{lt-ltb}
+use Rattle.std.proofs.Common.{◌≡◌, refl, sym, ap, subst, ◌∙◌, ◌↔◌, Bool, true, false, List, ℕ, ◌^◌, arith, ℤ, lt-ltb}
 use Rattle.refusal.specs.Outcome.{accepted, test, Reason, reason, row}
 use Rattle.packed.specs.Packed.{Below, Bytes}
 use Rattle.value.specs.Kinds.{Number, width, Kind, kind_of, constant, number, array, tuple, elements, union, other}

@@ -1,10 +1,5 @@
 -- Refusal 15 is not given exactly where the value is in the grammar, and its place is one of the value's rows.
-use mathlib.Core.Path.{◌≡◌, refl, ap, sym, subst, ◌∙◌}
-use mathlib.Core.Logic.{◌↔◌}
-use Prim.Native.Nat.{ℕ, suc, ◌+◌, ◌≤◌, ◌<◌}
-use native.Mathlib.Omega.{arith}
-use lib.ListN.{length}
-use borrow.Author.Tests.{eq-eqb, lt-ltb}
+use Rattle.std.proofs.Common.{◌≡◌, refl, ap, sym, subst, ◌∙◌, ◌↔◌, ℕ, suc, ◌+◌, ◌≤◌, ◌<◌, arith, length, eq-eqb, lt-ltb}
 use Rattle.refusal.specs.Outcome.{accepted, refused, Reason, reason, row}
 use Rattle.refusal.proofs.Outcome.{Post, holds, post_bind, post_reflects, post_weaken, post_accepted, post_refused, test-true}
 use Rattle.refusal.proofs.Tests.{reflects_eqb, reflects_ltb, reflects_and}

@@ -1,18 +1,8 @@
 -- The second walk as the code takes it: a row's arm by its kind, and the loops, where what is left decides the whole.
-use mathlib.Core.Path.{◌≡◌, refl, ap, sym, subst, ◌∙◌}
-use mathlib.Core.Bool.{Bool, true, false, ◌&&◌}
-use mathlib.Core.List.{List}
-use Prim.Native.Nat.{ℕ, suc, ◌+◌, ◌-◌, ◌*◌, ◌≤◌, ◌<◌}
-use native.Mathlib.Nat.{add-zero}
-use native.Mathlib.Numerals.{add-one}
-use native.Mathlib.Omega.{arith}
-use lib.ListN.{length}
-use lib.Dec.{eqb}
-use borrow.Author.Tests.{eq-eqb, ne_eqb, le-ltb}
+use Rattle.std.proofs.Common.{◌≡◌, refl, ap, sym, subst, ◌∙◌, Bool, true, false, ◌&&◌, List, ℕ, suc, ◌+◌, ◌-◌, ◌*◌, ◌≤◌, ◌<◌, add-zero, add-one, arith, length, eqb, eq-eqb, ne_eqb, le-ltb, Result, Ok, Err, Some}
 use Rattle.refusal.specs.Outcome.{Outcome, accepted, refused, bind, Reason, reason, row}
 use Rattle.refusal.specs.Meaning.{outcome_of}
 use Rattle.refusal.specs.declared.Refusal.{Refusal}
-use Rattle.std.specs.Prelude.{Result, Ok, Err, Some}
 use Rattle.value.specs.declared.Kind.{Kind as CodeKind}
 use Rattle.value.specs.declared.Kind.TheVariants as Code
 use Rattle.value.specs.declared.Number.TheVariants as Numbers

@@ -1,12 +1,5 @@
 -- What the writers answer, step by step as the code decides it, and what an accepted writing says.
-use mathlib.Core.Path.{◌≡◌, refl, ap, sym, ◌∙◌}
-use mathlib.Core.Bool.{Bool, true, false}
-use mathlib.Core.Logic.{◌↔◌}
-use mathlib.Core.List.{List}
-use Prim.Native.Nat.{ℕ, ◌+◌, ◌^◌, ◌≤◌}
-use native.Mathlib.Omega.{arith}
-use lib.Dec.{leb}
-use borrow.Author.Tests.{le-leb, leb-true}
+use Rattle.std.proofs.Common.{◌≡◌, refl, ap, sym, ◌∙◌, Bool, true, false, ◌↔◌, List, ℕ, ◌+◌, ◌^◌, ◌≤◌, arith, leb, le-leb, leb-true}
 use Rattle.refusal.specs.Outcome.{Outcome, accepted, refused, bind, test, map, Reason, reason, row}
 use Rattle.refusal.proofs.Outcome.{clash, bind_inverse, map-map, map-accepted, map-refused, test-true, test_passed}
 use Rattle.packed.specs.Packed.{Bytes, Below, room}

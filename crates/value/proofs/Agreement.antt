@@ -1,12 +1,6 @@
 -- A reading with refusals and a parsing of the same bytes agree.
-use mathlib.Core.Path.{◌≡◌, refl, ap, subst, ◌∙◌}
-use mathlib.Core.Bool.{Bool, true, false, not}
-use mathlib.Core.List.{List}
-use Prim.Native.Nat.{ℕ, zero, suc, ◌+◌, ◌-◌, ◌*◌, ◌/◌, ◌≤◌, ◌<◌}
-use native.Mathlib.Omega.{arith}
-use lib.ListN.{length, take, drop, length-drop}
-use lib.Seq.{drop-drop}
-use lib.Dec.{leb, ltb, T, leb→le, le→leb, nleb→lt, ltb→lt, nltb→le}
+use Rattle.std.proofs.Common.{◌≡◌, refl, ap, subst, ◌∙◌, Bool, true, false, not, List, ℕ, zero, suc, ◌+◌, ◌-◌, ◌*◌, ◌/◌, ◌≤◌, ◌<◌, arith, length, take, drop, length-drop, drop-drop, leb, ltb, T, leb→le, le→leb, ltb→lt, nltb→le}
+use Rattle.std.proofs.Math.Dec.{nleb→lt}
 use Rattle.refusal.specs.Outcome.{Outcome, accepted, refused, bind, test}
 use Rattle.refusal.proofs.Outcome.{Post, holds, fails, post_bind, post_weaken, bind-test}
 use Rattle.packed.specs.Packed.{unpack_little_endian}

@@ -1,11 +1,5 @@
 -- How many values a reading begins: at least one, and at most as many as there are rows, or at a refusal one more.
-use mathlib.Core.Path.{◌≡◌, refl}
-use mathlib.Core.Bool.{Bool}
-use mathlib.Core.List.{List}
-use Prim.Native.Nat.{ℕ, zero, suc, ◌+◌, ◌-◌, ◌*◌, ◌/◌, ◌≤◌}
-use native.Mathlib.Omega.{arith}
-use lib.ListN.{length, take, drop}
-use lib.Dec.{leb, ltb, eqb, ltb→lt}
+use Rattle.std.proofs.Common.{◌≡◌, refl, Bool, List, ℕ, zero, suc, ◌+◌, ◌-◌, ◌*◌, ◌/◌, ◌≤◌, arith, length, take, drop, leb, ltb, eqb, ltb→lt}
 use Rattle.refusal.specs.Outcome.{accepted, refused, test}
 use Rattle.refusal.proofs.Outcome.{Post, fails, post_bind, post_test, post_weaken, post_accepted, post_refused, bind-test}
 use Rattle.packed.specs.Packed.{unpack_little_endian}

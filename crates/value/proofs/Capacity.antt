@@ -1,12 +1,5 @@
 -- One reading at two capacities, c and one at least as large, m: with c it is what it is with m, or refused with 8.
-use mathlib.Core.Path.{◌≡◌, refl, ap}
-use mathlib.Core.Bool.{Bool, true, false}
-use mathlib.Core.Logic.{◌⊎◌, inl, inr}
-use mathlib.Core.List.{List}
-use Prim.Native.Nat.{ℕ, zero, suc, ◌≤◌}
-use native.Mathlib.Omega.{arith}
-use lib.Dec.{leb, ltb}
-use borrow.Author.Tests.{le-leb, leb-true, lt-ltb, ltb-true}
+use Rattle.std.proofs.Common.{◌≡◌, refl, ap, Bool, true, false, ◌⊎◌, inl, inr, List, ℕ, zero, suc, ◌≤◌, arith, leb, ltb, le-leb, leb-true, lt-ltb, ltb-true}
 use Rattle.refusal.specs.Outcome.{accepted, refused, test}
 use Rattle.refusal.proofs.Outcome.{bind-test}
 use Rattle.value.specs.Tree.{G, Gs, GConstant, GNumber, GArray, GTuple, GNumberArray, GTaggedUnion, gnil, gcons, Val, Vals, VArray, VTuple, VCase, vcons}

@@ -1,16 +1,9 @@
 -- A record beside its first k bytes, both read from one position: what ends within these bytes is read the same, what ends behind them is
 -- refused with 9.
-use mathlib.Core.Path.{◌≡◌, refl, sym, ap, ◌∙◌}
-use mathlib.Core.Bool.{Bool, true, false}
-use mathlib.Core.List.{List, ◌++◌}
-use Prim.Native.Nat.{ℕ, zero, suc, ◌+◌, ◌-◌, ◌*◌, ◌/◌, ◌≤◌, ◌<◌}
-use native.Mathlib.Nat.{div-lt_iff_lt-mul, mul_comm}
-use native.Mathlib.Omega.{arith}
-use native.Mathlib.Decide.{dec_le}
-use lib.ListN.{length, take, drop, length-drop, take-append-drop}
-use lib.Seq.{length-take-le, drop-append-le, take-append-le}
-use lib.Dec.{leb, ltb}
-use borrow.Author.Tests.{le-leb, lt-leb}
+use Rattle.std.proofs.Common.{◌≡◌, refl, sym, ap, ◌∙◌, Bool, true, false, List, ◌++◌, ℕ, zero, suc, ◌+◌, ◌-◌, ◌*◌, ◌/◌, ◌≤◌, ◌<◌, div-lt_iff_lt-mul, mul_comm, arith, length, take, drop, length-drop, take-append-drop, length-take-le, leb, ltb, le-leb}
+use Rattle.std.proofs.Math.Decide.{dec_le}
+use Rattle.std.proofs.Math.Seq.{drop-append-le, take-append-le}
+use borrow.Author.Tests.{lt-leb}
 use Rattle.refusal.specs.Outcome.{accepted, refused, test}
 use Rattle.refusal.proofs.Outcome.{Post, fails, post_bind, post_test, post_weaken, post_accepted, bind-test}
 use Rattle.packed.specs.Packed.{unpack_little_endian}

@@ -1,10 +1,5 @@
 -- Where an accepted reading ends: behind the bytes of what was read. So the size of a value is the position behind it less its start.
-use mathlib.Core.Path.{◌≡◌, refl, ◌∙◌}
-use mathlib.Core.List.{List}
-use Prim.Native.Nat.{ℕ, zero, suc, ◌+◌, ◌-◌, ◌*◌, ◌/◌}
-use native.Mathlib.Omega.{arith}
-use lib.ListN.{length, take, drop}
-use lib.Dec.{leb, ltb}
+use Rattle.std.proofs.Common.{◌≡◌, refl, ◌∙◌, List, ℕ, zero, suc, ◌+◌, ◌-◌, ◌*◌, ◌/◌, arith, length, take, drop, leb, ltb}
 use Rattle.refusal.proofs.Outcome.{Post, fails, post_bind, post_test, bind-test}
 use Rattle.packed.specs.Packed.{unpack_little_endian}
 use Rattle.packed.proofs.Laws.{length_unpack_seq}

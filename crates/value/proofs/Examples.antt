@@ -1,6 +1,5 @@
 -- Readings by computation.
-use mathlib.Core.Path.{◌≡◌, refl}
-use mathlib.Core.List.{[], ◌∷◌}
+use Rattle.std.proofs.Common.{◌≡◌, refl, [], ◌∷◌}
 use Rattle.refusal.specs.Outcome.{refused}
 use Rattle.packed.specs.Packed.{unpack_little_endian}
 use Rattle.value.specs.Tree.{GConstant, GArray, GTuple, gnil, gcons}

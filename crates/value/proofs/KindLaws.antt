@@ -1,11 +1,6 @@
 -- The tables of kinds agree.
-use mathlib.Core.Path.{◌≡◌, refl, ap, sym, ◌∙◌}
-use mathlib.Core.Bool.{Bool, true, false, ◌||◌}
-use Prim.Native.Nat.{ℕ, suc, ◌≤◌, ◌<◌}
-use native.Mathlib.Omega.{arith}
-use lib.ListN.{length, get_or-eq_default}
-use lib.Dec.{eqb, lit<, lit≤}
-use Rattle.refusal.proofs.Tests.{NoneBelow, none_below}
+use Rattle.std.proofs.Common.{◌≡◌, refl, Bool, ◌||◌, ℕ, suc, ◌≤◌, ◌<◌, length, eqb, lit<, lit≤}
+use Rattle.std.proofs.Math.ListN.{get_or-eq_default}
 use Rattle.value.specs.Kinds.{Number, uint32, uint64, int32, int64, width, number_kind, Elements, bytes, uint32s, uint64s, element_width, elements_kind, kinds, last_kind, kind_of, constant, number, array, tuple, elements, union, other}
 
 pub number-kind : (k : Number) → kind_of (number_kind k) ≡ number k
@@ -46,11 +41,6 @@ element_width_positive uint64s = lit< tt
 abbrev pub is_parent : ℕ → Bool
 is_parent word = eqb word 3 || (eqb word 4 || eqb word 8)
 
-pub not-parent : {word k parent : ℕ} → word ≡ k → is_parent k ≡ false → is_parent parent ≡ true → word ≡ parent → ⊥
-not-parent e n p q =
-    let t = sym (ap is_parent e) ∙ ap is_parent q ∙ p in
-    let z : ◌≡◌ {A = ℕ} 0 1 = cc in omega arith
-
 -- the table has the kind words 0 to `last_kind`
 pub kinds-length : length kinds ≡ suc last_kind
 unfolding kinds
@@ -60,8 +50,3 @@ kinds-length = refl
 pub kind-other : (word : ℕ) → length kinds ≤ word → kind_of word ≡ other
 unfolding kind_of
 kind-other word h = get_or-eq_default kinds other h
-
--- in the last arm of a match on the kind words
-pub none_of : (word : ℕ) → NoneBelow (suc last_kind) word → kind_of word ≡ other
-unfolding kinds
-none_of word h = kind-other word (none_below (suc last_kind) word h)

@@ -1,15 +1,7 @@
 -- One meaning: what the bytes of a value are, and that parsing gives a value exactly for its bytes.
-use mathlib.Core.Path.{◌≡◌, refl, sym, ap, ◌∙◌}
-use mathlib.Core.Logic.{◌↔◌}
-use mathlib.Core.Option.{Option, none, some}
-use mathlib.Core.List.{List, [], ◌∷◌, ◌++◌, append_assoc, append-nil}
-use Prim.Native.Nat.{ℕ, zero, suc, ◌+◌, ◌*◌, ◌/◌, ◌^◌, ◌≤◌, ◌<◌}
-use native.Mathlib.Nat.{le-div_iff_mul-le, mul_comm, mod-eq_of_lt}
-use native.Mathlib.Omega.{arith}
-use lib.ListN.{length, take, drop, length-append, take-append-drop}
-use lib.Seq.{take_at, drop_at, take-take, drop-append-le, length-take-le, slice, length-slice}
-use lib.Dec.{leb, leb→le, lit<}
-use borrow.Author.Tests.{le-leb}
+use Rattle.std.proofs.Common.{◌≡◌, refl, sym, ap, ◌∙◌, ◌↔◌, List, [], ◌∷◌, ◌++◌, append_assoc, append-nil, ℕ, zero, suc, ◌+◌, ◌*◌, ◌/◌, ◌^◌, ◌≤◌, ◌<◌, le-div_iff_mul-le, mul_comm, mod-eq_of_lt, arith, length, take, drop, length-append, take-append-drop, take_at, drop_at, take-take, length-take-le, leb, leb→le, lit<, le-leb}
+use Rattle.std.proofs.Math.Option.{Option, none, some}
+use Rattle.std.proofs.Math.Seq.{drop-append-le, slice, length-slice}
 use Rattle.refusal.specs.Outcome.{accepted, refused, test}
 use Rattle.refusal.proofs.Outcome.{Post, holds, fails, post_bind, post_test, post_weaken, post_accepted}
 use Rattle.packed.specs.Packed.{unpack_little_endian, unpack_little_endian_seq, pack_little_endian, pack_little_endian_seq, Bytes, Below}

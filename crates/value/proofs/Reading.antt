@@ -1,15 +1,9 @@
 -- What a reading means: it is accepted exactly where the bytes of a value that fits stand, and it agrees with `parse_val`.
-use mathlib.Core.Path.{◌≡◌, refl, sym, ap, ◌∙◌}
-use mathlib.Core.Logic.{◌↔◌, ◌≢◌}
-use mathlib.Core.Option.{Option, none, some}
-use mathlib.Core.List.{List, [], ◌++◌}
-use Prim.Native.Nat.{ℕ, zero, suc, ◌+◌, ◌-◌, ◌^◌, ◌≤◌, ◌<◌}
-use native.Mathlib.Omega.{arith}
-use native.Mathlib.Decide.{dec_le}
-use lib.ListN.{length, drop, length-append, length-drop, take-append-drop}
-use lib.Seq.{take_at, take_all, drop-length}
-use lib.Dec.{eqb, eqb→eq}
-use borrow.Author.Tests.{eq-eqb, le-leb, lt-leb}
+use Rattle.std.proofs.Common.{◌≡◌, refl, sym, ap, ◌∙◌, ◌↔◌, ◌≢◌, List, [], ◌++◌, ℕ, zero, suc, ◌+◌, ◌-◌, ◌^◌, ◌≤◌, ◌<◌, arith, length, drop, length-append, length-drop, take-append-drop, take_at, take_all, eqb, eqb→eq, eq-eqb, le-leb}
+use Rattle.std.proofs.Math.Decide.{dec_le}
+use Rattle.std.proofs.Math.Option.{Option, none, some}
+use Rattle.std.proofs.Math.Seq.{drop-length}
+use borrow.Author.Tests.{lt-leb}
 use Rattle.refusal.specs.Outcome.{accepted, refused, Location, byte, reason}
 use Rattle.refusal.proofs.Outcome.{Post, holds, fails, post_test, post_weaken, post_accepted, post_refused, test-true, test-false}
 use Rattle.packed.specs.Packed.{Bytes}

@@ -1,12 +1,6 @@
 -- Two's complement over the width: each pattern has one number in range, and each number in range one pattern.
-use mathlib.Core.Path.{◌≡◌, refl, sym, ap, ◌∙◌}
-use mathlib.Core.List.{[], ◌∷◌}
-use Prim.Native.Nat.{ℕ, zero, suc, ◌+◌, ◌-◌, ◌^◌, ◌≤◌, ◌<◌}
-use native.Mathlib.Nat.{pow-suc}
-use native.Mathlib.Decide.{dec_le}
-use native.Mathlib.Omega.{arith}
-use lib.IntN.{ℤ, pos, negsuc}
-use borrow.Author.Tests.{lt-ltb, le-ltb}
+use Rattle.std.proofs.Common.{◌≡◌, refl, sym, ap, ◌∙◌, [], ◌∷◌, ℕ, zero, suc, ◌+◌, ◌-◌, ◌^◌, ◌≤◌, ◌<◌, pow-suc, arith, ℤ, pos, negsuc, lt-ltb, le-ltb}
+use Rattle.std.proofs.Math.Decide.{dec_le}
 use Rattle.packed.specs.Packed.{pack_little_endian}
 use Rattle.value.specs.Kinds.{Number, width, int32, int64}
 use Rattle.value.specs.Tree.{GNumber, VNumber, in_number, ValidVal, TypedVal, ValueOf}

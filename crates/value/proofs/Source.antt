@@ -1,22 +1,14 @@
 -- The source's own equations: what GM writes for each of its pure functions and predicates, in GM's names for the kinds, holds of
 -- the definitions here. Where GM matches, an equation stands for each case, in GM's order.
-use mathlib.Core.Path.{◌≡◌, refl, sym, ap, subst, ◌∙◌}
+use Rattle.std.proofs.Common.{◌≡◌, refl, sym, ap, subst, ◌∙◌, ◌↔◌, inl, inr, Bool, true, false, not, List, [], ◌∷◌, ℕ, zero, suc, ◌+◌, ◌-◌, ◌*◌, ◌/◌, ◌^◌, ◌≤◌, ◌<◌, one-mul, div-one, suc-add, zero-add, arith, length, get_or, take, drop, length-append, length-drop, drop-drop, leb, ltb, T, leb→le, ltb→lt, nltb→le}
+use Rattle.std.proofs.Math.Option.{Option, none, some}
+use Rattle.std.proofs.Math.Seq.{take-nil, slice}
+use mathlib.Core.List.{Memᴰ as Member}
 use mathlib.Core.Logic.Iff
-use mathlib.Core.Logic.{◌↔◌, inl, inr}
-use mathlib.Core.Bool.{Bool, true, false, not}
-use mathlib.Core.Option.{Option, none, some}
-use mathlib.Core.List.{List, [], ◌∷◌}
 use mathlib.Core.List.Memᴰ.{cases_cons}
 use mathlib.Core.List.Memᴰ.{head as first}
 use mathlib.Core.List.Memᴰ.{not-nil}
 use mathlib.Core.List.Memᴰ.{tail as later}
-use mathlib.Core.List.{Memᴰ as Member}
-use Prim.Native.Nat.{ℕ, zero, suc, ◌+◌, ◌-◌, ◌*◌, ◌/◌, ◌^◌, ◌≤◌, ◌<◌}
-use native.Mathlib.Nat.{one-mul, div-one, suc-add, zero-add}
-use native.Mathlib.Omega.{arith}
-use lib.ListN.{length, get_or, take, drop, length-append, length-drop}
-use lib.Seq.{drop-drop, take-nil, slice}
-use lib.Dec.{leb, ltb, T, leb→le, ltb→lt, nltb→le}
 use Rattle.refusal.specs.Outcome.{accepted, refused, bind, test}
 use Rattle.refusal.proofs.Outcome.{bind_assoc, holds, fails}
 use Rattle.packed.specs.Packed.{unpack_little_endian, unpack_little_endian_seq, Bytes, Below}

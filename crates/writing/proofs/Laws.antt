@@ -1,10 +1,6 @@
 -- GM's clauses of `MarshallVal` and `Marshall`, of a call that answers r and leaves the output `exit`.
-use mathlib.Core.Path.{◌≡◌, ap, sym, ◌∙◌}
-use mathlib.Core.Option.{some}
-use mathlib.Core.List.{List, [], append-nil}
-use Prim.Native.Nat.{ℕ, ◌+◌, ◌^◌, ◌≤◌, ◌<◌}
-use native.Mathlib.Omega.{arith}
-use lib.ListN.{length, get_or, take, drop}
+use Rattle.std.proofs.Common.{◌≡◌, ap, sym, ◌∙◌, List, [], append-nil, ℕ, ◌+◌, ◌^◌, ◌≤◌, ◌<◌, arith, length, get_or, take, drop, Result}
+use Rattle.std.proofs.Math.Option.{some}
 use Rattle.refusal.specs.Outcome.{Outcome, accepted, refused, map, contents, Reason}
 use Rattle.packed.specs.Packed.{Bytes, Below, put}
 use Rattle.packed.proofs.Put.{length-put}
@@ -15,7 +11,6 @@ use Rattle.value.specs.Parse.{parse_val, Demarshallable}
 use Rattle.value.proofs.Laws.{length_bytes_of, parse_val_bytes_of, demarshallable_bytes_of}
 use Rattle.grammar.specs.Tree.{tree_of}
 use Rattle.grammar.proofs.Tree.{tree_valid}
-use Rattle.std.specs.Prelude.{Result}
 use Rattle.refusal.specs.declared.Refusal.{Refusal}
 use Rattle.refusal.specs.Meaning.{outcome_of}
 use Rattle.rows.proofs.Rule.{accepted_exactly}

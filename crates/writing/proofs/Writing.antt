@@ -1,8 +1,5 @@
 -- Putting what was decided.
-use mathlib.Core.Path.{◌≡◌, ap, sym, ◌∙◌}
-use mathlib.Core.List.{List}
-use Prim.Native.Nat.{ℕ, ◌+◌, ◌^◌, ◌≤◌, ◌<◌}
-use native.Mathlib.Omega.{arith}
+use Rattle.std.proofs.Common.{◌≡◌, ap, sym, ◌∙◌, List, ℕ, ◌+◌, ◌^◌, ◌≤◌, ◌<◌, arith, Ok, Err}
 use Rattle.refusal.specs.Outcome.{Outcome, accepted, refused, map, contents, Reason}
 use Rattle.refusal.specs.Meaning.{reason_of}
 use Rattle.refusal.specs.declared.Refusal.{Refusal}
@@ -12,7 +9,6 @@ use Rattle.value.specs.Tree.{Val, SizeOfV}
 use Rattle.value.specs.Bytes.{bytes_of}
 use Rattle.rows.specs.Rule.{RowHolds, TableOf}
 use Rattle.rows.specs.Size.{size_from}
-use Rattle.std.specs.Prelude.{Ok, Err}
 use Rattle.rows.proofs.Rule.{accepted_exactly as rows_exactly}
 use Rattle.rows.proofs.Parts.{table-holds}
 use Rattle.rows.proofs.Size.{table-size}

@@ -1,6 +1,5 @@
 -- The array's part of the store is compared right behind its count.
-use Rattle.std.proofs.Common.{◌≡◌, ap, ◌+◌, ◌-◌, ◌*◌, ◌≤◌, length, take, drop, length-drop, arith}
-use Rattle.std.proofs.Math.Seq.{length-take-le}
+use Rattle.std.proofs.Common.{◌≡◌, ap, ◌+◌, ◌-◌, ◌*◌, ◌≤◌, length, take, drop, length-drop, arith, length-take-le}
 use Rattle.packed.specs.Packed.{pack_little_endian}
 use Rattle.packed.proofs.Laws.{length_pack}
 use Rattle.previewing.specs.declared.Compared.{Compared}

@@ -1,6 +1,5 @@
-use Rattle.std.proofs.Common.{◌≡◌, ◌^◌, ◌<◌, ap, sym, ◌∙◌, refl, w32, w64, arith, rules}
+use Rattle.std.proofs.Common.{◌≡◌, ◌^◌, ◌<◌, ap, sym, ◌∙◌, refl, w32, w64, arith, rules, SFits}
 use Rattle.std.proofs.lemmas.Int.{to_z-of_z}
-use mir.Val.{SFits}
 use Rattle.refusal.specs.Outcome.{accepted}
 use Rattle.value.specs.Kinds.{number, int32, int64, kind_of}
 use Rattle.tables.specs.Row.{row_at}

@@ -1,5 +1,4 @@
-use Rattle.std.proofs.Common.{◌≡◌, ◌+◌, ◌-◌, ◌*◌, ◌++◌, ap, ◌∙◌, ℕ, List, length, take, drop, length-drop, arith}
-use Rattle.std.proofs.Math.Seq.{length-take-le}
+use Rattle.std.proofs.Common.{◌≡◌, ◌+◌, ◌-◌, ◌*◌, ◌++◌, ap, ◌∙◌, ℕ, List, length, take, drop, length-drop, arith, length-take-le}
 use Rattle.packed.specs.Packed.{pack_little_endian, put}
 use Rattle.packed.proofs.Laws.{length_pack}
 use Rattle.packed.proofs.Put.{length-put}
