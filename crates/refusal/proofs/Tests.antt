@@ -1,5 +1,5 @@
 -- Laws of the tests that definitions are made of.
-use Rattle.std.proofs.Common.{◌≡◌, refl, sym, ◌↔◌, Bool, true, false, ◌&&◌, ℕ, ◌≤◌, ◌<◌, arith, leb, ltb, eqb, le-leb, leb-true, lt-ltb, ltb-true, eq-eqb, eqb-true}
+use Rattle.std.proofs.Common.{◌≡◌, refl, sym, ◌↔◌, Bool, true, false, ◌&&◌, ℕ, zero, suc, zero-le, ◌≤◌, ◌<◌, arith, leb, ltb, eqb, le-leb, leb-true, lt-ltb, ltb-true, eq-eqb, eqb-true}
 
 pub and-true : (a b : Bool) → (a && b) ≡ true → (a ≡ true) × (b ≡ true)
 and-true true b h = (refl, h)
@@ -38,3 +38,12 @@ bool_iff false false f g = refl
 -- two comparisons that say the same
 pub leb_iff : (a b c d : ℕ) → (a ≤ b → c ≤ d) → (c ≤ d → a ≤ b) → leb a b ≡ leb c d
 leb_iff a b c d f g = bool_iff (leb a b) (leb c d) (λ t. le-leb c d (f (leb-true a b t))) (λ t. le-leb a b (g (leb-true c d t)))
+
+-- the last arm of a match on numbers: none of those below, so that number or more
+abbrev pub NoneBelow : ℕ → ℕ → Type 0
+NoneBelow zero k = Unit {0}
+NoneBelow (suc b) k = NoneBelow b k × (k ≡ b → ⊥)
+
+pub none_below : (b k : ℕ) → NoneBelow b k → b ≤ k
+none_below zero k h = zero-le
+none_below (suc b) k h = let l = none_below b k h.0 in let n = h.1 in omega arith
