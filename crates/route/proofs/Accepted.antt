@@ -1,11 +1,5 @@
 -- Number 0 of a C answer says that the call is accepted (specs/Accepted.antt): no refusal of the tables has number 0.
-use mathlib.Core.Path.{◌≡◌, refl}
-use mathlib.Core.Logic.{◌↔◌}
-use mathlib.Core.Bool.{Bool, true, false}
-use Prim.Native.Nat.{ℕ, ◌<◌}
-use native.Mathlib.Omega.{arith}
-use lib.ListN.{length}
-use lib.IntN.{ℤ}
+use Rattle.std.proofs.Common.{◌≡◌, refl, ◌↔◌, Bool, true, false, ℕ, ◌<◌, arith, length, ℤ}
 use Rattle.refusal.specs.Outcome.{Outcome, accepted, refused, Location, Reason, reason}
 use Rattle.value.specs.Kinds.{Number, uint32, uint64, int32, int64, width}
 use Rattle.value.specs.Signed.{InRange}

@@ -1,5 +1,5 @@
 -- The bench examples, by computation.
-use mathlib.Core.Path.{refl}
+use Rattle.std.proofs.Common.{refl}
 use Rattle.packed.specs.Packed.{unpack_little_endian, unpack_little_endian_seq}
 use Rattle.value.specs.Kinds.{kinds, kind_of}
 use Rattle.value.specs.Tree.{SizeOfV, row_count}

@@ -1,10 +1,6 @@
 -- Request 04, proved: from the law of readings (`whole-cut`) to the calls.
-use mathlib.Core.Path.{◌≡◌, refl, sym, ap, ◌∙◌}
-use mathlib.Core.List.{List}
-use Prim.Native.Nat.{ℕ, ◌≤◌, ◌<◌}
-use native.Mathlib.Omega.{arith}
-use lib.ListN.{length, take}
-use lib.Seq.{length-take-le}
+use Rattle.std.proofs.Common.{◌≡◌, refl, sym, ap, ◌∙◌, List, ℕ, ◌≤◌, ◌<◌, arith, length, take, length-take-le, Result}
+use Rattle.refusal.specs.declared.Refusal.{Refusal}
 use Rattle.refusal.specs.Outcome.{Outcome, accepted, refused, map, Reason}
 use Rattle.refusal.proofs.Outcome.{bind_inverse, map-accepted}
 use Rattle.packed.specs.Packed.{unpack_little_endian, unpack_little_endian_seq}
@@ -43,7 +39,7 @@ reading g d part capacity t h p =
     (c.0.at, ap (λ (b : List ℕ). demarshall_of g b capacity) p.front.first ∙ checked g (take k d) capacity passes l ∙ ap without_state c.1)
 
 -- an answer that is the outcome's
-answered : {o : Outcome Reason (Step State Val)} (q : Parsed) → parsed_of q ≡ map counts_of o → RefusedWith9 o → RefusedWith9 (parsed_of q)
+answered : {o : Outcome Reason (Step State Val)} (q : Result Parsed Refusal) → parsed_of q ≡ map counts_of o → RefusedWith9 o → RefusedWith9 (parsed_of q)
 answered q h c = (c.0, h ∙ ap (map counts_of) c.1)
 
 is-accepted : {E A : Type 0} {o : Outcome E A} → IsAccepted o → (a : A) × (o ≡ accepted a)
@@ -71,7 +67,7 @@ pub proper_front : (d : List ℕ) (k : ℕ) → k < length d → ProperFrontPart
 proper_front d k l = record { front = record { count = k; most = omega arith; first = refl }; less = omega arith }
 
 -- case A: each of its proper front parts, with whatever rows, of the capacity that `reading-A` lends
-pub cut-A : (k : ℕ) → k < 14 → (rows exit : List ℕ) (q : Parsed) → capacity_of (length rows) ≡ 3 → Parses (demarshall_of grammar_a (take k record_a) (capacity_of (length rows))) 0 q rows exit → RefusedWith9 (parsed_of q) × (exit ≡ rows)
+pub cut-A : (k : ℕ) → k < 14 → (rows exit : List ℕ) (q : Result Parsed Refusal) → capacity_of (length rows) ≡ 3 → Parses (demarshall_of grammar_a (take k record_a) (capacity_of (length rows))) 0 q rows exit → RefusedWith9 (parsed_of q) × (exit ≡ rows)
 cut-A k l rows exit q n h = cut_records.whole grammar_a record_a (take k record_a) _ _ rows exit _ q reading-A.call _ refl (proper_front record_a k l) n h
 
 -- the empty union has no case, so no tag is accepted

@@ -1,21 +1,16 @@
 -- Demand 1, proved: an outcome has at most one answer, when each definition refuses, and that a refusal leaves every buffer as it was.
-use mathlib.Core.Path.{sym, ap, ◌∙◌}
-use mathlib.Core.List.{List}
-use Prim.Native.Nat.{ℕ, ◌*◌}
-use lib.ListN.{length}
+use Rattle.std.proofs.Common.{sym, ap, ◌∙◌, List, ℕ, ◌*◌, length}
 use Rattle.refusal.specs.Outcome.{Outcome, map, contents, Reason}
 use Rattle.refusal.proofs.Outcome.{map-refused}
 use Rattle.refusal.proofs.Meaning.{outcome_injective}
 use Rattle.packed.specs.Packed.{put}
-use Rattle.packed.proofs.Meaning.{unpacked_u32_injective, unpacked_u64_injective}
 use Rattle.value.specs.Tree.{Val, SizeOfV}
 use Rattle.value.specs.Bytes.{bytes_of}
 use Rattle.value.specs.Step.{Step}
 use Rattle.value.specs.Reading.{State}
 use Rattle.grammar.proofs.Rule.{refused_exactly}
 use Rattle.rows.specs.Layout.{rows_of}
-use Rattle.rows.proofs.Meaning.{size_of_injective, located_injective}
-use Rattle.signed.proofs.Meaning.{signed_number_injective}
+use Rattle.rows.proofs.Meaning.{located_injective}
 use Rattle.admission.specs.Admission.{capacity_of}
 use Rattle.reading.specs.Calls.{counts_of}
 use Rattle.reading.proofs.Meaning.{parsed_of_injective}
@@ -32,7 +27,6 @@ use Rattle.comparing.specs.SameRoute.{same_route_of}
 use Rattle.comparing.proofs.Meaning.{same_route_injective}
 use Rattle.comparing.proofs.Comparing.{compares-one}
 use Rattle.choosing.proofs.Meaning.{chosen_of_injective}
-use Rattle.least.proofs.Meaning.{least_length_of_injective}
 use Rattle.accepting.specs.Accepts.{accepts_of}
 use Rattle.accepting.proofs.Meaning.{verdict_of_injective}
 use Rattle.route.proofs.Listed.{grammar_listed, room_listed, unpackers_listed, rows_listed, locator_listed, signed_listed, reading_listed, whole_listed, writing_listed, importing_listed, rewriting_listed, routes_listed, choosing_listed}
@@ -43,17 +37,15 @@ pub demand1 : Demand1
 unfolding preview_of accepts_of
 demand1 = record {
   answer = outcome_injective;
-  unpacked_uint32 = unpacked_u32_injective;
-  unpacked_uint64 = unpacked_u64_injective;
-  size = size_of_injective;
+  number = outcome_injective;
+  signed_numbers = outcome_injective;
+  least_found = outcome_injective;
   array = located_injective;
-  signed_numbers = signed_number_injective;
   counts = parsed_of_injective;
   previewed = previewed_of_injective;
   route = same_route_injective;
   chosen = chosen_of_injective;
   imported = imported_of_injective;
-  least_found = least_length_of_injective;
   verdicts = verdict_of_injective;
   grammar = refused_exactly;
   room = room-refuses;

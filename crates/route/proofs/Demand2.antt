@@ -1,14 +1,7 @@
 -- Demand 2, proved.
-use mathlib.Core.Logic.{◌↔◌}
-use mathlib.Core.Path.{◌≡◌, refl, sym, ap, subst, ◌∙◌}
-use mathlib.Core.Option.{some}
-use mathlib.Core.List.{List, [], append-nil}
-use Prim.Native.Nat.{ℕ, ◌+◌, ◌*◌, ◌≤◌}
-use native.Mathlib.Nat.{zero-add, le_refl}
-use native.Mathlib.Omega.{arith}
-use lib.ListN.{length, take, drop}
-use lib.Seq.{take_at, take_all, drop-drop}
-use borrow.Author.Tests.{le-leb}
+use Rattle.std.proofs.Common.{◌↔◌, ◌≡◌, refl, sym, ap, subst, ◌∙◌, List, [], append-nil, ℕ, ◌+◌, ◌*◌, ◌≤◌, zero-add, le_refl, arith, length, take, drop, take_at, take_all, drop-drop, le-leb, Result}
+use Rattle.refusal.specs.declared.Refusal.{Refusal}
+use Rattle.std.proofs.Math.Option.{some}
 use Rattle.refusal.specs.Outcome.{Outcome, accepted, map, contents, Fills, Reason}
 use Rattle.refusal.proofs.Outcome.{test-true, map-accepted, map-refused}
 use Rattle.packed.specs.Packed.{unpack_little_endian, unpack_little_endian_seq, pack_little_endian, pack_little_endian_seq, present, bytes_at, unpack_seq_at, room, put, put_at}
@@ -98,7 +91,7 @@ demarshall_agrees_lem g d rows exit r w b h = record {
     capacity = capacity_of (length rows)
 
 -- at one capacity a check and a reading with rows lent answer the same
-same_answer : (o : ℕ → Outcome Reason (Step State Val)) {index capacity : ℕ} {rows exit : List ℕ} (r q : Parsed) → capacity_of (length rows) ≡ capacity → parsed_of r ≡ map counts_of (o capacity) → Parses (o (capacity_of (length rows))) index q rows exit → r ≡ q
+same_answer : (o : ℕ → Outcome Reason (Step State Val)) {index capacity : ℕ} {rows exit : List ℕ} (r q : Result Parsed Refusal) → capacity_of (length rows) ≡ capacity → parsed_of r ≡ map counts_of (o capacity) → Parses (o (capacity_of (length rows))) index q rows exit → r ≡ q
 same_answer o r q e h p = parsed_of_injective r q (h ∙ sym (p.answers ∙ ap (λ (n : ℕ). map counts_of (o n)) e))
 
 checks_agree_lem : ChecksAgree

@@ -1,10 +1,6 @@
 -- Demand 3, proved.
-use mathlib.Core.Path.{◌≡◌, sym, ap, subst, ◌∙◌}
-use mathlib.Core.List.{List}
-use Prim.Native.Nat.{ℕ, ◌≤◌, ◌<◌}
-use native.Mathlib.Decide.{dec_le}
-use native.Mathlib.Omega.{arith}
-use lib.ListN.{length}
+use Rattle.std.proofs.Common.{◌≡◌, sym, ap, subst, ◌∙◌, List, ℕ, ◌≤◌, ◌<◌, arith, length}
+use Rattle.std.proofs.Math.Decide.{dec_le}
 use Rattle.refusal.specs.Outcome.{accepted}
 use Rattle.value.specs.Tree.{SizeOfV, row_count}
 use Rattle.value.proofs.Laws.{length_bytes_of, front-part, one_value_lem}

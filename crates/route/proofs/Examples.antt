@@ -1,12 +1,5 @@
 -- That the demands are not empty: a record that is read, one that is refused by 8 whatever rows are lent, and a grammar with two different values.
-use mathlib.Core.Path.{◌≡◌, refl, sym, ap, subst, ◌∙◌}
-use mathlib.Core.Bool.{Bool, true, ◌&&◌}
-use mathlib.Core.List.{List, [], ◌∷◌, ◌++◌}
-use Prim.Native.Nat.{ℕ, zero, suc, ◌^◌, ◌≤◌, ◌<◌}
-use native.Mathlib.Omega.{arith}
-use lib.ListN.{length}
-use lib.Dec.{ltb, lit<}
-use borrow.Author.Tests.{ltb-true}
+use Rattle.std.proofs.Common.{◌≡◌, refl, sym, ap, subst, ◌∙◌, Bool, true, ◌&&◌, List, [], ◌∷◌, ◌++◌, ℕ, zero, suc, ◌^◌, ◌≤◌, ◌<◌, arith, length, ltb, lit<, ltb-true, Ok, Err}
 use Rattle.refusal.specs.Outcome.{Outcome, refused, map, contents, Reason, reason, byte}
 use Rattle.refusal.specs.declared.Place.TheVariants.{Byte}
 use Rattle.refusal.proofs.Tests.{and-true}
@@ -27,7 +20,6 @@ use Rattle.sizing.specs.Writes.{Writes}
 use Rattle.admission.specs.Admission.{capacity_of}
 use Rattle.reading.specs.Calls.{without_state, demarshall_of, counts_of}
 use Rattle.reading.proofs.Calls.{checked}
-use Rattle.reading.specs.declared.Parsed.TheVariants as P
 use Rattle.route.specs.Demands.{Grammar, ValueOfGrammar, RecordOf, WholeReading}
 use Rattle.route.specs.Bench.{grammar_a, record_a, value_a, rows_a, grammar_c}
 use Rattle.route.proofs.Reading.{value_of}
@@ -66,7 +58,7 @@ record_A = record {
   bytes = bytes-A;
 }
 
-pub reading-A : WholeReading grammar_a record_a lent_a (P.Value 3 14) exit_a
+pub reading-A : WholeReading grammar_a record_a lent_a (Ok (record { rows = 3; rest_index = 14 })) exit_a
 unfolding demarshall_of check_grammar check_layout check_nodes check_node check_children tree_of tree_to node_tree child_trees kind_of kinds read_whole claim take_number take_numbers read_body unpack_little_endian unpack_little_endian_seq rows_of own_row row_count SizeOfV put
 reading-A = record {
   grammar = grammar-A;
@@ -137,7 +129,7 @@ unfolding row_count
 rows-C words = omega (arith, constants-rows 4096)
 
 -- there is a reading of it, whatever rows are lent: it is refused by 8
-pub reading-C : (rows : List ℕ) → (place : ℕ) × WholeReading grammar_c (bytes_of (VArray (constants 4096))) rows (P.Refused (record { number = 8; place = Byte place })) rows
+pub reading-C : (rows : List ℕ) → (place : ℕ) × WholeReading grammar_c (bytes_of (VArray (constants 4096))) rows (Err (record { number = 8; place = Byte place })) rows
 reading-C rows =
     let v = VArray (constants 4096) in
     let d = bytes_of v in

@@ -1,7 +1,5 @@
 -- Every refusal of a call is one of the papers' tables (specs/Refusals.antt).
-use mathlib.Core.List.{List}
-use Prim.Native.Nat.{ℕ}
-use native.Mathlib.Omega.{arith}
+use Rattle.std.proofs.Common.{List, ℕ, arith}
 use Rattle.refusal.specs.Outcome.{word, Reason, reason}
 use Rattle.grammar.specs.Rule.{FirstRefusal, first1, first2, first3, first4, first5}
 use Rattle.value.specs.Tree.{Val}

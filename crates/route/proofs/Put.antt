@@ -1,10 +1,5 @@
 -- What was put at an index of an output long enough.
-use mathlib.Core.Path.{◌≡◌, sym, ap, ◌∙◌}
-use mathlib.Core.List.{List, ◌++◌, append_assoc}
-use Prim.Native.Nat.{ℕ, ◌+◌, ◌≤◌}
-use native.Mathlib.Omega.{arith}
-use lib.ListN.{length, take, drop, length-append}
-use lib.Seq.{take_at, drop_at, length-take-le}
+use Rattle.std.proofs.Common.{◌≡◌, sym, ap, ◌∙◌, List, ◌++◌, append_assoc, ℕ, ◌+◌, ◌≤◌, arith, length, take, drop, length-append, take_at, drop_at, length-take-le}
 use Rattle.packed.specs.Packed.{put}
 use Rattle.packed.proofs.Put.{length-put}
 use Rattle.packed.proofs.Source.{put-there}

@@ -1,11 +1,6 @@
 -- What a whole reading comes to: the value that it hands out, and that the rows walk back to it.
-use mathlib.Core.Path.{◌≡◌, sym, ap, ◌∙◌}
-use mathlib.Core.List.{List, ◌++◌}
-use Prim.Native.Nat.{ℕ, ◌*◌, ◌≤◌, ◌<◌}
-use native.Mathlib.Nat.{zero-add}
-use native.Mathlib.Omega.{arith}
-use lib.ListN.{length, take, drop}
-use lib.Seq.{take_all, take_at, drop_at}
+use Rattle.std.proofs.Common.{◌≡◌, sym, ap, ◌∙◌, List, ◌++◌, ℕ, ◌*◌, ◌≤◌, ◌<◌, zero-add, arith, length, take, drop, take_all, take_at, drop_at, Result}
+use Rattle.refusal.specs.declared.Refusal.{Refusal}
 use Rattle.refusal.specs.Outcome.{Outcome, accepted, refused, map, contents, Reason, reason, byte}
 use Rattle.refusal.proofs.Outcome.{map-accepted}
 use Rattle.packed.specs.Packed.{put}
@@ -55,7 +50,7 @@ of-value {g} {v} o = record { in_grammar = o.in_grammar; counts = counts-valid v
 
 -- ---- the rows of a call
 
-module _ {o : Outcome Reason (Step State Val)} {index : ℕ} {r : Parsed} {rows exit : List ℕ} (h : Parses o index r rows exit) where
+module _ {o : Outcome Reason (Step State Val)} {index : ℕ} {r : Result Parsed Refusal} {rows exit : List ℕ} (h : Parses o index r rows exit) where
   pub rows-laid : (t : Step State Val) → o ≡ accepted t → exit ≡ put rows 0 (rows_of t.value index)
   rows-laid t q = h.rows ∙ ap (λ (o : Outcome Reason (Step State Val)). contents (map (λ t. put rows 0 (rows_of t.value index)) o) rows) q
 
@@ -73,7 +68,7 @@ pub record ReadOut (g d rows : List ℕ) (k : Counts) (exit : List ℕ) (v : Val
   pub end : k.rest_index ≡ length d
   pub rows_laid : exit ≡ put rows 0 (rows_of v 0)
 
-module _ {g d rows exit : List ℕ} {r : Parsed} (h : WholeReading g d rows r exit) where
+module _ {g d rows exit : List ℕ} {r : Result Parsed Refusal} (h : WholeReading g d rows r exit) where
   capacity : ℕ
   capacity = capacity_of (length rows)
 

@@ -1,15 +1,7 @@
 -- When each definition refuses (specs/Refusals.antt), proved in both directions.
-use mathlib.Core.Path.{◌≡◌, refl, sym, ap, subst, ◌∙◌}
-use mathlib.Core.Logic.{◌↔◌, ◌⊎◌, inl, inr, ⊎_elim}
-use mathlib.Core.Bool.{Bool, true, false}
-use mathlib.Core.Option.{none, some}
-use mathlib.Core.List.{List}
-use Prim.Native.Nat.{ℕ, zero, suc, ◌+◌, ◌-◌, ◌*◌, ◌/◌, ◌≤◌, ◌<◌}
-use native.Mathlib.Nat.{le_refl}
-use native.Mathlib.Omega.{arith}
-use lib.ListN.{length}
-use lib.Dec.{leb, ltb, eqb}
-use borrow.Author.Tests.{le-leb, lt-leb, ltb-true}
+use Rattle.std.proofs.Common.{◌≡◌, refl, sym, ap, subst, ◌∙◌, ◌↔◌, ◌⊎◌, inl, inr, ⊎_elim, Bool, true, false, List, ℕ, zero, suc, ◌+◌, ◌-◌, ◌*◌, ◌/◌, ◌≤◌, ◌<◌, le_refl, arith, length, leb, ltb, eqb, le-leb, ltb-true}
+use Rattle.std.proofs.Math.Option.{none, some}
+use borrow.Author.Tests.{lt-leb}
 use Rattle.refusal.specs.Outcome.{Outcome, accepted, refused, bind, test, map, word, byte, row, Reason, reason}
 use Rattle.refusal.proofs.Outcome.{Post, holds, fails, post_bind, post_test, post_reflects, post_weaken, post_accepted, post_refused, clash, bind-accepted, bind_assoc, bind-test, test-true, test-false, map-refused}
 use Rattle.refusal.proofs.Tests.{refuted, reflects_leb, reflects_ltb, reflects_eqb, reflects_and}

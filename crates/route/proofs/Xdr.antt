@@ -1,12 +1,6 @@
 -- Request 08, proved.
-use mathlib.Core.Path.{◌≡◌, refl, sym, ap, subst, ◌∙◌}
-use mathlib.Core.Logic.{◌⊎◌, inl, inr}
-use mathlib.Core.List.{List, [], ◌++◌, append-nil}
-use Prim.Native.Nat.{ℕ, ◌+◌, ◌*◌, ◌≤◌}
-use native.Mathlib.Nat.{zero-add}
-use native.Mathlib.Omega.{arith}
-use lib.ListN.{length, take, drop, length-append, length-drop}
-use lib.Seq.{take_at, drop_at, take_all}
+use Rattle.std.proofs.Common.{◌≡◌, refl, sym, ap, subst, ◌∙◌, ◌⊎◌, inl, inr, List, [], ◌++◌, append-nil, ℕ, ◌+◌, ◌*◌, ◌≤◌, zero-add, arith, length, take, drop, length-append, length-drop, take_at, drop_at, take_all, Result}
+use Rattle.refusal.specs.declared.Refusal.{Refusal}
 use Rattle.refusal.specs.Outcome.{Outcome, accepted, refused, map, contents, Reason, reason, byte}
 use Rattle.refusal.proofs.Outcome.{map-accepted}
 use Rattle.packed.specs.Packed.{put}
@@ -86,7 +80,7 @@ module _ {g d : List ℕ} {v : Val} (w : Grammar g) (short : length d ≤ 104857
 
 -- ---- the whole import
 
-module _ {g d rows store rows₁ store₁ : List ℕ} {r : Imported} (h : Import g d rows store r rows₁ store₁) where
+module _ {g d rows store rows₁ store₁ : List ℕ} {r : Result Imported Refusal} (h : Import g d rows store r rows₁ store₁) where
   whole : import_of g d (capacity_of (length rows)) (length store) ≡ import_whole (capacity_of (length rows)) (length store) d (tree_of g 0)
   whole = import_whole_lem g d (capacity_of (length rows)) (length store) h.grammar.passes h.short h.lent
 
@@ -136,7 +130,7 @@ capacity_lent words n h = (omega arith, omega arith)
 
 -- ---- import
 
-brought : {g d rows store rows₁ store₁ : List ℕ} {r : Imported} → Import g d rows store r rows₁ store₁ → (k : Counts) → imported_of r ≡ accepted k → (v : Val) × Brought g d rows store k rows₁ store₁ v × (row_count v ≤ capacity_of (length rows)) × (length (store_of v) ≤ length store)
+brought : {g d rows store rows₁ store₁ : List ℕ} {r : Result Imported Refusal} → Import g d rows store r rows₁ store₁ → (k : Counts) → imported_of r ≡ accepted k → (v : Val) × Brought g d rows store k rows₁ store₁ v × (row_count v ≤ capacity_of (length rows)) × (length (store_of v) ≤ length store)
 brought {g} {d} {rows} {store} {rows₁} {store₁} h k e =
     let y = taken h k e in
     let v = y.0 in

@@ -1,10 +1,5 @@
 -- Which records are answered yes (specs/YesOrNo.antt).
-use mathlib.Core.Path.{◌≡◌, ap, sym, ◌∙◌}
-use mathlib.Core.Bool.{true}
-use mathlib.Core.List.{List}
-use Prim.Native.Nat.{ℕ, ◌≤◌}
-use native.Mathlib.Omega.{arith}
-use lib.ListN.{length}
+use Rattle.std.proofs.Common.{◌≡◌, ap, sym, ◌∙◌, true, List, ℕ, ◌≤◌, arith, length}
 use Rattle.refusal.specs.Outcome.{accepted}
 use Rattle.packed.specs.Packed.{Bytes}
 use Rattle.value.specs.Tree.{Val, row_count}

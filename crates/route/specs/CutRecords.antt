@@ -1,6 +1,7 @@
 -- Document 02's request 04: "Show that every proper front part of a record accepted whole, under the same grammar and capacity, is refused with
 -- 9 and with nothing else." It is a statement on the reading as it is, and no contract cites it. proofs/CutRecords.antt proves it.
-use Rattle.std.specs.Prelude.{◌≡◌, List, [], ◌∷◌, ℕ, ◌<◌, length, take}
+use Rattle.std.specs.Prelude.{◌≡◌, List, [], ◌∷◌, ℕ, ◌<◌, length, take, Result}
+use Rattle.refusal.specs.declared.Refusal.{Refusal}
 use Rattle.refusal.specs.Outcome.{Outcome, accepted, refused, map, byte, Reason, reason}
 use Rattle.value.specs.Tree.{Val}
 use Rattle.value.specs.Step.{Step}
@@ -37,12 +38,12 @@ pub record CutRecords : Type 0 where
   -- of `check_whole` and `check_whole_with`, at the capacity of their contracts. The answers of `demarshall` are such answers, too (`answers` of
   -- `Parses`), so at one capacity one call may accept the record and the other be given the part
   pub check :
-      (g d part : List ℕ) (capacity : ℕ) (r q : Parsed) → parsed_of r ≡ map counts_of (demarshall_of g d capacity) → (k : Counts) → parsed_of r ≡ accepted k
+      (g d part : List ℕ) (capacity : ℕ) (r q : Result Parsed Refusal) → parsed_of r ≡ map counts_of (demarshall_of g d capacity) → (k : Counts) → parsed_of r ≡ accepted k
       → ProperFrontPart part d → parsed_of q ≡ map counts_of (demarshall_of g part capacity) → RefusedWith9 (parsed_of q)
   -- of `demarshall`: the same capacity is that of the rows lent, whatever they hold and however many words are left over. Those lent for the
   -- part stay as they are
   pub whole :
-      (g d part rows exit rows' exit' : List ℕ) (r q : Parsed) → Parses (demarshall_of g d (capacity_of (length rows))) 0 r rows exit → (k : Counts) → parsed_of r ≡ accepted k
+      (g d part rows exit rows' exit' : List ℕ) (r q : Result Parsed Refusal) → Parses (demarshall_of g d (capacity_of (length rows))) 0 r rows exit → (k : Counts) → parsed_of r ≡ accepted k
       → ProperFrontPart part d → capacity_of (length rows') ≡ capacity_of (length rows)
       → Parses (demarshall_of g part (capacity_of (length rows'))) 0 q rows' exit' → RefusedWith9 (parsed_of q) × (exit' ≡ rows')
   -- of `route_check_whole`, `route_check_whole_with` and `route_demarshall`, the C calls, where number 0 says accepted (specs/Accepted.antt)

@@ -1,12 +1,12 @@
 -- The three demands of 00-demands.md, with document 02's signed numbers, preview, chooser, named capacities, XDR and yes or no, as statements
 -- over the definitions that the contracts of the public calls cite. Above each part stand the words that it says, and what would leave it
 -- empty; proofs/Demand1.antt to Demand3.antt prove them.
-use Rattle.std.specs.Prelude.{◌≡◌, ◌↔◌, List, [], ◌++◌, ℕ, ◌+◌, ◌*◌, ◌^◌, ◌≤◌, ◌<◌, length, get_or, take, drop, ℤ}
+use Rattle.std.specs.Prelude.{◌≡◌, ◌↔◌, List, [], ◌++◌, ℕ, ◌+◌, ◌*◌, ◌^◌, ◌≤◌, ◌<◌, length, get_or, take, drop, ℤ, Bool, Option, Result}
+use Rattle.refusal.specs.declared.Refusal.{Refusal}
 use Rattle.std.proofs.Math.Option.{none, some}
 use Rattle.refusal.specs.Outcome.{Outcome, accepted, refused, map, Fills, Location, byte, Reason, reason}
 use Rattle.refusal.specs.Meaning.{outcome_of}
 use Rattle.packed.specs.Packed.{Bytes, Below, unpack_little_endian, unpack_little_endian_seq, pack_little_endian, pack_little_endian_seq, unpack_at, unpack_seq_at, room, put, put_at}
-use Rattle.packed.specs.Meaning.{unpacked_u32, unpacked_u64}
 use Rattle.value.specs.Tree.{G, Val, Vals, VConstant, VArray, VTuple, VCase, vnil, vcons, VUint32, VUint64, VByteArray, VUint32Array, VUint64Array, seq_v, ValInGrammar, ValidGrammar, CountsBelow, TypedVal, ValueOf, SizeOfV, row_count}
 use Rattle.value.specs.Signed.{signed_of, pattern_of, InRange, TwosComplement, GInt32, GInt64, VInt32, VInt64}
 use Rattle.value.specs.Bytes.{bytes_of, bytes_of_all}
@@ -22,12 +22,9 @@ use Rattle.rows.specs.Walk.{walk}
 use Rattle.rows.specs.Rule.{StandFor, ValueIn, TableOf}
 use Rattle.rows.specs.Size.{compute_size_of}
 use Rattle.rows.specs.Locate.{look_up, locate_array}
-use Rattle.rows.specs.Meaning.{size_of, located}
-use Rattle.rows.specs.declared.SizeOf.{SizeOf}
+use Rattle.rows.specs.Meaning.{located}
 use Rattle.signed.specs.Signed.{signed_number_of}
 use Rattle.signed.specs.Rule.{NumberOf}
-use Rattle.signed.specs.Meaning.{signed_number}
-use Rattle.signed.specs.declared.SignedNumber.{SignedNumber}
 use Rattle.reading.specs.Meaning.{Counts, parsed_of}
 use Rattle.admission.specs.Admission.{in_force, check_rows, capacity_of}
 use Rattle.reading.specs.Calls.{parse_val_of, demarshall_of, counts_of, Parses, SameOr8}
@@ -44,10 +41,10 @@ use Rattle.previewing.specs.Preview.{preview_of, previewed_of}
 use Rattle.route.specs.Rewriting.{rewrite_of, Rewrites}
 use Rattle.comparing.specs.SameRoute.{NamedReason, same_route_of, read_both, Compares}
 use Rattle.choosing.specs.Choose.{chosen_of, choose_of}
-use Rattle.least.specs.Least.{least_length_of, least_of}
+use Rattle.least.specs.Least.{least_of}
 use Rattle.accepting.specs.Accepts.{verdict_of, accepts_of}
 use Rattle.route.specs.Refusals.{Refuses, NoRoom, NotThere, RowsRefused, LookUpRefused, LocatorRefused, SignedRefused, ReadingRefused, WholeRefused, WritingRefused, ImportRefused, RewritingRefused, RouteRefused, ChoosingRefused, Listed, Lists, unnamed}
-use Rattle.comparing.specs.declared.SameRoute.{SameRoute}
+use Rattle.comparing.specs.declared.Unread.{Unread}
 
 -- ==== Demand 1. "Every call is defined on every input: no grammar, record, row table or index is assumed sound, each call comes to an end"
 
@@ -62,19 +59,17 @@ AtMostOneAnswer {R} meaning = (q r : R) → meaning q ≡ meaning r → q ≡ r
 -- Nothing is asked of the inputs, but that the words of a grammar in `importing` are u32s. The answer of a call is a function of the outcome
 -- that is named here, so its refusals are these
 pub record Demand1 : Type 0 where
-  -- of each answer enum
-  pub answer : AtMostOneAnswer outcome_of
-  pub unpacked_uint32 : AtMostOneAnswer unpacked_u32
-  pub unpacked_uint64 : AtMostOneAnswer unpacked_u64
-  pub size : AtMostOneAnswer size_of
+  -- of each answer: nothing, a number (u32, u64), a signed number, a least length or none; and where a definition answers with a record of its own
+  pub answer : AtMostOneAnswer (outcome_of {A = Unit {0}})
+  pub number : AtMostOneAnswer (outcome_of {A = ℕ})
+  pub signed_numbers : AtMostOneAnswer (outcome_of {A = ℤ})
+  pub least_found : AtMostOneAnswer (outcome_of {A = Option ℕ})
   pub array : AtMostOneAnswer located
-  pub signed_numbers : AtMostOneAnswer signed_number
   pub counts : AtMostOneAnswer parsed_of
   pub previewed : AtMostOneAnswer previewed_of
   pub route : AtMostOneAnswer same_route_of
   pub chosen : AtMostOneAnswer chosen_of
   pub imported : AtMostOneAnswer imported_of
-  pub least_found : AtMostOneAnswer least_length_of
   pub verdicts : AtMostOneAnswer verdict_of
   -- `check_grammar`
   pub grammar : (g : List ℕ) → Refuses (FirstRefusal g) (check_grammar g)
@@ -111,7 +106,7 @@ pub record Demand1 : Type 0 where
   pub rewriting : (g d : List ℕ) (capacity len index : ℕ) → Refuses (RewritingRefused g d capacity len index) (rewrite_of g d capacity len index)
   -- `same_route`, whose contract allows one answer
   pub routes : (g first second : List ℕ) → Refuses (RouteRefused g first second) (read_both g first second)
-  pub one_route : (g first second : List ℕ) (r q : SameRoute) → Compares g first second (same_route_of r) → Compares g first second (same_route_of q) → r ≡ q
+  pub one_route : (g first second : List ℕ) (r q : Result Bool Unread) → Compares g first second (same_route_of r) → Compares g first second (same_route_of q) → r ≡ q
   -- `choose_grammar`
   pub choosing : (l d : List ℕ) → Refuses (ChoosingRefused l d) (choose_of l d)
   -- `least_length` and `accepts`: the grammar's, whatever the record
@@ -135,11 +130,11 @@ pub record Demand1 : Type 0 where
   -- "and a refusal alters no buffer lent to the call": a slice of numbers or bytes, rows, the output, the store of an import. They would be
   -- empty if no call were refused: `reading-C` of proofs/Examples.antt is
   pub fills_nothing : (o : Outcome Reason (List ℕ)) (a : Outcome Reason (Unit {0})) (entry exit : List ℕ) → Fills o a entry exit → (e : Reason) → a ≡ refused e → exit ≡ entry
-  pub parses_nothing : (o : Outcome Reason (Step State Val)) (index : ℕ) (r : Parsed) (entry exit : List ℕ) → Parses o index r entry exit → (e : Reason) → parsed_of r ≡ refused e → exit ≡ entry
-  pub marshalls_nothing : (o : Outcome Reason Val) (index : ℕ) (w : SizeOf) (entry exit : List ℕ) → Marshalls o index w entry exit → (e : Reason) → size_of w ≡ refused e → exit ≡ entry
-  pub exports_nothing : (o : Outcome Reason Val) (index : ℕ) (w : SizeOf) (entry exit : List ℕ) → Exports o index w entry exit → (e : Reason) → size_of w ≡ refused e → exit ≡ entry
-  pub imports_nothing : (o : Outcome Reason (Step Filling Val)) (r : Imported) (rows store rows₁ store₁ : List ℕ) → Imports o r rows store rows₁ store₁ → (e : Reason) → imported_of r ≡ refused e → (rows₁ ≡ rows) × (store₁ ≡ store)
-  pub rewrites_nothing : (g d rows out : List ℕ) (index : ℕ) (w : SizeOf) (filled exit : List ℕ) → Rewrites g d rows out index w filled exit → (e : Reason) → size_of w ≡ refused e → (filled ≡ rows) × (exit ≡ out)
+  pub parses_nothing : (o : Outcome Reason (Step State Val)) (index : ℕ) (r : Result Parsed Refusal) (entry exit : List ℕ) → Parses o index r entry exit → (e : Reason) → parsed_of r ≡ refused e → exit ≡ entry
+  pub marshalls_nothing : (o : Outcome Reason Val) (index : ℕ) (w : Result ℕ Refusal) (entry exit : List ℕ) → Marshalls o index w entry exit → (e : Reason) → outcome_of w ≡ refused e → exit ≡ entry
+  pub exports_nothing : (o : Outcome Reason Val) (index : ℕ) (w : Result ℕ Refusal) (entry exit : List ℕ) → Exports o index w entry exit → (e : Reason) → outcome_of w ≡ refused e → exit ≡ entry
+  pub imports_nothing : (o : Outcome Reason (Step Filling Val)) (r : Result Imported Refusal) (rows store rows₁ store₁ : List ℕ) → Imports o r rows store rows₁ store₁ → (e : Reason) → imported_of r ≡ refused e → (rows₁ ≡ rows) × (store₁ ≡ store)
+  pub rewrites_nothing : (g d rows out : List ℕ) (index : ℕ) (w : Result ℕ Refusal) (filled exit : List ℕ) → Rewrites g d rows out index w filled exit → (e : Reason) → outcome_of w ≡ refused e → (filled ≡ rows) × (exit ≡ out)
 
 -- ==== Demands 2 and 3 share this
 
@@ -166,7 +161,7 @@ pub record ParsedAs (g d : List ℕ) (index : ℕ) (rows : List ℕ) (k : Counts
 
 -- "Reading": `parse_val` beside GM's `parse_Val` of the bytes from the index on. The limits are 1 to 8. One that refuses all fails
 -- `within`; a made-up value or rest, or a value beyond the limits, fails `value`
-pub record ParsesAs (g d : List ℕ) (index : ℕ) (rows : List ℕ) (r : Parsed) (exit : List ℕ) : Type 0 where
+pub record ParsesAs (g d : List ℕ) (index : ℕ) (rows : List ℕ) (r : Result Parsed Refusal) (exit : List ℕ) : Type 0 where
   pub value : (k : Counts) → parsed_of r ≡ accepted k → (v : Val) × ParsedAs g d index rows k exit v
   -- refused, and none of 1 to 8: GM parses nothing
   pub nothing : (n : ℕ) (place : Location) → parsed_of r ≡ refused (reason n place) → 8 < n → parse_val (drop index d) (tree_of g 0) ≡ (none, [])
@@ -175,28 +170,28 @@ pub record ParsesAs (g d : List ℕ) (index : ℕ) (rows : List ℕ) (r : Parsed
 
 abbrev pub ParseValAgrees : Type 0
 ParseValAgrees =
-    (g d rows exit : List ℕ) (index : ℕ) (r : Parsed) → Below (2 ^ 32) g → Bytes d
+    (g d rows exit : List ℕ) (index : ℕ) (r : Result Parsed Refusal) → Below (2 ^ 32) g → Bytes d
     → Parses (parse_val_of g d index (capacity_of (length rows))) index r rows exit → ParsesAs g d index rows r exit
 
 -- "Reading": `demarshall` beside GM's `Demarshallable`, which is its success where none of 1 to 8 is given. One that refuses all fails (a)
 -- of demand 3
-pub record DemarshallsAs (g d rows : List ℕ) (r : Parsed) (exit : List ℕ) : Type 0 where
+pub record DemarshallsAs (g d rows : List ℕ) (r : Result Parsed Refusal) (exit : List ℕ) : Type 0 where
   pub value : (k : Counts) → parsed_of r ≡ accepted k → (m : Demarshallable d (tree_of g 0)) × (exit ≡ put rows 0 (rows_of (DemarshallFunc d (tree_of g 0) m) 0))
   pub nothing : (n : ℕ) (place : Location) → parsed_of r ≡ refused (reason n place) → 8 < n → ¬ (Demarshallable d (tree_of g 0))
 
 abbrev pub DemarshallAgrees : Type 0
 DemarshallAgrees =
-    (g d rows exit : List ℕ) (r : Parsed) → Below (2 ^ 32) g → Bytes d
+    (g d rows exit : List ℕ) (r : Result Parsed Refusal) → Below (2 ^ 32) g → Bytes d
     → Parses (demarshall_of g d (capacity_of (length rows))) 0 r rows exit → DemarshallsAs g d rows r exit
 
 -- "Reading": the checks, to which no rows are lent, answer as `parse_val` and `demarshall` do where the rows lent have the check's capacity
 pub record ChecksAgree : Type 0 where
   -- `check_val` and `check_whole`: "The check with no rows lent takes capacity 1,024 unless the caller names one", as 4,096 words have
-  pub val : (g d rows exit : List ℕ) (index : ℕ) (r q : Parsed) → capacity_of (length rows) ≡ 1024 → parsed_of r ≡ map counts_of (parse_val_of g d index check_rows) → Parses (parse_val_of g d index (capacity_of (length rows))) index q rows exit → r ≡ q
-  pub whole : (g d rows exit : List ℕ) (r q : Parsed) → capacity_of (length rows) ≡ 1024 → parsed_of r ≡ map counts_of (demarshall_of g d check_rows) → Parses (demarshall_of g d (capacity_of (length rows))) 0 q rows exit → r ≡ q
+  pub val : (g d rows exit : List ℕ) (index : ℕ) (r q : Result Parsed Refusal) → capacity_of (length rows) ≡ 1024 → parsed_of r ≡ map counts_of (parse_val_of g d index check_rows) → Parses (parse_val_of g d index (capacity_of (length rows))) index q rows exit → r ≡ q
+  pub whole : (g d rows exit : List ℕ) (r q : Result Parsed Refusal) → capacity_of (length rows) ≡ 1024 → parsed_of r ≡ map counts_of (demarshall_of g d check_rows) → Parses (demarshall_of g d (capacity_of (length rows))) 0 q rows exit → r ≡ q
   -- `check_val_with` and `check_whole_with`, to which the caller names c
-  pub val_with : (g d rows exit : List ℕ) (index c : ℕ) (r q : Parsed) → capacity_of (length rows) ≡ in_force c → parsed_of r ≡ map counts_of (parse_val_of g d index (in_force c)) → Parses (parse_val_of g d index (capacity_of (length rows))) index q rows exit → r ≡ q
-  pub whole_with : (g d rows exit : List ℕ) (c : ℕ) (r q : Parsed) → capacity_of (length rows) ≡ in_force c → parsed_of r ≡ map counts_of (demarshall_of g d (in_force c)) → Parses (demarshall_of g d (capacity_of (length rows))) 0 q rows exit → r ≡ q
+  pub val_with : (g d rows exit : List ℕ) (index c : ℕ) (r q : Result Parsed Refusal) → capacity_of (length rows) ≡ in_force c → parsed_of r ≡ map counts_of (parse_val_of g d index (in_force c)) → Parses (parse_val_of g d index (capacity_of (length rows))) index q rows exit → r ≡ q
+  pub whole_with : (g d rows exit : List ℕ) (c : ℕ) (r q : Result Parsed Refusal) → capacity_of (length rows) ≡ in_force c → parsed_of r ≡ map counts_of (demarshall_of g d (in_force c)) → Parses (demarshall_of g d (capacity_of (length rows))) 0 q rows exit → r ≡ q
   -- "which may be 0 to 4,096; a larger one counts as 4,096", and for each there are rows to be lent
   pub named : (c : ℕ) → c ≤ 4096 → in_force c ≡ c
   pub larger : (c : ℕ) → 4096 < c → in_force c ≡ 4096
@@ -218,8 +213,8 @@ RowsAgree = (t s : List ℕ) (n : ℕ) (v : Val) → Below (2 ^ 64) t → Bytes 
 -- One that refuses all fails from right to left, a made-up size from left to right: case A's rows stand for a value (`writes_A`)
 abbrev pub SizesAgree : Type 0
 SizesAgree =
-    (t s : List ℕ) (n : ℕ) (r : SizeOf) → Below (2 ^ 64) t → Bytes s → size_of r ≡ compute_size_of t n s
-    → (size : ℕ) → (size_of r ≡ accepted size) ↔ ((v : Val) × TableOf t n s v × (size ≡ SizeOfV v))
+    (t s : List ℕ) (n : ℕ) (r : Result ℕ Refusal) → Below (2 ^ 64) t → Bytes s → outcome_of r ≡ compute_size_of t n s
+    → (size : ℕ) → (outcome_of r ≡ accepted size) ↔ ((v : Val) × TableOf t n s v × (size ≡ SizeOfV v))
 
 -- "Rows get a fifth word, the value's size in bytes" (document 02): of rows that the walk accepts each stands for the value or one in it, and
 -- its fifth word is that one's `SizeOfV`; row 0 stands for the whole. A walk that leaves the word alone, or looks at row 0's only, fails
@@ -232,8 +227,8 @@ RowsSaySizes =
 -- refuses all fails from right to left, a made-up number from left to right: the rows of the bench's examples (`bench`) have such numbers
 abbrev pub SignedAgrees : Type 0
 SignedAgrees =
-    (t s : List ℕ) (n i : ℕ) (r : SignedNumber) → Below (2 ^ 64) t → Bytes s → signed_number r ≡ signed_number_of t n s i
-    → (z : ℤ) → (signed_number r ≡ accepted z) ↔ NumberOf t n s i z
+    (t s : List ℕ) (n i : ℕ) (r : Result ℤ Refusal) → Below (2 ^ 64) t → Bytes s → outcome_of r ≡ signed_number_of t n s i
+    → (z : ℤ) → (outcome_of r ≡ accepted z) ↔ NumberOf t n s i z
 
 -- "in two's complement ... with one fact over the width" (document 02), at w bytes: each pattern is that of its number, which is in range, no
 -- two have the same number, and each number in range has one. No call is in it
@@ -276,10 +271,10 @@ pub record RuleStands : Type 0 where
 -- first element, fails `there`
 abbrev pub WritesTheRule : Type 0
 WritesTheRule =
-    (g t s out exit : List ℕ) (n index : ℕ) (w : SizeOf)
+    (g t s out exit : List ℕ) (n index : ℕ) (w : Result ℕ Refusal)
     → Marshalls (marshall_val_of g t n s (length out) index) index w out exit
-    → (((size : ℕ) × (size_of w ≡ accepted size)) ↔ ((v : Val) × Writes g t n s (length out) index v))
-    × ((v : Val) → Writes g t n s (length out) index v → (size_of w ≡ accepted (SizeOfV v)) × PutThere (bytes_of v) out index exit)
+    → (((size : ℕ) × (outcome_of w ≡ accepted size)) ↔ ((v : Val) × Writes g t n s (length out) index v))
+    × ((v : Val) → Writes g t n s (length out) index v → (outcome_of w ≡ accepted (SizeOfV v)) × PutThere (bytes_of v) out index exit)
 
 -- "number packing included": the calls on numbers of w bytes, of which there are those of 4 and of 8, beside PI's sum. Each is accepted exactly
 -- where the bytes are there or have room, as w bytes have at index 0 of w. One that refuses all fails from right to left; one that writes
@@ -339,7 +334,7 @@ pub record RecordOf (g d : List ℕ) (v : Val) : Type 0 where
 -- "whatever bytes come as the record, up to 1,048,576 of them, and whatever rows are lent": `demarshall` was called with them, and its
 -- contract allows the answer r and these rows at exit. Of the rows at entry nothing is asked. The call is proved to meet its contract, so
 -- there are an r and an exit on every input; case A's are `reading-A` of proofs/Examples.antt
-pub record WholeReading (g d rows : List ℕ) (r : Parsed) (exit : List ℕ) : Type 0 where
+pub record WholeReading (g d rows : List ℕ) (r : Result Parsed Refusal) (exit : List ℕ) : Type 0 where
   pub grammar : Grammar g
   pub bytes : Bytes d
   pub short : length d ≤ 1048576
@@ -350,7 +345,7 @@ pub record WholeReading (g d rows : List ℕ) (r : Parsed) (exit : List ℕ) : T
 -- rows lent in `reading-A`, where it is accepted
 abbrev pub AcceptsExactly : Type 0
 AcceptsExactly =
-    (g d rows exit : List ℕ) (r : Parsed) → WholeReading g d rows r exit
+    (g d rows exit : List ℕ) (r : Result Parsed Refusal) → WholeReading g d rows r exit
     → ((k : Counts) × (parsed_of r ≡ accepted k)) ↔ ((v : Val) × RecordOf g d v × (row_count v ≤ capacity_of (length rows)))
 
 -- n rows at exit are what the whole reading of d hands out, and v is their value
@@ -368,7 +363,7 @@ pub record HandedOut (g d rows : List ℕ) (n : ℕ) (exit : List ℕ) (v : Val)
 -- A reader that hands out one constant value fails `of_record`: values of a grammar differ in their bytes (e)
 abbrev pub HandsOut : Type 0
 HandsOut =
-    (g d rows exit : List ℕ) (r : Parsed) → WholeReading g d rows r exit
+    (g d rows exit : List ℕ) (r : Result Parsed Refusal) → WholeReading g d rows r exit
     → (k : Counts) → parsed_of r ≡ accepted k → (v : Val) × HandedOut g d rows k.rows exit v × (k.rest_index ≡ length d)
 
 -- (c) "the record of a value that needs more rows is refused by number 8".
@@ -376,13 +371,13 @@ HandsOut =
 -- `reading-C`)
 abbrev pub NeedsMoreRows : Type 0
 NeedsMoreRows =
-    (g d rows exit : List ℕ) (r : Parsed) → WholeReading g d rows r exit
+    (g d rows exit : List ℕ) (r : Result Parsed Refusal) → WholeReading g d rows r exit
     → (v : Val) → RecordOf g d v → capacity_of (length rows) < row_count v → (place : ℕ) × (parsed_of r ≡ refused (reason 8 (byte place))) × (exit ≡ rows)
 
 -- and the converse: of a record that is refused, by 8 or another number, no value that fits has the bytes. `reading-C` is refused
 abbrev pub NoneFits : Type 0
 NoneFits =
-    (g d rows exit : List ℕ) (r : Parsed) → WholeReading g d rows r exit
+    (g d rows exit : List ℕ) (r : Result Parsed Refusal) → WholeReading g d rows r exit
     → (e : Reason) → parsed_of r ≡ refused e → (v : Val) → RecordOf g d v → capacity_of (length rows) < row_count v
 
 -- (d) "Writing what was handed out, at whatever place of an output long enough, is accepted and puts exactly the record there again":
@@ -391,18 +386,18 @@ NoneFits =
 -- both, and its contract says this of code
 abbrev pub WritesBack : Type 0
 WritesBack =
-    (g d rows exit : List ℕ) (r : Parsed) → WholeReading g d rows r exit
+    (g d rows exit : List ℕ) (r : Result Parsed Refusal) → WholeReading g d rows r exit
     → (k : Counts) → parsed_of r ≡ accepted k
     → (out : List ℕ) (index : ℕ) → index + length d ≤ length out
-    → (w : SizeOf) (after : List ℕ) → Marshalls (marshall_val_of g exit k.rows d (length out) index) index w out after → (size_of w ≡ accepted (length d)) × PutThere d out index after
+    → (w : Result ℕ Refusal) (after : List ℕ) → Marshalls (marshall_val_of g exit k.rows d (length out) index) index w out after → (outcome_of w ≡ accepted (length d)) × PutThere d out index after
 
 -- and `marshall`, which takes no index
 abbrev pub WritesBackWhole : Type 0
 WritesBackWhole =
-    (g d rows exit : List ℕ) (r : Parsed) → WholeReading g d rows r exit
+    (g d rows exit : List ℕ) (r : Result Parsed Refusal) → WholeReading g d rows r exit
     → (k : Counts) → parsed_of r ≡ accepted k
     → (out : List ℕ) → length d ≤ length out
-    → (w : SizeOf) (after : List ℕ) → Marshalls (marshall_val_of g exit k.rows d (length out) 0) 0 w out after → (size_of w ≡ accepted (length d)) × PutThere d out 0 after
+    → (w : Result ℕ Refusal) (after : List ℕ) → Marshalls (marshall_val_of g exit k.rows d (length out) 0) 0 w out after → (outcome_of w ≡ accepted (length d)) × PutThere d out 0 after
 
 -- the first bytes, from none to all
 pub record FrontPart (part whole : List ℕ) : Type 0 where

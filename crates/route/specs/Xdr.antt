@@ -1,6 +1,8 @@
 -- Document 02's request 08, XDR for the rack software, as statements over the definitions that the contracts of `export_xdr` and `import_xdr`
 -- cite. Above each part stand the words that it says, and what would leave it empty; proofs/Xdr.antt proves them.
-use Rattle.std.specs.Prelude.{◌≡◌, ◌↔◌, ◌⊎◌, List, [], ◌∷◌, ◌++◌, ℕ, ◌+◌, ◌*◌, ◌%◌, ◌^◌, ◌≤◌, ◌<◌, length, take, drop, replicate, get_or, ℤ}
+use Rattle.std.specs.Prelude.{◌≡◌, ◌↔◌, ◌⊎◌, List, [], ◌∷◌, ◌++◌, ℕ, ◌+◌, ◌*◌, ◌%◌, ◌^◌, ◌≤◌, ◌<◌, length, take, drop, replicate, get_or, ℤ, Result}
+use Rattle.refusal.specs.declared.Refusal.{Refusal}
+use Rattle.refusal.specs.Meaning.{outcome_of}
 use Rattle.refusal.specs.Outcome.{accepted, refused, byte, reason}
 use Rattle.packed.specs.Packed.{Bytes, Below}
 use Rattle.big_endian.specs.BigEndian.{pack_big_endian, pack_big_endian_seq, unpack_big_endian}
@@ -9,8 +11,6 @@ use Rattle.value.specs.Tree.{Val, Vals, VConstant, VArray, VTuple, VCase, vnil, 
 use Rattle.value.specs.Signed.{pattern_of, VInt32, VInt64}
 use Rattle.tables.specs.Row.{row_width}
 use Rattle.rows.specs.Walk.{walk}
-use Rattle.rows.specs.Meaning.{size_of}
-use Rattle.rows.specs.declared.SizeOf.{SizeOf}
 use Rattle.admission.specs.Admission.{capacity_of}
 use Rattle.xdr.specs.Xdr.{padding, xdr_of, xdr_of_all, xdr_size, store_of, rows_in}
 use Rattle.xdr.specs.Import.{Filling}
@@ -62,7 +62,7 @@ pub record XdrOf (g d : List ℕ) (v : Val) : Type 0 where
 
 -- `import_xdr` was called with a grammar that passes, bytes that 6 lets through, whatever rows, and a store that 6 lets through, and its
 -- contract allows the answer r and these rows and this store at exit
-pub record Import (g d rows store : List ℕ) (r : Imported) (rows₁ store₁ : List ℕ) : Type 0 where
+pub record Import (g d rows store : List ℕ) (r : Result Imported Refusal) (rows₁ store₁ : List ℕ) : Type 0 where
   pub grammar : Grammar g
   pub bytes : Bytes d
   pub short : length d ≤ 1048576
@@ -97,7 +97,7 @@ pub record Brought (g d rows store : List ℕ) (k : Counts) (rows₁ store₁ : 
 -- one. One that refuses all fails from right to left
 abbrev pub ImportsExactly : Type 0
 ImportsExactly =
-    (g d rows store rows₁ store₁ : List ℕ) (r : Imported) → Import g d rows store r rows₁ store₁
+    (g d rows store rows₁ store₁ : List ℕ) (r : Result Imported Refusal) → Import g d rows store r rows₁ store₁
     → (((k : Counts) × (imported_of r ≡ accepted k)) ↔ ((v : Val) × XdrOf g d v × RowsFit rows v × StoreFits store v))
     × ((k : Counts) → imported_of r ≡ accepted k → (v : Val) × Brought g d rows store k rows₁ store₁ v)
 
@@ -105,7 +105,7 @@ ImportsExactly =
 -- the two where both are
 abbrev pub TooLittleLent : Type 0
 TooLittleLent =
-    (g d rows store rows₁ store₁ : List ℕ) (r : Imported) → Import g d rows store r rows₁ store₁ → (v : Val) → XdrOf g d v
+    (g d rows store rows₁ store₁ : List ℕ) (r : Result Imported Refusal) → Import g d rows store r rows₁ store₁ → (v : Val) → XdrOf g d v
     → (capacity_of (length rows) < row_count v → StoreFits store v → (place : ℕ) × (imported_of r ≡ refused (reason 8 (byte place))))
     × (RowsFit rows v → length store < length (store_of v) → imported_of r ≡ refused (reason 17 (byte (length store))))
     × (capacity_of (length rows) < row_count v → length store < length (store_of v) → ((place : ℕ) × (imported_of r ≡ refused (reason 8 (byte place)))) ⊎ (imported_of r ≡ refused (reason 17 (byte (length store)))))
@@ -115,10 +115,10 @@ TooLittleLent =
 -- stand for v. An export that is never accepted would leave it empty: `examples_hold` of `exporting` has accepted ones
 abbrev pub ExportThenImport : Type 0
 ExportThenImport =
-    (g t s out after : List ℕ) (n index size : ℕ) (w : SizeOf) → Below (2 ^ 32) g → Below (2 ^ 64) t → Bytes s
-    → Exports (export_of g t n s (length out) index) index w out after → size_of w ≡ accepted size
+    (g t s out after : List ℕ) (n index size : ℕ) (w : Result ℕ Refusal) → Below (2 ^ 32) g → Below (2 ^ 64) t → Bytes s
+    → Exports (export_of g t n s (length out) index) index w out after → outcome_of w ≡ accepted size
     → (v : Val) × (walk t n s ≡ accepted v)
-    × ((rows store rows₁ store₁ : List ℕ) (r : Imported) → n ≤ capacity_of (length rows) → StoreFits store v → length store ≤ 1048576
+    × ((rows store rows₁ store₁ : List ℕ) (r : Result Imported Refusal) → n ≤ capacity_of (length rows) → StoreFits store v → length store ≤ 1048576
     → Imports (import_of g (take size (drop index after)) (capacity_of (length rows)) (length store)) r rows store rows₁ store₁
     → (imported_of r ≡ accepted (record { rows = n; used = length (store_of v) })) × (walk rows₁ n store₁ ≡ accepted v))
 
@@ -126,10 +126,10 @@ ExportThenImport =
 -- would leave it empty, and fails `ImportsExactly`
 abbrev pub ImportThenExport : Type 0
 ImportThenExport =
-    (g d rows store rows₁ store₁ : List ℕ) (r : Imported) → Import g d rows store r rows₁ store₁
+    (g d rows store rows₁ store₁ : List ℕ) (r : Result Imported Refusal) → Import g d rows store r rows₁ store₁
     → (k : Counts) → imported_of r ≡ accepted k
     → (out : List ℕ) (index : ℕ) → index + length d ≤ length out
-    → (w : SizeOf) (after : List ℕ) → Exports (export_of g rows₁ k.rows store₁ (length out) index) index w out after → (size_of w ≡ accepted (length d)) × PutThere d out index after
+    → (w : Result ℕ Refusal) (after : List ℕ) → Exports (export_of g rows₁ k.rows store₁ (length out) index) index w out after → (outcome_of w ≡ accepted (length d)) × PutThere d out index after
 
 -- 9, 17 and 23 "at an array", in the request's order: of every array of numbers, wherever it starts, in any bytes and for any store. `AtArray`
 -- has the words and leaves out no case
