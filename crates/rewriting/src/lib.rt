@@ -3,9 +3,7 @@
 
 ghost use Rattle.route.specs.Rewriting.{Rewrites};
 
-use reading::Parsed;
-use refusal::Answer;
-use rows::SizeOf;
+use refusal::Refusal;
 
 // Reads a record whole and writes it again, at an index of the output, from the rows handed out: the code of demand 3 (d).
 pub fn rewrite(
@@ -14,16 +12,10 @@ pub fn rewrite(
     rows: &mut [u64],
     out: &mut [u8],
     index: usize,
-) -> SizeOf
+) -> Result<u64, Refusal>
     ensures { Rewrites grammar.now «record».now rows.old out.old index result rows.new out.new }
 {
-    match packed::room(out.len(), index, record.len(), 1) {
-        Answer::Refused(r) => SizeOf::Refused(r),
-        Answer::Accepted => match reading::demarshall(grammar, record, rows) {
-            Parsed::Refused(r) => SizeOf::Refused(r),
-            Parsed::Value { rows: n, .. } => {
-                writing::marshall_val(grammar, rows, n, record, out, index)
-            }
-        },
-    }
+    packed::room(out.len(), index, record.len(), 1)?;
+    let read = reading::demarshall(grammar, record, rows)?;
+    writing::marshall_val(grammar, rows, read.rows, record, out, index)
 }

@@ -1,21 +1,20 @@
-use mathlib.Core.Path.{ap}
-use Rattle.refusal.proofs.Meaning.{done, stopped}
-use Rattle.reading.specs.Meaning.{parsed_of}
+use Rattle.std.proofs.lemmas.Result.{err_from_is_err_and}
 use Rattle.rewriting.proofs.Rewriting.{no_room_lem, not-read, rewritten}
 use Rattle.rewriting.proofs.rewrite.Goals as goal
 
-pub returns-in-Refused : goal.returns-in-Refused
-returns-in-Refused c =
+pub returns-in_err-room : goal.returns-in_err-room
+returns-in_err-room c =
     let a = c.args in
-    no_room_lem a.grammar.now a.«record».now a.rows.now a.out.now a.index (stopped c.in-Refused.is c.room.ensures)
+    let p = err_from_is_err_and c.from_residual.result c.from_residual.ensures.1 in
+    rw (p.1, p.2) (no_room_lem a.grammar.now a.«record».now a.rows.now a.out.now a.index c.in_err-room.ensures)
 
-pub returns-in-Refused-demarshall : goal.returns-in-Refused-demarshall
-returns-in-Refused-demarshall c =
+pub returns-in_err-read : goal.returns-in_err-read
+returns-in_err-read c =
     let a = c.args in
-    not-read a.grammar.now a.«record».now a.rows.now a.out.now a.index (done c.in-Accepted.is c.room.ensures) c.demarshall.ensures (ap parsed_of c.in-Refused-demarshall.is)
+    let p = err_from_is_err_and c.from_residual-in_err-read.result c.from_residual-in_err-read.ensures.1 in
+    rw (p.1, p.2) (not-read a.grammar.now a.«record».now a.rows.now a.out.now a.index c.in_ok-room.ensures c.in_err-read.ensures)
 
-pub returns-in-Value : goal.returns-in-Value
-returns-in-Value c =
+pub returns : goal.returns
+returns c =
     let a = c.args in
-    rewritten a.grammar.now a.«record».now a.rows.now a.out.now a.index (done c.in-Accepted.is c.room.ensures) c.demarshall.ensures
-    (λ j l. (c.type_inv.grammar j).fits) (λ j. (c.type_inv.record j).fits) _ (ap parsed_of c.in-Value.is) c.marshall_val.ensures
+    rewritten a.grammar.now a.«record».now a.rows.now a.out.now a.index c.in_ok-room.ensures (λ j l. (c.type_inv.grammar j).fits) (λ j. (c.type_inv.record j).fits) c.in_ok-read.ensures c.marshall_val.ensures
