@@ -3,8 +3,7 @@
 #![tactic(auto)]
 
 use reading::Parsed;
-use refusal::{Place, Refusal};
-use rows::SizeOf;
+use refusal::Refusal;
 use std::io;
 
 fn print_row(rt: &HostRuntime, rows: &[u64], row: usize) -> io::Result<()> {
@@ -16,39 +15,30 @@ fn print_row(rt: &HostRuntime, rows: &[u64], row: usize) -> io::Result<()> {
     println!(rt; "{kind} {span} {word2} {word3} {size}")
 }
 
-fn print_rows(rt: &HostRuntime, rows: &[u64], n: usize) -> io::Result<()> {
-    for row in 0..n {
-        print_row(rt, rows, row)?;
-    }
-    Ok(())
-}
-
-fn print_refusal(rt: &HostRuntime, refusal: Refusal) -> io::Result<()> {
-    let number = refusal.number;
-    match refusal.place {
-        Place::Word(at) => println!(rt; "refused {number} word {at}"),
-        Place::Byte(at) => println!(rt; "refused {number} byte {at}"),
-        Place::Row(at) => println!(rt; "refused {number} row {at}"),
-    }
-}
-
 // The rows of the value, and the bytes of the array that row 2 stands for.
-fn print_value(rt: &HostRuntime, parsed: Parsed, rows: &[u64], record: &[u8]) -> io::Result<()> {
+fn print_value(
+    rt: &HostRuntime,
+    parsed: Result<Parsed, Refusal>,
+    rows: &[u64],
+    record: &[u8],
+) -> io::Result<()> {
     match parsed {
-        Parsed::Refused(r) => print_refusal(rt, r),
-        Parsed::Value { rows: n, .. } => {
-            print_rows(rt, rows, n)?;
-            rt.write_all(rows::array_bytes(rows, n, record, 2))?;
+        Err(refusal) => println!(rt; "{refusal}"),
+        Ok(value) => {
+            for row in 0..value.rows {
+                print_row(rt, rows, row)?;
+            }
+            rt.write_all(rows::array_bytes(rows, value.rows, record, 2))?;
             rt.write_all(b"\n")
         }
     }
 }
 
 // How many bytes were written, and the end of the output.
-fn print_written(rt: &HostRuntime, size: SizeOf, end: &[u8]) -> io::Result<()> {
+fn print_written(rt: &HostRuntime, size: Result<u64, Refusal>, end: &[u8]) -> io::Result<()> {
     match size {
-        SizeOf::Refused(r) => print_refusal(rt, r),
-        SizeOf::Size(n) => {
+        Err(refusal) => println!(rt; "{refusal}"),
+        Ok(n) => {
             print!(rt; "{n} bytes, at the end ")?;
             rt.write_all(end)?;
             rt.write_all(b"\n")
