@@ -1,7 +1,7 @@
 // Previewing: what a writing would answer and change, without writing.
 #![tactic(auto)]
 
-ghost use Rattle.std.specs.Prelude.{◌≡◌, ◌++◌, ℕ, ◌+◌, ◌*◌, ◌≤◌, ◌<◌, length, take, drop};
+ghost use Rattle.std.specs.Prelude.{◌≡◌, ◌++◌, ℕ, ◌+◌, ◌≤◌, ◌<◌, length, drop};
 ghost use Rattle.packed.specs.Packed.{pack_little_endian};
 ghost use Rattle.rows.specs.Rule.{RowHolds};
 ghost use Rattle.rows.specs.Size.{own_bytes_at, own_size_at, bytes_from, size_from};

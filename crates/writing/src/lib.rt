@@ -1,7 +1,7 @@
 // Writing: GM's `MarshallVal` with its parts and `Marshall`, from rows with their store into a lent output.
 #![tactic(auto)]
 
-ghost use Rattle.std.specs.Prelude.{◌≡◌, ◌++◌, ℕ, ◌+◌, ◌*◌, ◌≤◌, ◌<◌, length, take, drop};
+ghost use Rattle.std.specs.Prelude.{◌≡◌, ◌++◌, ℕ, ◌+◌, ◌≤◌, ◌<◌, length};
 ghost use Rattle.packed.specs.Packed.{pack_little_endian, put};
 ghost use Rattle.rows.specs.Rule.{RowHolds};
 ghost use Rattle.rows.specs.Size.{own_bytes_at, own_size_at, bytes_from, size_from};
