@@ -1,5 +1,5 @@
 -- The examples, by computation.
-use mathlib.Core.Path.{refl}
+use Rattle.std.proofs.Common.{refl}
 use Rattle.packed.specs.Packed.{unpack_little_endian, unpack_little_endian_seq, pack_little_endian, room, put}
 use Rattle.big_endian.specs.BigEndian.{pack_big_endian, pack_big_endian_seq}
 use Rattle.value.specs.Kinds.{kinds, kind_of}

@@ -1,11 +1,7 @@
 -- Putting what was decided.
-use mathlib.Core.Path.{◌≡◌, ap, sym, ◌∙◌}
-use mathlib.Core.List.{List, ◌++◌, append_assoc}
-use Prim.Native.Nat.{ℕ, ◌+◌, ◌-◌, ◌*◌, ◌/◌, ◌^◌, ◌≤◌, ◌<◌, min}
-use native.Mathlib.Nat.{mul-div_cancel_left}
-use native.Mathlib.Omega.{arith}
-use lib.ListN.{length, set, take, drop, replicate, length-append, length-drop, length-replicate, replicate-append-replicate}
-use lib.Seq.{length-take-le}
+use Rattle.std.proofs.Common.{◌≡◌, ap, sym, ◌∙◌, List, ◌++◌, append_assoc, ℕ, ◌+◌, ◌*◌, ◌/◌, ◌^◌, ◌≤◌, ◌<◌, min, arith, length, set, replicate, length-append, Ok, Err}
+use Rattle.std.proofs.Math.ListN.{length-replicate, replicate-append-replicate}
+use Rattle.std.proofs.Math.Nat.{mul-div_cancel_left}
 use Rattle.refusal.specs.Outcome.{Outcome, accepted, refused, map, contents, Fills, Reason}
 use Rattle.refusal.specs.Meaning.{reason_of}
 use Rattle.refusal.specs.declared.Refusal.{Refusal}
@@ -20,7 +16,6 @@ use Rattle.value.specs.Tree.{Val, SizeOfV}
 use Rattle.rows.specs.Walk.{walk}
 use Rattle.rows.specs.Rule.{TableOf}
 use Rattle.rows.specs.Size.{sum_from}
-use Rattle.std.specs.Prelude.{Ok, Err}
 use Rattle.rows.proofs.Rule.{accepted_exactly as rows_exactly}
 use Rattle.sizing.specs.Writes.{value_in_grammar}
 use Rattle.sizing.proofs.Writes.{accepted_in_grammar}
@@ -62,27 +57,20 @@ pub zeros-none : (out : List ℕ) (index count : ℕ) → out ≡ put out index 
 zeros-none out index count = let e : 0 ≡ min 0 count = omega arith in sym (put-nothing out index) ∙ ap (λ (n : ℕ). put out index (replicate n 0)) e
 
 -- a count, the elements and their padding, put one behind the other
-module _ (w count place : ℕ) (s out : List ℕ) (index : ℕ) (positive : 0 < w) (held : place + w * count ≤ length s) (room : index + (4 + (w * count + padding (w * count))) ≤ length out) where
-  abbrev part : List ℕ
-  part = take (place + w * count - place) (drop place s)
-
-  pub elements-put : {at : ℕ} {mid behind exit : List ℕ} → at ≡ index + 4 → mid ≡ put out index (pack_big_endian 4 count) → behind ≡ put mid at (reverse_each w part (length part / w)) → exit ≡ put behind (at + w * count) (replicate (padding (w * count)) 0) → exit ≡ put out index (pack_big_endian 4 count ++ padded (reverse_each w (take (w * count) (drop place s)) count))
-  unfolding padded
-  elements-put {at} {mid} {behind} {exit} a m b e =
-      let n = w * count in
-      let z : place + n - place ≡ n = omega arith in
-      let src = take n (drop place s) in
-      let l : length src ≡ n = length-take-le n (drop place s) (rw length-drop (omega arith)) in
-      let bs = reverse_each w src count in
-      let k : length bs ≡ n = length-reverse_each w count src (omega arith) in
-      let q : reverse_each w part (length part / w) ≡ bs = rw (z, l, mul-div_cancel_left count positive) in
-      let c = pack_big_endian 4 count in
-      let f : length c ≡ 4 = length_pack_big 4 count in
-      let zs : List ℕ = replicate (padding n) 0 in
-      let r : length zs ≡ padding n = length-replicate (padding n) 0 in
-      let x : behind ≡ put out index (c ++ bs) = b ∙ rw (m, q) (put_more out index c bs at (omega arith) (omega arith)) in
-      let y : length (c ++ bs) ≡ 4 + n = rw (length-append, f, k) in
-      e ∙ rw (x, k) (put_more out index (c ++ bs) zs (at + n) (omega arith) (omega arith) ∙ rw append_assoc)
+pub elements-put : (w count : ℕ) (src out : List ℕ) (index : ℕ) → 0 < w → length src ≡ w * count → index + (4 + (length src + padding (length src))) ≤ length out → {at : ℕ} {mid behind exit : List ℕ} → at ≡ index + 4 → mid ≡ put out index (pack_big_endian 4 count) → behind ≡ put mid at (reverse_each w src (length src / w)) → exit ≡ put behind (at + length src) (replicate (padding (length src)) 0) → exit ≡ put out index (pack_big_endian 4 count ++ padded (reverse_each w src count))
+unfolding padded
+elements-put w count src out index positive l room {at} {mid} {behind} {exit} a m b e =
+    let n = length src in
+    let bs = reverse_each w src count in
+    let k : length bs ≡ n = length-reverse_each w count src (omega arith) ∙ sym l in
+    let q : reverse_each w src (n / w) ≡ bs = rw (l, mul-div_cancel_left count positive) in
+    let c = pack_big_endian 4 count in
+    let f : length c ≡ 4 = length_pack_big 4 count in
+    let zs : List ℕ = replicate (padding n) 0 in
+    let r : length zs ≡ padding n = length-replicate (padding n) 0 in
+    let x : behind ≡ put out index (c ++ bs) = b ∙ rw (m, q) (put_more out index c bs at (omega arith) (omega arith)) in
+    let y : length (c ++ bs) ≡ 4 + n = rw (length-append, f, k) in
+    e ∙ rw (x, k) (put_more out index (c ++ bs) zs (at + n) (omega arith) (omega arith) ∙ rw append_assoc)
 
 -- ---- the whole
 

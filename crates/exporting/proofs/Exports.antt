@@ -1,9 +1,5 @@
 -- When a value is exported, and that what may be written may be exported.
-use mathlib.Core.Path.{◌≡◌}
-use mathlib.Core.Logic.{◌↔◌}
-use mathlib.Core.List.{List}
-use Prim.Native.Nat.{ℕ}
-use native.Mathlib.Omega.{arith}
+use Rattle.std.proofs.Common.{◌≡◌, ◌↔◌, List, ℕ, arith}
 use Rattle.refusal.specs.Outcome.{accepted}
 use Rattle.value.specs.Tree.{Val}
 use Rattle.sizing.specs.Writes.{value_in_grammar, marshall_val_of}

@@ -1,8 +1,5 @@
 -- What a call that answers r and leaves the output `exit` did.
-use mathlib.Core.Path.{◌≡◌, ap, ◌∙◌}
-use mathlib.Core.List.{List}
-use Prim.Native.Nat.{ℕ, ◌+◌, ◌^◌, ◌≤◌, ◌<◌}
-use lib.ListN.{length, get_or, take, drop}
+use Rattle.std.proofs.Common.{◌≡◌, ap, ◌∙◌, List, ℕ, ◌+◌, ◌^◌, ◌≤◌, ◌<◌, length, get_or, take, drop, Result}
 use Rattle.refusal.specs.Outcome.{Outcome, accepted, refused, map, contents, Reason}
 use Rattle.packed.specs.Packed.{Bytes, Below, put}
 use Rattle.packed.proofs.Put.{length-put}
@@ -10,7 +7,6 @@ use Rattle.packed.proofs.Source.{put-before, put-behind, put-there}
 use Rattle.value.specs.Tree.{Val, ValueOf}
 use Rattle.grammar.specs.Tree.{tree_of}
 use Rattle.rows.specs.Rule.{TableOf}
-use Rattle.std.specs.Prelude.{Result}
 use Rattle.refusal.specs.declared.Refusal.{Refusal}
 use Rattle.refusal.specs.Meaning.{outcome_of}
 use Rattle.rows.proofs.Rule.{accepted_exactly}

@@ -1,12 +1,6 @@
 -- Counts and tags of a value of the grammar fit in XDR's 4 bytes: a grammar's count words are below 2^32, a table has few rows and its store
 -- few bytes.
-use mathlib.Core.Path.{◌≡◌, refl, ap, ◌∙◌}
-use mathlib.Core.Bool.{true}
-use mathlib.Core.List.{List}
-use Prim.Native.Nat.{ℕ, ◌^◌, ◌<◌}
-use native.Mathlib.Omega.{arith}
-use lib.ListN.{length}
-use borrow.Author.Tests.{lt-ltb}
+use Rattle.std.proofs.Common.{◌≡◌, refl, ap, ◌∙◌, true, List, ℕ, ◌^◌, ◌<◌, arith, length, lt-ltb}
 use Rattle.packed.specs.Packed.{Below}
 use Rattle.value.specs.Kinds.{Kind, kinds, kind_of, constant, number, array, tuple, elements, union, other}
 use Rattle.value.specs.Tree.{Gs, gnil, gcons, Val, VConstant, VNumber, VArray, VTuple, VNumberArray, VCase, seq_g, seq_v, ValInGrammar}

@@ -1,11 +1,5 @@
 -- XDR by rows: a value's XDR bytes are its rows' own, and its XDR size is the sum of their own sizes, each of which is bounded.
-use mathlib.Core.Path.{◌≡◌, refl, ap, sym, ◌∙◌}
-use mathlib.Core.List.{List, [], append-nil}
-use Prim.Native.Nat.{ℕ, ◌+◌, ◌*◌, ◌≤◌, ◌<◌}
-use native.Mathlib.Omega.{arith}
-use lib.ListN.{length, take, drop, length-append, length-drop}
-use lib.Seq.{length-take-le}
-use borrow.Author.Tests.{leb-true}
+use Rattle.std.proofs.Common.{◌≡◌, refl, ap, sym, ◌∙◌, List, [], append-nil, ℕ, ◌+◌, ◌*◌, ◌≤◌, ◌<◌, arith, length, take, drop, length-append, length-drop, length-take-le, leb-true}
 use Rattle.big_endian.specs.BigEndian.{pack_big_endian_seq, reverse_each}
 use Rattle.big_endian.proofs.Laws.{length_pack_big, length-reverse_each, reverse_each_pack_seq}
 use Rattle.packed.specs.Packed.{pack_little_endian_seq}

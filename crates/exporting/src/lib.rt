@@ -1,7 +1,7 @@
 // Exporting: a value by its grammar as XDR (RFC 4506), from rows with their store into a lent output.
 #![tactic(auto)]
 
-ghost use Rattle.std.specs.Prelude.{◌≡◌, ◌++◌, ℕ, ◌+◌, ◌*◌, ◌/◌, ◌^◌, ◌≤◌, ◌<◌, length, take, drop, replicate};
+ghost use Rattle.std.specs.Prelude.{◌≡◌, ◌++◌, ℕ, ◌+◌, ◌*◌, ◌^◌, ◌≤◌, ◌<◌, length, replicate};
 ghost use Rattle.refusal.specs.Outcome.{map};
 ghost use Rattle.refusal.specs.Meaning.{outcome_of};
 ghost use Rattle.packed.specs.Packed.{put};
@@ -85,24 +85,20 @@ fn export_padding(size: u64, out: &mut [u8], index: usize) -> usize
     index + count
 }
 
-// Puts the count of an array of numbers, its elements, which lie in the store, and their padding, and gives the index behind it.
+// Puts the count of an array of numbers, its elements, given as they lie in the store, and their padding, and gives the index behind it.
 fn export_elements(
     count: u64,
     elements: Elements,
-    store: &[u8],
-    place: u64,
+    src: &[u8],
     out: &mut [u8],
     index: usize,
 ) -> usize
-    requires { (count < 256 ^ 4) × (place + element_width (elements_named elements) * count ≤ length store.now) × (index + (4 + (element_width (elements_named elements) * count + padding (element_width (elements_named elements) * count))) ≤ length out.old) }
-    ensures { (result ≡ index + (4 + (element_width (elements_named elements) * count + padding (element_width (elements_named elements) * count)))) × (out.new ≡ put out.old index (pack_big_endian 4 count ++ padded (reverse_each (element_width (elements_named elements)) (take (element_width (elements_named elements) * count) (drop place store.now)) count))) }
+    requires { (count < 256 ^ 4) × (length src.now ≡ element_width (elements_named elements) * count) × (index + (4 + (length src.now + padding (length src.now))) ≤ length out.old) }
+    ensures { (result ≡ index + (4 + (length src.now + padding (length src.now)))) × (out.new ≡ put out.old index (pack_big_endian 4 count ++ padded (reverse_each (element_width (elements_named elements)) src.now count))) }
 {
     let at = export_number(count as u32, out, index);
-    let size = elements.width() * count;
-    let start = place as usize;
-    let end = start + size as usize;
-    xdr::copy_elements(elements, &store[start..end], out, at).unwrap();
-    export_padding(size, out, at + size as usize)
+    xdr::copy_elements(elements, src, out, at).unwrap();
+    export_padding(src.len() as u64, out, at + src.len())
 }
 
 // Puts a row's own XDR bytes, without its children's, and gives the index behind them.
@@ -112,14 +108,17 @@ fn export_row(rows: &[u64], row: usize, store: &[u8], out: &mut [u8], index: usi
     ensures { (result ≡ index + of_row own_xdr_size rows.now row) × (out.new ≡ put out.old index (own_at own_xdr rows.now store.now row)) }
 {
     let word2 = tables::word2_at(rows, row);
-    let place = tables::word3_at(rows, row);
+    let place = tables::word3_at(rows, row) as usize;
     match Kind::of_word(tables::kind_at(rows, row)) {
         Some(Kind::Number(Number::Uint32 | Number::Int32)) => {
             export_number(word2 as u32, out, index)
         }
         Some(Kind::Number(Number::Uint64 | Number::Int64)) => export_number(word2, out, index),
         Some(Kind::Array | Kind::Union) => export_number(word2 as u32, out, index),
-        Some(Kind::Elements(e)) => export_elements(word2, e, store, place, out, index),
+        Some(Kind::Elements(e)) => {
+            let size = (e.width() * word2) as usize;
+            export_elements(word2, e, &store[place..place + size], out, index)
+        }
         Some(Kind::Constant | Kind::Tuple) | None => index,
     }
 }

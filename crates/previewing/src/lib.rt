@@ -1,7 +1,7 @@
 // Previewing: what a writing would answer and change, without writing.
 #![tactic(auto)]
 
-ghost use Rattle.std.specs.Prelude.{◌≡◌, ◌++◌, ℕ, ◌+◌, ◌*◌, ◌≤◌, ◌<◌, length, take, drop};
+ghost use Rattle.std.specs.Prelude.{◌≡◌, ◌++◌, ℕ, ◌+◌, ◌≤◌, ◌<◌, length, drop};
 ghost use Rattle.packed.specs.Packed.{pack_little_endian};
 ghost use Rattle.rows.specs.Rule.{RowHolds};
 ghost use Rattle.rows.specs.Size.{own_bytes_at, own_size_at, bytes_from, size_from};
@@ -80,25 +80,16 @@ fn compare_number(n: u64, width: usize, out: &[u8], at: usize) -> Compared
     compare_bytes(&packed[..width], out, at)
 }
 
-// Compares the count of an array of numbers of a width and its bytes, which lie in the store.
-fn compare_elements(
-    count: u64,
-    width: u64,
-    store: &[u8],
-    place: u64,
-    out: &[u8],
-    at: usize,
-) -> Compared
-    requires { (place + width * count ≤ length store.now) × (at + (8 + width * count) ≤ length out.now) }
-    ensures { result ≡ compared_with out.now at (pack_little_endian 8 count ++ take (width * count) (drop place store.now)) }
+// Compares the count of an array of numbers and its bytes, as they lie in the store.
+fn compare_elements(count: u64, elements: &[u8], out: &[u8], at: usize) -> Compared
+    requires { at + (8 + length elements.now) ≤ length out.now }
+    ensures { result ≡ compared_with out.now at (pack_little_endian 8 count ++ elements.now) }
 {
     let counted = compare_number(count, 8, out, at);
-    let start = place as usize;
-    let size = (width * count) as usize;
-    let elements = compare_bytes(&store[start..start + size], out, counted.at);
+    let compared = compare_bytes(elements, out, counted.at);
     Compared {
-        at: elements.at,
-        changed: counted.changed + elements.changed,
+        at: compared.at,
+        changed: counted.changed + compared.changed,
     }
 }
 
@@ -109,11 +100,14 @@ fn compare_row(rows: &[u64], row: usize, store: &[u8], out: &[u8], at: usize) ->
     ensures { result ≡ compared_with out.now at (own_bytes_at rows.now store.now row) }
 {
     let word2 = tables::word2_at(rows, row);
-    let place = tables::word3_at(rows, row);
+    let place = tables::word3_at(rows, row) as usize;
     match Kind::of_word(tables::kind_at(rows, row)) {
         Some(Kind::Number(n)) => compare_number(word2, n.width() as usize, out, at),
         Some(Kind::Array | Kind::Union) => compare_number(word2, 8, out, at),
-        Some(Kind::Elements(e)) => compare_elements(word2, e.width(), store, place, out, at),
+        Some(Kind::Elements(e)) => {
+            let size = (e.width() * word2) as usize;
+            compare_elements(word2, &store[place..place + size], out, at)
+        }
         Some(Kind::Constant | Kind::Tuple) | None => Compared { at, changed: 0 },
     }
 }

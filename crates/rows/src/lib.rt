@@ -1,7 +1,7 @@
 // Value rows: the walk over a row table, the size of the value that its rows stand for, and where an array lies in the store.
 #![tactic(auto)]
 
-ghost use Rattle.std.specs.Prelude.{◌≡◌, ◌+◌, ◌*◌, ◌≤◌, length, eqb};
+ghost use Rattle.std.specs.Prelude.{◌≡◌, ◌+◌, ◌≤◌, length, eqb};
 ghost use Rattle.refusal.specs.Outcome.{accepted, test, map, reason, row as at_row};
 ghost use Rattle.refusal.specs.Meaning.{outcome_of};
 ghost use Rattle.value.specs.Kinds.{kind_of};

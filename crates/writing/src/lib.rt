@@ -1,7 +1,7 @@
 // Writing: GM's `MarshallVal` with its parts and `Marshall`, from rows with their store into a lent output.
 #![tactic(auto)]
 
-ghost use Rattle.std.specs.Prelude.{◌≡◌, ◌++◌, ℕ, ◌+◌, ◌*◌, ◌≤◌, ◌<◌, length, take, drop};
+ghost use Rattle.std.specs.Prelude.{◌≡◌, ◌++◌, ℕ, ◌+◌, ◌≤◌, ◌<◌, length};
 ghost use Rattle.packed.specs.Packed.{pack_little_endian, put};
 ghost use Rattle.rows.specs.Rule.{RowHolds};
 ghost use Rattle.rows.specs.Size.{own_bytes_at, own_size_at, bytes_from, size_from};
@@ -21,23 +21,14 @@ fn marshall_uint<T: PackedInt>(n: T, out: &mut [u8], index: usize) -> usize
     index + T::WIDTH
 }
 
-// Puts the count of an array of numbers of a width and its bytes, which lie in the store, and gives the index behind them.
-fn marshall_elements(
-    count: u64,
-    width: u64,
-    store: &[u8],
-    place: u64,
-    out: &mut [u8],
-    index: usize,
-) -> usize
-    requires { (place + width * count ≤ length store.now) × (index + (8 + width * count) ≤ length out.old) }
-    ensures { (result ≡ index + (8 + width * count)) × (out.new ≡ put out.old index (pack_little_endian 8 count ++ take (width * count) (drop place store.now))) }
+// Puts the count of an array of numbers and its bytes, as they lie in the store, and gives the index behind them.
+fn marshall_elements(count: u64, elements: &[u8], out: &mut [u8], index: usize) -> usize
+    requires { index + (8 + length elements.now) ≤ length out.old }
+    ensures { (result ≡ index + (8 + length elements.now)) × (out.new ≡ put out.old index (pack_little_endian 8 count ++ elements.now)) }
 {
     let at = marshall_uint(count, out, index);
-    let start = place as usize;
-    let size = (width * count) as usize;
-    packing::copy_seq_into_array(&store[start..start + size], out, at).unwrap();
-    at + size
+    packing::copy_seq_into_array(elements, out, at).unwrap();
+    at + elements.len()
 }
 
 // Puts a row's own bytes, without its children's, and gives the index behind them.
@@ -47,14 +38,17 @@ fn marshall_row(rows: &[u64], row: usize, store: &[u8], out: &mut [u8], index: u
     ensures { (result ≡ index + own_size_at rows.now row) × (out.new ≡ put out.old index (own_bytes_at rows.now store.now row)) }
 {
     let word2 = tables::word2_at(rows, row);
-    let place = tables::word3_at(rows, row);
+    let place = tables::word3_at(rows, row) as usize;
     match Kind::of_word(tables::kind_at(rows, row)) {
         Some(Kind::Number(Number::Uint32 | Number::Int32)) => {
             marshall_uint(word2 as u32, out, index)
         }
         Some(Kind::Number(Number::Uint64 | Number::Int64)) => marshall_uint(word2, out, index),
         Some(Kind::Array | Kind::Union) => marshall_uint(word2, out, index),
-        Some(Kind::Elements(e)) => marshall_elements(word2, e.width(), store, place, out, index),
+        Some(Kind::Elements(e)) => {
+            let size = (e.width() * word2) as usize;
+            marshall_elements(word2, &store[place..place + size], out, index)
+        }
         Some(Kind::Constant | Kind::Tuple) | None => index,
     }
 }
