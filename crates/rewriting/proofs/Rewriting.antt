@@ -1,5 +1,5 @@
 -- `rewrite` does what demand 3 says of reading and writing.
-use Rattle.std.proofs.Common.{◌≡◌, refl, sym, ap, ◌∙◌, List, ◌++◌, ℕ, ◌+◌, ◌*◌, ◌^◌, ◌≤◌, one-mul, arith, length, drop, take-append-drop, drop-drop, Result, Ok, Err}
+use Rattle.std.proofs.Common.{◌≡◌, refl, sym, ap, ◌∙◌, List, ◌++◌, ℕ, ◌+◌, ◌*◌, ◌^◌, ◌≤◌, one-mul, arith, length, drop, take-append-drop, drop-drop, Result, Err}
 use Rattle.refusal.specs.Outcome.{Outcome, accepted, refused, bind, map, contents, Reason}
 use Rattle.refusal.proofs.Outcome.{map-accepted, map-refused}
 use Rattle.refusal.specs.Meaning.{reason_of, outcome_of}
@@ -12,6 +12,7 @@ use Rattle.value.specs.Reading.{State}
 use Rattle.grammar.specs.Check.{check_grammar}
 use Rattle.grammar.proofs.Rule.{accepted_exactly}
 use Rattle.rows.specs.Layout.{rows_of}
+use Rattle.reading.specs.Meaning.{Counts, parsed_of}
 use Rattle.admission.specs.Admission.{capacity_of}
 use Rattle.reading.specs.Calls.{demarshall_of, counts_of, Parses}
 use Rattle.reading.specs.declared.Parsed.{Parsed}
@@ -54,15 +55,15 @@ module _ (g d rows out : List ℕ) (index : ℕ) where
   pub no_room_lem : {f : Refusal} → refused (reason_of f) ≡ room (length out) index (1 * length d) → Rewrites g d rows out index (Err f) rows out
   no_room_lem {f} h = rewrites (refused (reason_of f)) (after_room h) refl refl refl
 
-  module _ {filled : List ℕ} (h : accepted tt ≡ room (length out) index (1 * length d)) where
-    pub not-read : {f : Refusal} → Parses (demarshall_of g d (capacity_of (length rows))) 0 (Err f) rows filled → Rewrites g d rows out index (Err f) filled out
-    not-read {f} q =
-        let o = map-refused counts_of (demarshall_of g d (capacity_of (length rows))) (sym q.answers) in
+  module _ {p : Result Parsed Refusal} {filled : List ℕ} (h : accepted tt ≡ room (length out) index (1 * length d)) (q : Parses (demarshall_of g d (capacity_of (length rows))) 0 p rows filled) where
+    pub not-read : {f : Refusal} → parsed_of p ≡ refused (reason_of f) → Rewrites g d rows out index (Err f) filled out
+    not-read {f} e =
+        let o = map-refused counts_of (demarshall_of g d (capacity_of (length rows))) (sym q.answers ∙ e) in
         rewrites (refused (reason_of f)) (after_room h ∙ o) refl (rows-kept q o) refl
 
-    pub rewritten : Below (2 ^ 32) g → Bytes d → {p : Parsed} → Parses (demarshall_of g d (capacity_of (length rows))) 0 (Ok p) rows filled → {r : Result ℕ Refusal} {exit : List ℕ} → Marshalls (marshall_val_of g filled p.rows d (length out) index) index r out exit → Rewrites g d rows out index r filled exit
-    rewritten w b {p} q {r} {exit} m =
-        let y = map-accepted counts_of (demarshall_of g d (capacity_of (length rows))) (sym q.answers) in
+    pub rewritten : Below (2 ^ 32) g → Bytes d → (k : Counts) → parsed_of p ≡ accepted k → {r : Result ℕ Refusal} {exit : List ℕ} → Marshalls (marshall_val_of g filled k.rows d (length out) index) index r out exit → Rewrites g d rows out index r filled exit
+    rewritten w b k e {r} {exit} m =
+        let y = map-accepted counts_of (demarshall_of g d (capacity_of (length rows))) (sym q.answers ∙ e) in
         let a = read_passed g d (capacity_of (length rows)) y.0 y.1 in
-        let x = demand3.writes_back g d rows filled (Ok p) (record { grammar = record { words = w; passes = a.0 }; bytes = b; short = a.1; call = q }) (record { rows = p.rows; rest_index = p.rest_index }) refl out index (omega (arith, room_fits (length out) index (1 * length d) h)) r exit m in
+        let x = demand3.writes_back g d rows filled p (record { grammar = record { words = w; passes = a.0 }; bytes = b; short = a.1; call = q }) k e out index (omega (arith, room_fits (length out) index (1 * length d) h)) r exit m in
         rewrites (accepted y.0) (after_room h ∙ y.1) x.0 (rows-laid q y.0 y.1) (put_is d out index exit x.1)

@@ -18,7 +18,7 @@ returns-in-Some-Number-Int32 c =
     let h : p < 2 ^ 32 = omega (arith, c.word2_at-pattern.ensures, number-below int32 r (rw e at c.requires)) in
     let f : SFits w32 c.cast_signed.result = search rules in
     let g : SFits w64 c.from.result = search rules in
-    rw e (ap accepted (to_z-of_z w64 c.from.result g ∙ c.from.ensures ∙ to_z-of_z w32 c.cast_signed.result f ∙ c.cast_signed.ensures ∙ cast-signed w32 4 p refl refl h ∙ rw c.word2_at-pattern.ensures))
+    rw e (ap accepted (to_z-of_z w64 c.from.result g ∙ c.from.ensures ∙ to_z-of_z w32 c.cast_signed.result f ∙ c.cast_signed.ensures ∙ cast-signed w32 4 refl p refl h ∙ rw c.word2_at-pattern.ensures))
 
 pub returns-in-Some-Number-Int64 : goal.returns-in-Some-Number-Int64
 unfolding signed_of_row
@@ -29,4 +29,4 @@ returns-in-Some-Number-Int64 c =
     let p = c.word2_at-pattern.result in
     let e : kind_of r.kind ≡ number int64 = sym (rw (arm.field-0-is, arm.field-0-0-is, c.kind_at.ensures) at arm.ensures) in
     let f : SFits w64 call.result = search rules in
-    rw e (ap accepted (to_z-of_z w64 call.result f ∙ call.ensures ∙ cast-signed w64 8 p refl refl (omega arith) ∙ rw c.word2_at-pattern.ensures))
+    rw e (ap accepted (to_z-of_z w64 call.result f ∙ call.ensures ∙ cast-signed w64 8 refl p refl (omega arith) ∙ rw c.word2_at-pattern.ensures))
