@@ -6,6 +6,7 @@ ghost use Rattle.std.specs.Prelude.{◌≤◌, length};
 
 use std::io;
 use std::io::Read;
+use text::Text;
 
 // Reads until the buffer is full, the input ends or a read fails, and gives how many bytes it put at the start of the buffer.
 fn read_full(rt: &HostRuntime, buffer: &mut [u8]) -> usize
@@ -27,7 +28,8 @@ fn read_full(rt: &HostRuntime, buffer: &mut [u8]) -> usize
 
 fn main(rt: HostRuntime) -> io::Result<()> {
     let mut input = [0u8; input::MOST_INPUT + 1];
+    let mut text = Text::new();
     let len = read_full(&rt, &mut input);
-    let text = text::show(&input[..len]);
+    text::show(&input[..len], &mut text);
     rt.write_all(text.as_bytes())
 }

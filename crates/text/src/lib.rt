@@ -15,7 +15,7 @@ use refusal::{Place, Refusal};
 use std::marker::Model;
 
 // No text has more bytes.
-const MOST_TEXT: usize = 107546;
+pub const MOST_TEXT: usize = 107546;
 
 // The capacity with which a record is read.
 const CAPACITY: usize = 1024;
@@ -37,7 +37,8 @@ impl Model for Text {
 }
 
 impl Text {
-    fn new() -> Text
+    // The empty text.
+    pub fn new() -> Text
         ensures { result ≡ [] }
     {
         Text {
@@ -51,6 +52,13 @@ impl Text {
         ensures within { length result.now ≤ most_text }
     {
         &self.bytes[..self.len]
+    }
+
+    // Takes back what was put.
+    fn clear(&mut self)
+        ensures { self.new ≡ [] }
+    {
+        self.len = 0;
     }
 
     fn push(&mut self, byte: u8)
@@ -75,9 +83,11 @@ impl Text {
         requires { length self.old + length (digits n) ≤ most_text }
         ensures { self.new ≡ self.old ++ digits n }
     {
-        if 10 <= n {
-            self.push_digits(n / 10);
+        if n < 10 {
+            self.push(b'0' + n as u8);
+            return;
         }
+        self.push_digits(n / 10);
         self.push(b'0' + (n % 10) as u8);
     }
 
@@ -175,16 +185,16 @@ fn read_input(input: &[u8], words: &mut [u32], rows: &mut [u64]) -> Result<Parse
     read_record(input, &mut words[..layout.words], record, rows)
 }
 
-// All that the program does between reading and writing: the text for its input, which always has room.
-pub fn show(input: &[u8]) -> Text
-    ensures { result ≡ shown (read_input input.now) }
+// All that the program does between reading and writing: the text for its input, which always has room, in place of what was there. The text
+// is lent: one that is handed out is cleared and copied at each function on its way.
+pub fn show(input: &[u8], text: &mut Text)
+    ensures { text.new ≡ shown (read_input input.now) }
 {
     let mut words = [0u32; input::MOST_WORDS];
     let mut rows = [0u64; tables::ROW_WIDTH * CAPACITY];
-    let mut text = Text::new();
+    text.clear();
     match read_input(input, &mut words, &mut rows) {
         Ok(parsed) => text.push_rows(&rows, parsed.rows),
         Err(refusal) => text.push_refusal(refusal),
     }
-    text
 }

@@ -5,10 +5,10 @@ use Rattle.text.proofs.show.Goals as goal
 pub push_rows-requires : goal.push_rows-requires
 push_rows-requires c =
     let s = rows_shown c.args.input.now c.in-Ok.ensures in
-    rw c.new-text.ensures (omega (arith, s.0))
+    rw c.clear.ensures (omega (arith, s.0))
 
 pub returns-in-Ok : goal.returns-in-Ok
-returns-in-Ok c = rw (c.push_rows.ensures, c.new-text.ensures) (rows_shown c.args.input.now c.in-Ok.ensures).1
+returns-in-Ok c = rw (c.push_rows.ensures, c.clear.ensures) (rows_shown c.args.input.now c.in-Ok.ensures).1
 
 pub returns-in-Err : goal.returns-in-Err
-returns-in-Err c = rw (c.push_refusal.ensures, c.new-text.ensures) (refusal_shown c.args.input.now c.in-Err.ensures)
+returns-in-Err c = rw (c.push_refusal.ensures, c.clear.ensures) (refusal_shown c.args.input.now c.in-Err.ensures)
