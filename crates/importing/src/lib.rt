@@ -181,15 +181,17 @@ fn import_number(
     ensures { (store : List ℕ) → Brings rows_in store_of SizeOfV (give (VNumber (number_named number)) (take_number bytes.now (number_width (number_named number)) (filling_of s))) row s.used s.size rows.old store result rows.new store }
 {
     let (n, next) = s.take_number(bytes, number)?;
+    let size = number.width();
+    let grown = next.grow(size);
     let taken = Row {
         kind: Kind::Number(number).word(),
         span: 1,
         word2: n,
         word3: 0,
-        size: number.width(),
+        size: size,
     };
     tables::put_row(rows, row, taken);
-    Ok(next.grow(number.width()))
+    Ok(grown)
 }
 
 // Whether all bytes are zero.
@@ -226,8 +228,9 @@ fn import_array_body(
     )
 }
 
-// Kinds 5 to 7: the count, then the elements.
-fn import_elements(
+// The count, then the elements, of a kind that is known where this is called, so that the compiler knows width and padding.
+#[inline(always)]
+fn import_elements_of(
     bytes: &[u8],
     rows: &mut [u64],
     store: &mut [u8],
@@ -257,6 +260,30 @@ fn import_elements(
     let _ = xdr::copy_elements(elements, &bytes[place..end], store, s.used);
     let padding = xdr::padding(size as u64) as usize;
     Ok(next.move_on(size + padding).fill(size).grow(whole))
+}
+
+// Kinds 5 to 7: the count, then the elements.
+fn import_elements(
+    bytes: &[u8],
+    rows: &mut [u64],
+    store: &mut [u8],
+    row: usize,
+    elements: Elements,
+    room: usize,
+    s: Filling,
+) -> Result<Filling, Refusal>
+    requires { (s.at ≤ length bytes.now) × (length bytes.now ≤ 1048576) × (s.size ≤ most_size) }
+    ensures { Brings rows_in store_of SizeOfV (give (VNumberArray (elements_named elements)) (take_numbers bytes.now room (elements_named elements) (filling_of s))) row s.used s.size rows.old store.old result rows.new store.new }
+{
+    match elements {
+        Elements::Bytes => { import_elements_of(bytes, rows, store, row, Elements::Bytes, room, s) }
+        Elements::Uint32s => {
+            import_elements_of(bytes, rows, store, row, Elements::Uint32s, room, s)
+        }
+        Elements::Uint64s => {
+            import_elements_of(bytes, rows, store, row, Elements::Uint64s, room, s)
+        }
+    }
 }
 
 // Refusal 3, at a node's kind word.

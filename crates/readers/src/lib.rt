@@ -214,8 +214,9 @@ fn read_array_body(part: &[u8], count: u64, width: u64, start: usize) -> Result<
     Ok((width * count) as usize)
 }
 
-// Kinds 5 to 7: the count, then the elements.
-fn read_elements(
+// The count, then the elements, of a kind that is known where this is called, so that the compiler knows the width.
+#[inline(always)]
+fn read_elements_of(
     bytes: &[u8],
     rows: &mut [u64],
     row: usize,
@@ -240,6 +241,24 @@ fn read_elements(
             tables::put_row(rows, row, taken);
             Ok(next.move_on(n))
         }
+    }
+}
+
+// Kinds 5 to 7: the count, then the elements.
+fn read_elements(
+    bytes: &[u8],
+    rows: &mut [u64],
+    row: usize,
+    elements: Elements,
+    s: State,
+) -> Result<State, Stopped>
+    requires { (s.at ≤ length bytes.now) × (length bytes.now ≤ 1048576) }
+    ensures { Reads rows_of (give (VNumberArray (elements_named elements)) (take_numbers bytes.now (element_width (elements_named elements)) (state_of s))) s.capacity row s.at rows.old result rows.new }
+{
+    match elements {
+        Elements::Bytes => read_elements_of(bytes, rows, row, Elements::Bytes, s),
+        Elements::Uint32s => read_elements_of(bytes, rows, row, Elements::Uint32s, s),
+        Elements::Uint64s => read_elements_of(bytes, rows, row, Elements::Uint64s, s),
     }
 }
 

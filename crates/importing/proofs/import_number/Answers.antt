@@ -15,8 +15,8 @@ returns c =
     λ store.
     let k = number_named c.args.number in
     let n = c.in_ok-n in
-    brings_next c.grow.result (VNumber k n.n)
-    (ap (give (VNumber k)) (ap (λ (s : Filling). yield n.n s) c.grow.ensures.0 ∙ n.ensures.0))
-    (c.put_row.ensures ∙ rw (c.word.ensures, c.width.ensures))
+    brings_next c.grow-grown.result (VNumber k n.n)
+    (ap (give (VNumber k)) (ap (λ (s : Filling). yield n.n s) c.grow-grown.ensures.0 ∙ n.ensures.0))
+    (c.put_row.ensures ∙ rw (c.word.ensures, c.width-size.ensures))
     (sym (put_within-nothing store c.args.s.used))
-    (rw (c.width-2.ensures, n.ensures.1) at c.grow.ensures.1)
+    (rw (c.width-size.ensures, n.ensures.1) at c.grow-grown.ensures.1)

@@ -14,8 +14,8 @@ use Rattle.xdr.specs.Xdr.{padding, rows_in}
 use Rattle.xdr.specs.Import.{Filling, fill, move, take_number, check_body}
 use Rattle.importing.specs.Meaning.{filling_of}
 use Rattle.importing.proofs.Laws.{take_moves, part_from, body_holds, numbers-refused, numbers_body, numbers_taken, brings_refused, brings_next, elements_stored, fills_within}
-use Rattle.importing.proofs.import_elements.Goals as goal
-use Rattle.importing.proofs.import_elements.Goals.{In_ok-count, In_ok-import_array_body}
+use Rattle.importing.proofs.import_elements_of.Goals as goal
+use Rattle.importing.proofs.import_elements_of.Goals.{In_ok-count, In_ok-import_array_body}
 
 -- behind the count: it was taken, where it stands, that it is of 4 bytes, and the state behind it
 counted : (c : In_ok-count) →

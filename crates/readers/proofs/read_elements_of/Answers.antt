@@ -12,8 +12,8 @@ use Rattle.value.proofs.Laws.{count_fits}
 use Rattle.tables.specs.Row.{laid}
 use Rattle.readers.specs.Meaning.{state_of}
 use Rattle.readers.proofs.Laws.{numbers_stopped, body_missing, body_bytes, elements-row, reads_stopped, reads_next, taken_at}
-use Rattle.readers.proofs.read_elements.Goals as goal
-use Rattle.readers.proofs.read_elements.Goals.{In_ok-count, In-Ok}
+use Rattle.readers.proofs.read_elements_of.Goals as goal
+use Rattle.readers.proofs.read_elements_of.Goals.{In_ok-count, In-Ok}
 
 -- the count was there
 there : (c : In_ok-count) → (c.in_ok-count.next.at ≡ c.args.s.at + 8) × (c.args.s.at + 8 ≤ length c.args.bytes.now)
