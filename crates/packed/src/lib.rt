@@ -81,6 +81,7 @@ impl PackedInt for u64 {
 
 // Whether count numbers of width bytes from the index on end within len bytes. The count is compared and never multiplied.
 // Numbers of no bytes end where they start.
+#[tactic(auto, using(crate::proofs::Calls::count_compared))]
 pub fn within(len: usize, index: usize, count: usize, width: usize) -> bool
     ensures { result ≡ leb (index + width * count) len }
 {
@@ -160,13 +161,13 @@ pub fn unpack_little_endian_seq<T: PackedInt>(
 pub fn unpack_little_endian_uint32(packed: &[u8], index: usize) -> Result<u32, Refusal>
     ensures { outcome_of result ≡ unpack_at 4 packed.now index }
 {
-    unpack_little_endian(packed, index)
+    unpack_little_endian::<u32>(packed, index)
 }
 
 pub fn unpack_little_endian_uint64(packed: &[u8], index: usize) -> Result<u64, Refusal>
     ensures { outcome_of result ≡ unpack_at 8 packed.now index }
 {
-    unpack_little_endian(packed, index)
+    unpack_little_endian::<u64>(packed, index)
 }
 
 pub fn unpack_little_endian_uint32_seq(
@@ -176,7 +177,7 @@ pub fn unpack_little_endian_uint32_seq(
 ) -> Result<(), Refusal>
     ensures { Fills (unpack_seq_at 4 packed.now index (length numbers.old)) (outcome_of result) numbers.old numbers.new }
 {
-    unpack_little_endian_seq(packed, index, numbers)
+    unpack_little_endian_seq::<u32>(packed, index, numbers)
 }
 
 pub fn unpack_little_endian_uint64_seq(
@@ -186,5 +187,5 @@ pub fn unpack_little_endian_uint64_seq(
 ) -> Result<(), Refusal>
     ensures { Fills (unpack_seq_at 8 packed.now index (length numbers.old)) (outcome_of result) numbers.old numbers.new }
 {
-    unpack_little_endian_seq(packed, index, numbers)
+    unpack_little_endian_seq::<u64>(packed, index, numbers)
 }

@@ -69,7 +69,7 @@ pub fn pack_little_endian_uint32_into_array(
 ) -> Result<(), Refusal>
     ensures { Fills (put_at out.old index (pack_little_endian 4 n)) (outcome_of result) out.old out.new }
 {
-    pack_little_endian_into_array(n, out, index)
+    pack_little_endian_into_array::<u32>(n, out, index)
 }
 
 pub fn pack_little_endian_uint64_into_array(
@@ -79,7 +79,7 @@ pub fn pack_little_endian_uint64_into_array(
 ) -> Result<(), Refusal>
     ensures { Fills (put_at out.old index (pack_little_endian 8 n)) (outcome_of result) out.old out.new }
 {
-    pack_little_endian_into_array(n, out, index)
+    pack_little_endian_into_array::<u64>(n, out, index)
 }
 
 pub fn pack_little_endian_uint32_seq_into_array(
@@ -89,7 +89,7 @@ pub fn pack_little_endian_uint32_seq_into_array(
 ) -> Result<(), Refusal>
     ensures { Fills (put_at out.old index (pack_little_endian_seq 4 numbers.now)) (outcome_of result) out.old out.new }
 {
-    pack_little_endian_seq_into_array(numbers, out, index)
+    pack_little_endian_seq_into_array::<u32>(numbers, out, index)
 }
 
 pub fn pack_little_endian_uint64_seq_into_array(
@@ -99,7 +99,7 @@ pub fn pack_little_endian_uint64_seq_into_array(
 ) -> Result<(), Refusal>
     ensures { Fills (put_at out.old index (pack_little_endian_seq 8 numbers.now)) (outcome_of result) out.old out.new }
 {
-    pack_little_endian_seq_into_array(numbers, out, index)
+    pack_little_endian_seq_into_array::<u64>(numbers, out, index)
 }
 
 // Puts the bytes of src at the index: GM's `NativeArrays.CopySeqIntoArray`.
