@@ -31,7 +31,7 @@ fn check_rule(kept: bool, held: bool, count: u64, row: usize) -> Result<u64, Ref
 }
 
 // A row by itself, which may reach to the end: 13, then 14, else the children that it wants. No sum wraps.
-#[tactic(auto, unfolding(crate::specs::Walk::check_row))]
+#[tactic(auto, using(crate::proofs::Laws::row_out), unfolding(crate::specs::Walk::check_row))]
 fn check_row(rows: &[u64], store: &[u8], row: usize, end: usize) -> Result<u64, Refusal>
     requires { row ≤ end }
     ensures { outcome_of result ≡ check_row (row_at rows.now row) (length store.now) row end }

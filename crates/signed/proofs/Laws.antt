@@ -28,7 +28,7 @@ module _ (m : Width) (w : ℕ) (same : 2 ^ hbits m ≡ half w) (p : ℕ) where
         let e : 256 ^ w - suc p ≡ largest - p = omega arith in
         rw (to_z_pos m (largest - p) small) (minus_one (largest - p) ∙ ap negsuc (sym e) ∙ sym (signed_high w p h l))
 
-    high_fits : SFits m (negsuc 0 -ℤ to_z m (largest - p))
+    pub high_fits : SFits m (negsuc 0 -ℤ to_z m (largest - p))
     high_fits = rw (to_z_pos m (largest - p) small, minus_one (largest - p)) (record { sfits = small })
 
     pub high : to_z m (of_z m (negsuc 0 -ℤ to_z m (largest - p))) ≡ signed_of w p

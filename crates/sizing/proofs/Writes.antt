@@ -51,6 +51,10 @@ module _ (g t : List ℕ) (n : ℕ) (s : List ℕ) where
 
 -- what is decided of a value by its size, whichever rule of bytes that is
 module _ (sizeBy : Val → ℕ) where
+  -- no value, no size, whatever is asked of a value behind it
+  pub size_stops : (f : Val → ℕ) (o : Outcome Reason Val) (k l : Val → Outcome Reason Val) {e : Reason} → refused e ≡ map f o → refused e ≡ map sizeBy (bind (bind o k) l)
+  size_stops f o k l h = rw (map-refused f o (sym h))
+
   module _ (len index : ℕ) where
     -- 16, then 17
     pub size-fits : (o : Outcome Reason Val) {size : ℕ} → accepted size ≡ map sizeBy o → bind (check_size size size) (λ n. map (λ _. n) (room len index n)) ≡ map sizeBy (bind (bind o (λ v. check_size (sizeBy v) v)) (λ v. map (λ _. v) (room len index (sizeBy v))))
@@ -60,10 +64,6 @@ module _ (sizeBy : Val → ℕ) where
         go true = sym (map-map sizeBy (λ _. v) (room len index (sizeBy v)))
         go false = refl
     size-fits (refused e) h = clash (sym h)
-
-    -- no value, no size
-    pub size_stops : (f : Val → ℕ) (o : Outcome Reason Val) {e : Reason} → refused e ≡ map f o → refused e ≡ map sizeBy (bind (bind o (λ v. check_size (sizeBy v) v)) (λ v. map (λ _. v) (room len index (sizeBy v))))
-    size_stops f o h = rw (map-refused f o (sym h))
 
     -- both are passed exactly by a value that is small and has room
     pub size-passes : (o : Outcome Reason Val) (v : Val) → o ≡ accepted v → sizeBy v ≤ 1048576 → index + sizeBy v ≤ len → bind (bind o (λ v. check_size (sizeBy v) v)) (λ v. map (λ _. v) (room len index (sizeBy v))) ≡ accepted v

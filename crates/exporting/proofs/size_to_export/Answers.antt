@@ -27,7 +27,7 @@ unfolding value_to_export export_of
 returns-in_err-size_in_grammar c =
     let a = c.args in
     let p = err_from_is_err_and c.from_residual.result c.from_residual.ensures.1 in
-    rw (p.1, p.2) (size_stops xdr_size a.len a.index SizeOfV (value_in_grammar a.grammar.now a.rows.now a.n a.store.now) c.in_err-size_in_grammar.ensures.0)
+    rw (p.1, p.2) (size_stops xdr_size SizeOfV (value_in_grammar a.grammar.now a.rows.now a.n a.store.now) _ _ c.in_err-size_in_grammar.ensures.0)
 
 pub returns : goal.returns
 unfolding value_to_export export_of

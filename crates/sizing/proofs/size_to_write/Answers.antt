@@ -10,7 +10,7 @@ unfolding value_to_write marshall_val_of
 returns-in_err-size c =
     let a = c.args in
     let p = err_from_is_err_and c.from_residual.result c.from_residual.ensures.1 in
-    rw (p.1, p.2) (size_stops SizeOfV a.len a.index SizeOfV (value_in_grammar a.grammar.now a.rows.now a.n a.store.now) c.in_err-size.ensures.0)
+    rw (p.1, p.2) (size_stops SizeOfV SizeOfV (value_in_grammar a.grammar.now a.rows.now a.n a.store.now) _ _ c.in_err-size.ensures.0)
 
 pub returns : goal.returns
 unfolding value_to_write marshall_val_of
